@@ -1,0 +1,25 @@
+// IBM code page 037: a byte becomes one character, and every character is below 256.
+mod page037;
+
+ghost use mathlib.Core.Path.{_≡_};
+ghost use Rattle.codepage.specs.Page.{page037, charIn};
+ghost use Rattle.codepage.specs.Blank.{isBlankIn};
+
+// The character of a byte.
+pub fn ebcdic037_to_unicode(byte: u8) -> u8
+    ensures { λ r. ⌜ r ≡ charIn page037 byte ⌝ }
+{
+    page037::EBCDIC_037_TO_UNICODE[byte as usize]
+}
+
+// Whether trimming drops the byte's character. By the eight bytes themselves: naming the table would copy it at each call.
+pub fn is_blank_byte(byte: u8) -> bool
+    ensures { λ r. ⌜ r ≡ isBlankIn page037 byte ⌝ }
+{
+    (byte >= 0x0B) & (byte <= 0x0D)
+        | (byte == 0x05)
+        | (byte == 0x15)
+        | (byte == 0x25)
+        | (byte == 0x40)
+        | (byte == 0x41)
+}

@@ -1,0 +1,37 @@
+-- What a test that was computed over a whole range or list says at one place of it.
+-- Assumes nothing.
+use mathlib.Core.Path.{_≡_, refl, sym, ap, subst}
+use mathlib.Core.Bool.{Bool, true, false, _&&_}
+use mathlib.Core.List.{List, [], _∷_}
+use mathlib.Core.Logic.{⊎-elim}
+use Prim.Native.Nat.{ℕ, zero, suc, _<_}
+use native.Mathlib.Nat.{le-of-suc-le-suc, not-suc-le-zero, eq-or-lt-of-le}
+use lib.Dec.{T}
+use lib.ListN.{length, getD}
+use Rattle.search.specs.Search.{agree, below, each}
+
+pub and-left : (a b : Bool) → T (a && b) → T a
+and-left true b t = tt
+and-left false b t = t
+
+pub and-right : (a b : Bool) → T (a && b) → T b
+and-right true b t = t
+and-right false b t = absurd t
+
+pub agree-same : (a b : Bool) → T (agree a b) → a ≡ b
+agree-same true true t = refl
+agree-same true false t = absurd t
+agree-same false true t = absurd t
+agree-same false false t = refl
+
+pub below-at : (n : ℕ) (f : ℕ → Bool) → T (below n f) → (c : ℕ) → c < n → T (f c)
+below-at zero f t c h = absurd (not-suc-le-zero h)
+below-at (suc n) f t c h =
+    ⊎-elim (λ e. subst (λ (k : ℕ). T (f k)) (sym e) (and-left (f n) (below n f) t))
+    (λ l. below-at n f (and-right (f n) (below n f) t) c l)
+    (eq-or-lt-of-le (le-of-suc-le-suc h))
+
+pub each-at : {A : Type 0} (f : A → Bool) (xs : List A) (d : A) → T (each f xs) → (k : ℕ) → k < length xs → T (f (getD xs k d))
+each-at f [] d t k h = absurd (not-suc-le-zero h)
+each-at f (x ∷ xs) d t zero h = and-left (f x) (each f xs) t
+each-at f (x ∷ xs) d t (suc k) h = each-at f xs d (and-right (f x) (each f xs) t) k (le-of-suc-le-suc h)

@@ -1,0 +1,4 @@
+pub mod Trim
+pub mod Decode
+pub mod Generated
+pub mod Cases

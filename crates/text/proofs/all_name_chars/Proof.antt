@@ -1,0 +1,64 @@
+-- The loop's invariant: the answer is that of the bytes from i on.
+-- Assumes nothing.
+use Prim.Native.Nat.{_≤_, _-_}
+use mathlib.Core.Path.{_≡_, refl, sym, _∙_}
+use native.Mathlib.Omega.{arith}
+use lib.ListN.{length, drop}
+use borrow.Author.Needs.{needs}
+use borrow.Author.Tests.{not-true, not-false}
+use Rattle.search.specs.Search.{each}
+use Rattle.search.proofs.Each.{each-more, each-fails, each-done}
+use Rattle.text.specs.Chars.{isNameChar}
+use Rattle.text.proofs.all_name_chars.Statement.{statement}
+use Rattle.text.proofs.all_name_chars.Tie as tie
+
+abbrev Inv-loop : tie.InvT-loop
+Inv-loop bytes i₀ i = (i ≤ length bytes) × (each isNameChar bytes ≡ each isNameChar (drop i bytes))
+
+abbrev μ-loop : tie.MeasureT-loop
+μ-loop bytes i₀ i = length bytes - i
+
+loop-holds : tie.Need-loop-holds Inv-loop μ-loop
+loop-holds c = (omega arith, refl)
+
+shared-slice-read-is-name-char : tie.Need-shared-slice-read-is-name-char Inv-loop μ-loop
+shared-slice-read-is-name-char c = omega arith
+
+is-name-char-requires : tie.Need-is-name-char-requires Inv-loop μ-loop
+is-name-char-requires c κs = search needs
+
+returns : tie.Need-returns Inv-loop μ-loop
+returns c =
+    each-fails isNameChar _ 0 _ _ (c .before .before .before .before .loop .inv .1) (c .before .before .before .loop-test .taken)
+    (sym (c .before .is-name-char .ensures) ∙ not-true _ (c .if1 .taken))
+
+add-i : tie.Need-add-i Inv-loop μ-loop
+add-i c = omega arith
+
+loop-less : tie.Need-loop-less Inv-loop μ-loop
+loop-less c = omega arith
+
+loop-again : tie.Need-loop-again Inv-loop μ-loop
+loop-again c = (
+  omega arith,
+  each-more isNameChar _ 0 _ _ (c .before .before .before .before .loop .inv .1) (c .before .before .before .loop-test .taken)
+      (sym (c .before .is-name-char .ensures) ∙ not-false _ (c .if1 .left)),
+)
+
+returns-2 : tie.Need-returns-2 Inv-loop μ-loop
+returns-2 c = each-done isNameChar _ 0 _ _ (c .before .loop .inv .1) (c .loop-test .left)
+
+pub all-name-chars-spec : {M : Type 1} → statement M
+all-name-chars-spec =
+    tie.close
+    (tie.spec
+    Inv-loop
+    μ-loop
+    loop-holds
+    shared-slice-read-is-name-char
+    is-name-char-requires
+    returns
+    add-i
+    loop-less
+    loop-again
+    returns-2)

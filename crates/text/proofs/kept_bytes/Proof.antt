@@ -1,0 +1,72 @@
+-- The loop's invariant: the answer is that of the bytes up to the end in hand.
+-- Assumes nothing.
+use Prim.Native.Nat.{_≤_}
+use mathlib.Core.Path.{_≡_, sym, ap, _∙_}
+use native.Mathlib.Omega.{arith}
+use lib.ListN.{length, take}
+use lib.Seq.{take-length}
+use borrow.Author.Needs.{needs}
+use borrow.Author.Tests.{not-true, not-false}
+use Rattle.codepage.specs.Page.{page037}
+use Rattle.codepage.specs.Blank.{isBlankIn}
+use Rattle.text.specs.Text.{kept}
+use Rattle.text.proofs.Trim.{kept-less, kept-stop, kept-done}
+use Rattle.text.proofs.kept_bytes.Statement.{statement}
+use Rattle.text.proofs.kept_bytes.Tie as tie
+
+abbrev Inv-loop : tie.InvT-loop
+Inv-loop bytes end₀ end = (end ≤ length bytes) × (kept (isBlankIn page037) bytes ≡ kept (isBlankIn page037) (take end bytes))
+
+abbrev μ-loop : tie.MeasureT-loop
+μ-loop bytes end₀ end = end
+
+loop-holds : tie.Need-loop-holds Inv-loop μ-loop
+loop-holds c = (omega arith, ap (kept (isBlankIn page037)) (sym (take-length (c .before .args .bytes .now))))
+
+sub-is-blank-byte : tie.Need-sub-is-blank-byte Inv-loop μ-loop
+sub-is-blank-byte c = omega arith
+
+shared-slice-read-is-blank-byte : tie.Need-shared-slice-read-is-blank-byte Inv-loop μ-loop
+shared-slice-read-is-blank-byte c = omega arith
+
+is-blank-byte-requires : tie.Need-is-blank-byte-requires Inv-loop μ-loop
+is-blank-byte-requires c κs = search needs
+
+returns : tie.Need-returns Inv-loop μ-loop
+returns c =
+    kept-stop (isBlankIn page037) _ _ _ (c .before .before .before .before .loop .inv .1) (c .before .before .before .loop-test .taken)
+    (c .before .before .before .before .loop .inv .0)
+    (sym (c .before .is-blank-byte .ensures) ∙ not-true _ (c .if1 .taken))
+
+sub-end : tie.Need-sub-end Inv-loop μ-loop
+sub-end c = omega arith
+
+loop-less : tie.Need-loop-less Inv-loop μ-loop
+loop-less c = omega arith
+
+loop-again : tie.Need-loop-again Inv-loop μ-loop
+loop-again c = (
+  omega arith,
+  kept-less (isBlankIn page037) _ _ _ (c .before .before .before .before .loop .inv .1) (c .before .before .before .loop-test .taken)
+      (c .before .before .before .before .loop .inv .0)
+      (sym (c .before .is-blank-byte .ensures) ∙ not-false _ (c .if1 .left)),
+)
+
+returns-2 : tie.Need-returns-2 Inv-loop μ-loop
+returns-2 c = kept-done (isBlankIn page037) _ _ _ (c .before .loop .inv .1) (c .loop-test .left)
+
+pub kept-bytes-spec : {M : Type 1} → statement M
+kept-bytes-spec =
+    tie.close
+    (tie.spec
+    Inv-loop
+    μ-loop
+    loop-holds
+    sub-is-blank-byte
+    shared-slice-read-is-blank-byte
+    is-blank-byte-requires
+    returns
+    sub-end
+    loop-less
+    loop-again
+    returns-2)

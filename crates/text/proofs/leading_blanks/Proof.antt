@@ -1,0 +1,66 @@
+-- The loop's invariant: the answer is i and the blanks that lead the bytes from i on.
+-- Assumes nothing.
+use Prim.Native.Nat.{_≤_, _-_, _+_}
+use mathlib.Core.Path.{_≡_, refl, sym, _∙_}
+use native.Mathlib.Omega.{arith}
+use lib.ListN.{length, drop}
+use borrow.Author.Needs.{needs}
+use borrow.Author.Tests.{not-true, not-false}
+use Rattle.codepage.specs.Page.{page037}
+use Rattle.codepage.specs.Blank.{isBlankIn}
+use Rattle.text.specs.Text.{leading}
+use Rattle.text.proofs.Trim.{leading-more, leading-stop, leading-done}
+use Rattle.text.proofs.leading_blanks.Statement.{statement}
+use Rattle.text.proofs.leading_blanks.Tie as tie
+
+abbrev Inv-loop : tie.InvT-loop
+Inv-loop bytes i₀ i =
+    (i ≤ length bytes) × (leading (isBlankIn page037) bytes ≡ i + leading (isBlankIn page037) (drop i bytes))
+
+abbrev μ-loop : tie.MeasureT-loop
+μ-loop bytes i₀ i = length bytes - i
+
+loop-holds : tie.Need-loop-holds Inv-loop μ-loop
+loop-holds c = (omega arith, omega arith)
+
+shared-slice-read-is-blank-byte : tie.Need-shared-slice-read-is-blank-byte Inv-loop μ-loop
+shared-slice-read-is-blank-byte c = omega arith
+
+is-blank-byte-requires : tie.Need-is-blank-byte-requires Inv-loop μ-loop
+is-blank-byte-requires c κs = search needs
+
+returns : tie.Need-returns Inv-loop μ-loop
+returns c =
+    leading-stop (isBlankIn page037) _ _ _ (c .before .before .before .before .loop .inv .1) (c .before .before .before .loop-test .taken)
+    (sym (c .before .is-blank-byte .ensures) ∙ not-true _ (c .if1 .taken))
+
+add-i : tie.Need-add-i Inv-loop μ-loop
+add-i c = omega arith
+
+loop-less : tie.Need-loop-less Inv-loop μ-loop
+loop-less c = omega arith
+
+loop-again : tie.Need-loop-again Inv-loop μ-loop
+loop-again c = (
+  omega arith,
+  leading-more (isBlankIn page037) _ _ _ (c .before .before .before .before .loop .inv .1) (c .before .before .before .loop-test .taken)
+      (sym (c .before .is-blank-byte .ensures) ∙ not-false _ (c .if1 .left)),
+)
+
+returns-2 : tie.Need-returns-2 Inv-loop μ-loop
+returns-2 c = leading-done (isBlankIn page037) _ _ _ (c .before .loop .inv .1) (c .loop-test .left)
+
+pub leading-blanks-spec : {M : Type 1} → statement M
+leading-blanks-spec =
+    tie.close
+    (tie.spec
+    Inv-loop
+    μ-loop
+    loop-holds
+    shared-slice-read-is-blank-byte
+    is-blank-byte-requires
+    returns
+    add-i
+    loop-less
+    loop-again
+    returns-2)

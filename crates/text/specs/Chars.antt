@@ -1,0 +1,31 @@
+-- Characters of a text, and tests on them.
+use mathlib.Core.Bool.{Bool, _&&_, _||_}
+use mathlib.Core.List.{List, map}
+use Prim.Native.Nat.{ℕ}
+use lib.Dec.{leb, eqb, ltb}
+use Rattle.search.specs.Search.{pick, each}
+use Rattle.codepage.specs.Page.{Page, charIn}
+
+-- bytes that are ASCII: all below 80 (01, Text)
+unfoldable pub isAscii : List ℕ → Bool
+isAscii bs = each (λ b. ltb b 0x80) bs
+
+-- an ASCII letter, digit, _ $ # or @ (01, Text)
+abbrev pub isNameChar : ℕ → Bool
+isNameChar c =
+    (leb 0x41 c && leb c 0x5A) || (leb 0x61 c && leb c 0x7A) || (leb 0x30 c && leb c 0x39) || eqb c 0x5F || eqb c 0x24 || eqb c 0x23
+    || eqb c 0x40
+
+abbrev pub isDigit : ℕ → Bool
+isDigit c = leb 0x30 c && leb c 0x39
+
+-- the character of a byte of a text: the page's where the text is in the page's alphabet, else the byte itself (01, Answers)
+unfoldable pub charOf : Page → ℕ → ℕ → ℕ
+charOf page alphabet b = pick (eqb alphabet (page .alphabet)) (charIn page b) b
+
+abbrev pub chars : Page → ℕ → List ℕ → List ℕ
+chars page alphabet bs = map (charOf page alphabet) bs
+
+-- a byte of a text that is a digit
+abbrev pub isDigitOf : Page → ℕ → ℕ → Bool
+isDigitOf page alphabet b = isDigit (charOf page alphabet b)

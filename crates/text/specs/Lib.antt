@@ -1,0 +1,3 @@
+pub mod Chars
+pub mod Text
+pub mod Generated

@@ -1,0 +1,42 @@
+-- What a text is: place, length and alphabet (01, Text and Answers).
+use mathlib.Core.Bool.{Bool}
+use mathlib.Core.List.{List, [], _∷_}
+use Prim.Native.Nat.{ℕ, suc, _+_, _-_}
+use lib.Dec.{eqb}
+use lib.ListN.{take, drop}
+use Rattle.search.specs.Search.{pick}
+use Rattle.codepage.specs.Page.{Page}
+use Rattle.codepage.specs.Blank.{isBlankIn}
+use Rattle.text.specs.Chars.{isAscii}
+use Rattle.text.specs.declared.Text.{Text}
+
+abbrev pub textIs : ℕ → ℕ → ℕ → Text
+textIs p n a = record { place = p; length = n; alphabet = a }
+
+-- an empty text is 0, 0, 1
+abbrev pub emptyText : Text
+emptyText = textIs 0 0 1
+
+-- a text that has no bytes is the empty one
+unfoldable pub placed : ℕ → ℕ → ℕ → Text
+placed p n a = pick (eqb n 0) emptyText (textIs p n a)
+
+-- how many elements at the front pass the test
+unfoldable pub leading : (ℕ → Bool) → List ℕ → ℕ
+leading f [] = 0
+leading f (x ∷ xs) = pick (f x) (suc (leading f xs)) 0
+
+-- how many elements are left when those at the end that pass the test are dropped
+unfoldable pub kept : (ℕ → Bool) → List ℕ → ℕ
+kept f [] = 0
+kept f (x ∷ xs) = pick (eqb (kept f xs) 0) (pick (f x) 0 1) (suc (kept f xs))
+
+-- the text of bytes that start at p: ASCII untrimmed, else of the page and trimmed (01, decode_text)
+unfoldable pub textOn : Page → List ℕ → ℕ → Text
+textOn page bs p =
+    let first = leading (isBlankIn page) bs in
+    pick (isAscii bs) (placed p (lib.ListN.length bs) 1) (placed (p + first) (kept (isBlankIn page) bs - first) (page .alphabet))
+
+-- the text of the n bytes of s from p on
+abbrev pub textOf : Page → List ℕ → ℕ → ℕ → Text
+textOf page s p n = textOn page (take n (drop p s)) p

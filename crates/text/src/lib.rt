@@ -1,0 +1,159 @@
+// Texts of a reply: where they lie, and in which alphabet.
+ghost use mathlib.Core.Path.{_≡_};
+ghost use Prim.Native.Nat.{_+_, _<_, _≤_};
+ghost use lib.Dec.{eqb};
+ghost use lib.ListN.{length, getD};
+ghost use Rattle.search.specs.Search.{each};
+ghost use Rattle.codepage.specs.Page.{page037};
+ghost use Rattle.codepage.specs.Blank.{isBlankIn};
+ghost use Rattle.text.specs.Chars.{isAscii, isNameChar, isDigitOf, chars};
+ghost use Rattle.text.specs.Text.{leading, kept, textOf};
+ghost use Rattle.text.specs.Generated.{isGenerated, startsCol};
+
+// Place and length of what trimming leaves; alphabet 0 is a generated name, 1 ASCII, 2 page 037. An empty text is 0, 0, 1.
+pub struct Text {
+    pub place: usize,
+    pub length: usize,
+    pub alphabet: u8,
+}
+
+pub fn is_name_char(character: u8) -> bool
+    ensures { λ r. ⌜ r ≡ isNameChar character ⌝ }
+{
+    (character >= 0x41) & (character <= 0x5A)
+        | (character >= 0x61) & (character <= 0x7A)
+        | (character >= 0x30) & (character <= 0x39)
+        | (character == 0x5F)
+        | (character == 0x24)
+        | (character == 0x23)
+        | (character == 0x40)
+}
+
+pub fn all_name_chars(bytes: &[u8]) -> bool
+    ensures { λ r. ⌜ r ≡ each isNameChar (now (bytes .entry)) ⌝ }
+{
+    let mut i = 0;
+    while i < bytes.len() {
+        if !is_name_char(bytes[i]) {
+            return false;
+        }
+        i += 1;
+    }
+    true
+}
+
+pub fn is_ascii(bytes: &[u8]) -> bool
+    ensures { λ r. ⌜ r ≡ isAscii (now (bytes .entry)) ⌝ }
+{
+    let mut i = 0;
+    while i < bytes.len() {
+        if bytes[i] >= 0x80 {
+            return false;
+        }
+        i += 1;
+    }
+    true
+}
+
+fn leading_blanks(bytes: &[u8]) -> usize
+    ensures { λ r. ⌜ r ≡ leading (isBlankIn page037) (now (bytes .entry)) ⌝ }
+{
+    let mut i = 0;
+    while i < bytes.len() {
+        if !codepage::is_blank_byte(bytes[i]) {
+            return i;
+        }
+        i += 1;
+    }
+    i
+}
+
+fn kept_bytes(bytes: &[u8]) -> usize
+    ensures { λ r. ⌜ r ≡ kept (isBlankIn page037) (now (bytes .entry)) ⌝ }
+{
+    let mut end = bytes.len();
+    while 0 < end {
+        if !codepage::is_blank_byte(bytes[end - 1]) {
+            return end;
+        }
+        end -= 1;
+    }
+    0
+}
+
+// The text of the `length` bytes from `start` on. One that is not ASCII has a byte above 7F, which trimming keeps: it is never empty.
+pub fn decode_text(reply: &[u8], start: usize, length: usize) -> Text
+    requires { ⌜ start + length ≤ lib.ListN.length (now reply) ⌝ }
+    ensures { λ r. ⌜ r ≡ textOf page037 (now (reply .entry)) start length ⌝ }
+{
+    if length == 0 {
+        return Text {
+            place: 0,
+            length: 0,
+            alphabet: 1,
+        };
+    }
+    let bytes = &reply[start..start + length];
+    if is_ascii(bytes) {
+        return Text {
+            place: start,
+            length,
+            alphabet: 1,
+        };
+    }
+    let first = leading_blanks(bytes);
+    let end = kept_bytes(bytes);
+    Text {
+        place: start + first,
+        length: end - first,
+        alphabet: 2,
+    }
+}
+
+// By the bytes that letters and digits have in page 037: naming its table would copy it at each call.
+fn is_digit_in(byte: u8, alphabet: u8) -> bool
+    ensures { λ r. ⌜ r ≡ isDigitOf page037 alphabet byte ⌝ }
+{
+    if alphabet == 2 {
+        (byte >= 0xF0) & (byte <= 0xF9)
+    } else {
+        (byte >= 0x30) & (byte <= 0x39)
+    }
+}
+
+fn starts_col(bytes: &[u8], alphabet: u8) -> bool
+    requires { ⌜ 3 < length (now bytes) ⌝ }
+    ensures { λ r. ⌜ r ≡ startsCol (chars page037 alphabet (now (bytes .entry))) ⌝ }
+{
+    if alphabet == 2 {
+        (bytes[0] == 0xC3) & (bytes[1] == 0xD6) & (bytes[2] == 0xD3)
+    } else {
+        (bytes[0] == 0x43) & (bytes[1] == 0x4F) & (bytes[2] == 0x4C)
+    }
+}
+
+fn all_digits(bytes: &[u8], alphabet: u8) -> bool
+    ensures { λ r. ⌜ r ≡ each (isDigitOf page037 alphabet) (now (bytes .entry)) ⌝ }
+{
+    let mut i = 0;
+    while i < bytes.len() {
+        if !is_digit_in(bytes[i], alphabet) {
+            return false;
+        }
+        i += 1;
+    }
+    true
+}
+
+// Whether a text's characters are COL and one or more digits, as the reader itself names a column without a name.
+pub fn is_generated(bytes: &[u8], alphabet: u8) -> bool
+    ensures { λ r. ⌜ r ≡ isGenerated (chars page037 alphabet (now (bytes .entry))) ⌝ }
+{
+    if bytes.len() <= 3 {
+        return false;
+    }
+    if !starts_col(bytes, alphabet) {
+        return false;
+    }
+    all_digits(&bytes[3..], alphabet)
+}

@@ -1,0 +1,171 @@
+//! Writes cases of docs/ANSWERS.md for the entries D, P, S, G and N, made from a seed.
+//!
+//!     generate SEED COUNT [ENTRIES] [--from CASE] [--progress]
+//!
+//! SEED is any number below 2^64. Each case is for one of ENTRIES (default DPSGN), all equally
+//! often. The same SEED and ENTRIES give the same cases on every machine; --from starts at a
+//! later case than 0, so that one case can be made again without those before it. Progress goes
+//! to standard error once a second if that is a terminal, or with --progress.
+//!
+//! What a case holds, in 10,000 of each entry:
+//!
+//! | family     | D, P |    S |    G |    N | replies                                           |
+//! |------------|-----:|-----:|-----:|-----:|---------------------------------------------------|
+//! | standard   | 3500 |  400 |  900 |  900 | every group present or absent, BE and LE          |
+//! | compact    | 1600 |  150 |  150 |  300 | compact tables, with and without FF, names to 65  |
+//! | last       |  700 |  150 |  150 |  200 | FF FF FF, unknown types, the FF before the count  |
+//! | scan       | 1500 |  150 |  150 |  600 | runs behind other bytes, equal and negative scores|
+//! | counts     |  500 |   46 |   46 |  100 | counts on the edges with few descriptors          |
+//! | many       |   20 |    4 |    4 |   20 | 256 to 514 descriptors                            |
+//! | candidates |  150 |  100 |  100 | 3400 | strings that the name scan takes, and repeats     |
+//! | layouts    |  250 |  100 |  100 | 2400 | layouts of any type, names in m, s and extension  |
+//! | sqlca      |  500 | 7080 | 6580 |  200 | a SQLCA alone, whole or cut, codes and messages   |
+//! | small      | 1267 | 1800 | 1800 | 1867 | every size from 0 to 64                           |
+//! | longest    |    3 |   10 |   10 |    3 | 65,534 to 65,536 bytes (slow in the Rust)         |
+//! | too long   |   10 |   10 |   10 |   10 | 65,537 to 65,540 bytes, and 70,000                |
+//!
+//! Of all but the last three, 35 in 100 are damaged by one to three edits. P has the right code
+//! point in 92 of 100.
+
+#[allow(dead_code)] // writes cases, reads none
+mod frame;
+mod random;
+mod replies;
+mod texts;
+
+use random::Random;
+use std::io::{self, BufWriter, IsTerminal, Write};
+use std::process::ExitCode;
+use std::time::{Duration, Instant};
+
+const ENTRIES: &str = "DPSGN";
+const SQLDARD: u16 = 0x2411;
+
+type Maker = fn(&mut Random) -> Vec<u8>;
+
+/// The rows of the table above that can be damaged, then `small` and `longest`.
+const MAKERS: [Maker; 11] = [
+    replies::standard,
+    replies::compact,
+    replies::last,
+    replies::scan,
+    replies::counts,
+    replies::many,
+    replies::candidates,
+    replies::layouts,
+    replies::sqlca,
+    replies::small,
+    replies::longest,
+];
+const DAMAGED_MAKERS: usize = 9;
+
+/// The columns of the table above.
+const DESCRIPTION: [usize; 12] = [3500, 1600, 700, 1500, 500, 20, 150, 250, 500, 1267, 3, 10];
+const STATUS: [usize; 12] = [400, 150, 150, 150, 46, 4, 100, 100, 7080, 1800, 10, 10];
+const GROUP: [usize; 12] = [900, 150, 150, 150, 46, 4, 100, 100, 6580, 1800, 10, 10];
+const NAMES: [usize; 12] = [900, 300, 200, 600, 100, 20, 3400, 2400, 200, 1867, 3, 10];
+
+fn reply(r: &mut Random, entry: u8) -> Vec<u8> {
+    let weights = match entry {
+        b'S' => &STATUS,
+        b'G' => &GROUP,
+        b'N' => &NAMES,
+        _ => &DESCRIPTION,
+    };
+    let family = r.weighted(weights);
+    let Some(maker) = MAKERS.get(family) else {
+        let room = if entry == b'P' { 2 } else { 0 };
+        return replies::too_long(r, frame::LONGEST - room);
+    };
+    let mut reply = maker(r);
+    if family < DAMAGED_MAKERS && r.chance(35) {
+        replies::damage(r, &mut reply);
+    }
+    reply
+}
+
+fn case(r: &mut Random, entries: &[u8]) -> (u8, Vec<u8>) {
+    let entry = r.pick(entries);
+    if entry != b'P' {
+        return (entry, reply(r, entry));
+    }
+    let code_point = if r.chance(92) {
+        SQLDARD
+    } else {
+        let other = r.next() as u16;
+        r.pick(&[0x2408, 0x2410, 0x1124, 0x0000, 0xFFFF, other])
+    };
+    let mut payload = code_point.to_be_bytes().to_vec();
+    payload.append(&mut reply(r, entry));
+    (entry, payload)
+}
+
+struct Request {
+    seed: u64,
+    count: u64,
+    entries: Vec<u8>,
+    from: u64,
+    progress: bool,
+}
+
+fn request(arguments: impl Iterator<Item = String>) -> Result<Request, String> {
+    let mut plain = Vec::new();
+    let mut from = 0;
+    let mut progress = io::stderr().is_terminal();
+    let mut arguments = arguments;
+    while let Some(argument) = arguments.next() {
+        match argument.as_str() {
+            "--progress" => progress = true,
+            "--from" => from = whole(&arguments.next().ok_or("--from needs a case number")?)?,
+            option if option.starts_with('-') => return Err(format!("unknown option {option}")),
+            _ => plain.push(argument),
+        }
+    }
+    let (seed, count, entries) = match plain.as_slice() {
+        [seed, count] => (seed, count, ENTRIES),
+        [seed, count, entries] => (seed, count, entries.as_str()),
+        _ => return Err("usage: generate SEED COUNT [ENTRIES] [--from CASE] [--progress]".into()),
+    };
+    if entries.is_empty() || !entries.chars().all(|entry| ENTRIES.contains(entry)) {
+        return Err(format!("entries are some of {ENTRIES}, not {entries:?}"));
+    }
+    Ok(Request {
+        seed: whole(seed)?,
+        count: whole(count)?,
+        entries: entries.as_bytes().to_vec(),
+        from,
+        progress,
+    })
+}
+
+fn whole(text: &str) -> Result<u64, String> {
+    text.parse()
+        .map_err(|_| format!("not a whole number below 2^64: {text:?}"))
+}
+
+fn run(request: &Request) -> io::Result<()> {
+    let mut output = BufWriter::with_capacity(1 << 20, io::stdout().lock());
+    let mut said = Instant::now();
+    for done in 0..request.count {
+        let mut r = Random::of_case(request.seed, request.from.wrapping_add(done));
+        let (entry, payload) = case(&mut r, &request.entries);
+        frame::write(&mut output, entry, &payload)?;
+        if request.progress && done % 1024 == 0 && said.elapsed() >= Duration::from_secs(1) {
+            eprintln!("generate: {done} of {}", request.count);
+            said = Instant::now();
+        }
+    }
+    output.flush()
+}
+
+fn main() -> ExitCode {
+    let error = match request(std::env::args().skip(1)) {
+        Err(error) => error,
+        Ok(request) => match run(&request) {
+            Ok(()) => return ExitCode::SUCCESS,
+            Err(error) => format!("cannot write: {error}"),
+        },
+    };
+    eprintln!("generate: {error}");
+    ExitCode::FAILURE
+}
