@@ -11,18 +11,19 @@
 //!
 //! | family     | D, P |    S |    G |    N | replies                                           |
 //! |------------|-----:|-----:|-----:|-----:|---------------------------------------------------|
-//! | standard   | 3500 |  400 |  900 |  900 | every group present or absent, BE and LE          |
-//! | compact    | 1600 |  150 |  150 |  300 | compact tables, with and without FF, names to 65  |
-//! | last       |  700 |  150 |  150 |  200 | FF FF FF, unknown types, the FF before the count  |
-//! | scan       | 1500 |  150 |  150 |  600 | runs behind other bytes, equal and negative scores|
-//! | counts     |  500 |   46 |   46 |  100 | counts on the edges with few descriptors          |
+//! | standard   | 3200 |  400 |  900 |  900 | every group present or absent, BE and LE          |
+//! | compact    | 1500 |  150 |  150 |  300 | compact tables, with and without FF, names to 65  |
+//! | last       |  650 |  150 |  150 |  200 | FF FF FF, unknown types, the FF before the count  |
+//! | scan       | 1450 |  150 |  150 |  600 | runs behind other bytes, equal, negative scores   |
+//! | two        |  550 |   50 |   50 |  100 | a list without names and another reply behind it  |
+//! | counts     |  450 |   46 |   46 |  100 | counts on the edges with few descriptors          |
 //! | many       |   20 |    4 |    4 |   20 | 256 to 514 descriptors                            |
-//! | candidates |  150 |  100 |  100 | 3400 | strings that the name scan takes, and repeats     |
+//! | candidates |  150 |  100 |  100 | 3300 | strings that the name scan takes, and repeats     |
 //! | layouts    |  250 |  100 |  100 | 2400 | layouts of any type, names in m, s and extension  |
-//! | sqlca      |  500 | 7080 | 6580 |  200 | a SQLCA alone, whole or cut, codes and messages   |
-//! | small      | 1267 | 1800 | 1800 | 1867 | every size from 0 to 64                           |
+//! | sqlca      |  500 | 7030 | 6530 |  200 | a SQLCA alone, whole or cut, codes and messages   |
+//! | small      | 1257 | 1790 | 1790 | 1857 | every size from 0 to 64                           |
 //! | longest    |    3 |   10 |   10 |    3 | 65,534 to 65,536 bytes (slow in the Rust)         |
-//! | too long   |   10 |   10 |   10 |   10 | 65,537 to 65,540 bytes, and 70,000                |
+//! | too long   |   20 |   20 |   20 |   20 | 65,537 to 65,540 bytes, and 70,000                |
 //!
 //! Of all but the last three, 35 in 100 are damaged by one to three edits. P has the right code
 //! point in 92 of 100.
@@ -44,11 +45,12 @@ const SQLDARD: u16 = 0x2411;
 type Maker = fn(&mut Random) -> Vec<u8>;
 
 /// The rows of the table above that can be damaged, then `small` and `longest`.
-const MAKERS: [Maker; 11] = [
+const MAKERS: [Maker; 12] = [
     replies::standard,
     replies::compact,
     replies::last,
     replies::scan,
+    replies::two,
     replies::counts,
     replies::many,
     replies::candidates,
@@ -57,13 +59,17 @@ const MAKERS: [Maker; 11] = [
     replies::small,
     replies::longest,
 ];
-const DAMAGED_MAKERS: usize = 9;
+const DAMAGED_MAKERS: usize = 10;
 
 /// The columns of the table above.
-const DESCRIPTION: [usize; 12] = [3500, 1600, 700, 1500, 500, 20, 150, 250, 500, 1267, 3, 10];
-const STATUS: [usize; 12] = [400, 150, 150, 150, 46, 4, 100, 100, 7080, 1800, 10, 10];
-const GROUP: [usize; 12] = [900, 150, 150, 150, 46, 4, 100, 100, 6580, 1800, 10, 10];
-const NAMES: [usize; 12] = [900, 300, 200, 600, 100, 20, 3400, 2400, 200, 1867, 3, 10];
+const DESCRIPTION: [usize; 13] = [
+    3200, 1500, 650, 1450, 550, 450, 20, 150, 250, 500, 1257, 3, 20,
+];
+const STATUS: [usize; 13] = [400, 150, 150, 150, 50, 46, 4, 100, 100, 7030, 1790, 10, 20];
+const GROUP: [usize; 13] = [900, 150, 150, 150, 50, 46, 4, 100, 100, 6530, 1790, 10, 20];
+const NAMES: [usize; 13] = [
+    900, 300, 200, 600, 100, 100, 20, 3300, 2400, 200, 1857, 3, 20,
+];
 
 fn reply(r: &mut Random, entry: u8) -> Vec<u8> {
     let weights = match entry {

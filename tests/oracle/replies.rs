@@ -131,8 +131,9 @@ impl Numbers {
         match range {
             Range::Known => {}
             Range::Compact => {
-                numbers.precision = numbers.precision & 0xFF00 | numbers.precision % 64;
-                numbers.scale = numbers.scale & 0xFF00 | numbers.scale % 64;
+                // At most 63 by the low eight bits, which alone count.
+                numbers.precision &= 0xFF3F;
+                numbers.scale &= 0xFF3F;
                 let large = LARGE_OBJECTS.contains(&numbers.sql_type);
                 let most = if large { 0x7FFF_FFFF } else { 0x1_0000 };
                 numbers.length = numbers.length.min(most);
@@ -466,7 +467,7 @@ fn column_count(r: &mut Random) -> usize {
 /// A standard reply in either order, whole; now and then with a column that cannot be read, a
 /// count that is off by one, flags missing at the end, or bytes over.
 pub fn standard(r: &mut Random) -> Vec<u8> {
-    let order = order(r);
+    let order = r.pick(&[Order::Big, Order::Big, Order::Little]);
     let mut out = Vec::new();
     status(r, &mut out);
     header_group(r, &mut out);
@@ -692,6 +693,29 @@ pub fn scan(r: &mut Random) -> Vec<u8> {
     }
     let extra = r.weighted(&[60, 20, 20]) * r.between(0, 12);
     filler(r, &mut out, extra);
+    out
+}
+
+/// Two replies in one: a list without names, or one that fails, and a better one behind it.
+pub fn two(r: &mut Random) -> Vec<u8> {
+    let in_order = order(r);
+    let mut out = Vec::new();
+    status(r, &mut out);
+    header_group(r, &mut out);
+    let count = r.between(1, 3);
+    number(&mut out, count as u64, 2, in_order);
+    let range = r.pick(&[Range::Known, Range::Known, Range::Compact, Range::Outside]);
+    for _ in 0..count {
+        let naming = r.pick(&[Naming::Nameless, Naming::Nameless, Naming::Generated]);
+        Column::new(r, range, naming).put(r, &mut out, in_order);
+    }
+    let mut behind = match r.below(4) {
+        0 => standard(r),
+        1 => compact(r),
+        2 => scan(r),
+        _ => last(r),
+    };
+    out.append(&mut behind);
     out
 }
 

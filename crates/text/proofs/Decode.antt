@@ -61,6 +61,10 @@ module _ (page : Page) (r : T (rearranged (page .table))) (h : T (blanksAsIn037 
           (ne-eqb (kept (isBlankIn page) bs - leading (isBlankIn page) bs) 0 (λ z. omega arith) ∙ sym (ne-eqb (length bs) 0 (λ z. omega arith)))
 
   module _ (s : List ℕ) (a n : ℕ) (l : a + n ≤ length s) where
+    -- the same of bytes in a reply
+    pub text-empty-at : eqb (textOf page s a n .length) 0 ≡ eqb n 0
+    text-empty-at = text-empty (take n (drop a s)) a ∙ ap (λ (k : ℕ). eqb k 0) (lent-length s a n l)
+
     pub decode-none : n ≡ 0 → emptyText ≡ textOf page s a n
     unfolding textOn placed isAscii
     decode-none z = rw z refl

@@ -1,0 +1,123 @@
+-- Strings at a position: a law for each way out of the functions that read them.
+-- Assumes nothing.
+use Prim.Native.Nat.{ℕ, zero, suc, _+_, _-_, _≤_, _<_}
+use native.Mathlib.Omega.{arith}
+use mathlib.Core.Path.{_≡_, refl, sym, ap, _∙_}
+use mathlib.Core.List.{List}
+use mathlib.Core.Bool.{Bool, true, false}
+use lib.Dec.{ltb, leb, eqb}
+use lib.ListN.{length}
+use borrow.Author.Tests.{lt-ltb, le-ltb, le-leb, lt-leb, eq-eqb, ne-eqb, ltb-true, ltb-false, leb-true}
+use Rattle.search.specs.Search.{pick}
+use Rattle.field.specs.declared.ByteOrder.the-variants.{BigEndian}
+use Rattle.field.specs.declared.StringRead.{StringRead}
+use Rattle.field.specs.Numbers.{number}
+use Rattle.field.specs.Strings.{stringEnd, stringsEnd, noString, stringAt, chosen, pairAt}
+
+-- ---- one string
+
+module _ (s : List ℕ) (p : ℕ) where
+  unread : (n : ℕ) → stringEnd s p ≡ n → length s < n → noString n ≡ stringAt s p
+  unfolding stringAt
+  unread n e h = rw (e, lt-leb n (length s) h) refl
+
+  pub string-past : length s < p → noString p ≡ stringAt s p
+  unfolding stringEnd
+  string-past h = unread p (rw (lt-ltb (length s) p h) refl) h
+
+  pub string-short : p ≤ length s → length s - p < 2 → noString (p + 2) ≡ stringAt s p
+  unfolding stringEnd
+  string-short l h =
+      let k : length s < p + 2 = omega arith in
+      unread (p + 2) (rw (le-ltb (length s) p l, lt-ltb (length s) (p + 2) k) refl) k
+
+  module _ (l : p ≤ length s) (h : 2 ≤ length s - p) (n : ℕ) (e : n ≡ number BigEndian 2 s p) where
+    end-known : stringEnd s p ≡ p + 2 + n
+    unfolding stringEnd
+    end-known =
+        let k : p + 2 ≤ length s = omega arith in
+        rw (le-ltb (length s) p l, le-ltb (length s) (p + 2) k, e) refl
+
+    pub string-cut : length s - (p + 2) < n → noString (p + 2 + n) ≡ stringAt s p
+    string-cut k = unread (p + 2 + n) end-known (omega arith)
+
+    pub string-full : n ≤ length s - (p + 2) → record { place = p + 2; length = n; next = p + 2 + n } ≡ stringAt s p
+    unfolding stringAt
+    string-full k =
+        let m : p + 2 + n ≤ length s = omega arith in
+        rw (end-known, le-leb (p + 2 + n) (length s) m, e) refl
+
+  -- a string that is read ends where its length says
+  pub end-inside : stringEnd s p ≤ length s → (p + 2 ≤ length s) × (stringEnd s p ≡ p + 2 + number BigEndian 2 s p)
+  unfolding stringEnd
+  end-inside = go (ltb (length s) p) refl (ltb (length s) (p + 2)) refl
+    where
+      go : (t : Bool) → ltb (length s) p ≡ t → (u : Bool) → ltb (length s) (p + 2) ≡ u
+          → pick t p (pick u (p + 2) (p + 2 + number BigEndian 2 s p)) ≤ length s
+          → (p + 2 ≤ length s) × (pick t p (pick u (p + 2) (p + 2 + number BigEndian 2 s p)) ≡ p + 2 + number BigEndian 2 s p)
+      go true e u f h = absurd (omega (arith, ltb-true (length s) p e))
+      go false e true f h = absurd (omega (arith, ltb-true (length s) (p + 2) f))
+      go false e false f h = (ltb-false (length s) (p + 2) f, refl)
+
+  pub string-next : stringAt s p .next ≡ stringEnd s p
+  unfolding stringAt
+  string-next = go (leb (stringEnd s p) (length s))
+    where
+      go : (b : Bool)
+          → pick b (record { place = p + 2; length = number BigEndian 2 s p; next = stringEnd s p }) (noString (stringEnd s p)) .next ≡ stringEnd s p
+      go true = refl
+      go false = refl
+
+  -- its bytes lie in the reply
+  pub string-inside : stringAt s p .place + stringAt s p .length ≤ length s
+  unfolding stringAt
+  string-inside = go (leb (stringEnd s p) (length s)) refl
+    where
+      go : (b : Bool) → leb (stringEnd s p) (length s) ≡ b
+          → (let r = pick b (record { place = p + 2; length = number BigEndian 2 s p; next = stringEnd s p }) (noString (stringEnd s p)) in
+          r .place + r .length ≤ length s)
+      go true e = let i = end-inside (leb-true (stringEnd s p) (length s) e) in omega (arith, leb-true (stringEnd s p) (length s) e)
+      go false e = omega arith
+
+-- ---- several strings: t is the answer, `t ≡ stringsEnd left s next` the loop's invariant
+
+module _ (s : List ℕ) (left next t : ℕ) (e : t ≡ stringsEnd left s next) where
+  pub strings-more : (r : StringRead) → 0 < left → r ≡ stringAt s next → t ≡ stringsEnd (left - 1) s (r .next)
+  unfolding stringsEnd
+  strings-more r h f =
+      let k : left ≡ suc (left - 1) = omega arith in
+      e ∙ ap (λ (n : ℕ). stringsEnd n s next) k ∙ ap (stringsEnd (left - 1) s) (sym (ap (λ (x : StringRead). x .next) f ∙ string-next s next))
+
+  pub strings-done : left ≤ 0 → next ≡ t
+  unfolding stringsEnd
+  strings-done h =
+      let k : left ≡ 0 = omega arith in
+      sym (e ∙ ap (λ (n : ℕ). stringsEnd n s next) k)
+
+-- ---- two strings
+
+module _ (s : List ℕ) (p : ℕ) (a b : StringRead) (e : a ≡ stringAt s p) (f : b ≡ stringAt s (a .next)) where
+  both : chosen a b ≡ pairAt s p
+  unfolding pairAt
+  both =
+      let n : a .next ≡ stringEnd s p = ap (λ (x : StringRead). x .next) e ∙ string-next s p in
+      ap (λ (x : StringRead). chosen x b) e ∙ ap (chosen (stringAt s p)) (f ∙ ap (stringAt s) n)
+
+  pub pair-second : a .length ≡ 0 → b ≡ pairAt s p
+  unfolding chosen
+  pair-second z = rw (eq-eqb (a .length) 0 z) at both
+
+  pub pair-first : (a .length ≡ 0 → ⊥) → record { place = a .place; length = a .length; next = b .next } ≡ pairAt s p
+  unfolding chosen
+  pair-first z = rw (ne-eqb (a .length) 0 z) at both
+
+-- the bytes of the string that counts lie in the reply
+pub pair-inside : (s : List ℕ) (p : ℕ) → pairAt s p .place + pairAt s p .length ≤ length s
+unfolding pairAt chosen
+pair-inside s p = go (eqb (stringAt s p .length) 0)
+  where
+    go : (t : Bool)
+        → (let r = pick t (stringAt s (stringEnd s p)) (record { place = stringAt s p .place; length = stringAt s p .length; next = stringAt s (stringEnd s p) .next }) in
+        r .place + r .length ≤ length s)
+    go true = string-inside s (stringEnd s p)
+    go false = string-inside s p

@@ -1,0 +1,47 @@
+-- The loop's invariant: past all strings is past those that are left, from the position in hand.
+-- Assumes nothing.
+use mathlib.Core.Path.{_≡_, refl}
+use native.Mathlib.Omega.{arith}
+use borrow.Author.Needs.{needs}
+use Rattle.field.specs.Strings.{stringsEnd}
+use Rattle.field.proofs.Strings.{strings-more, strings-done}
+use Rattle.field.proofs.skip_strings.Statement.{statement}
+use Rattle.field.proofs.skip_strings.Tie as tie
+
+abbrev Inv-loop : tie.InvT-loop
+Inv-loop reply offset count next₀ left₀ next left = stringsEnd count reply offset ≡ stringsEnd left reply next
+
+abbrev μ-loop : tie.MeasureT-loop
+μ-loop reply offset count next₀ left₀ next left = left
+
+loop-holds : tie.Need-loop-holds Inv-loop μ-loop
+loop-holds c = refl
+
+read-string-requires : tie.Need-read-string-requires Inv-loop μ-loop
+read-string-requires c κs = search needs
+
+sub-left : tie.Need-sub-left Inv-loop μ-loop
+sub-left c = omega arith
+
+loop-less : tie.Need-loop-less Inv-loop μ-loop
+loop-less c = omega arith
+
+loop-again : tie.Need-loop-again Inv-loop μ-loop
+loop-again c =
+    strings-more _ _ _ _ (c .before .before .loop .inv) (c .read-string .result) (c .before .loop-test .taken) (c .read-string .ensures)
+
+returns : tie.Need-returns Inv-loop μ-loop
+returns c = strings-done _ _ _ _ (c .before .loop .inv) (c .loop-test .left)
+
+pub skip-strings-spec : {M : Type 1} → statement M
+skip-strings-spec =
+    tie.close
+    (tie.spec
+    Inv-loop
+    μ-loop
+    loop-holds
+    read-string-requires
+    sub-left
+    loop-less
+    loop-again
+    returns)

@@ -1,0 +1,28 @@
+-- From 2^31 on the number is below zero.
+-- Assumes nothing.
+use borrow.Author.Needs.{needs}
+use Rattle.field.proofs.Numbers.{at-least-zero-is, below-zero-fits, below-zero-is}
+use Rattle.field.proofs.to_signed.Statement.{statement}
+use Rattle.field.proofs.to_signed.Tie as tie
+
+cast-result : tie.Need-cast-result
+cast-result c = search needs
+
+sub-result : tie.Need-sub-result
+sub-result c = search needs
+
+cast-result-2 : tie.Need-cast-result-2
+cast-result-2 c = search needs
+
+sub-result-2 : tie.Need-sub-result-2
+sub-result-2 c = below-zero-fits (c .before .args .bits) (c .if1 .left) (c .before .fits .bits .fits)
+
+returns : tie.Need-returns
+returns c = at-least-zero-is (c .before .args .bits) (c .if1 .taken)
+
+returns-2 : tie.Need-returns-2
+returns-2 c = below-zero-is (c .before .args .bits) (c .if1 .left) (c .before .fits .bits .fits)
+
+pub to-signed-spec : {M : Type 1} → statement M
+to-signed-spec =
+    tie.close (tie.spec cast-result sub-result cast-result-2 sub-result-2 returns returns-2)
