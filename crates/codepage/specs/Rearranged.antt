@@ -18,5 +18,6 @@ areBytes t = each (λ x. ltb x 256) t
 abbrev pub areOnce : List ℕ → Bool
 areOnce t = below 256 (λ c. eqb (count (eqb c) t) 1)
 
+-- every number from 0 to 255 exactly once
 unfoldable pub rearranged : List ℕ → Bool
 rearranged t = isLong t && (areBytes t && areOnce t)

@@ -33,5 +33,6 @@ stringAt s p =
 unfoldable pub chosen : StringRead → StringRead → StringRead
 chosen m s = pick (eqb (m .length) 0) s (record { place = m .place; length = m .length; next = s .next })
 
+-- the pair at p
 unfoldable pub pairAt : List ℕ → ℕ → StringRead
 pairAt s p = chosen (stringAt s p) (stringAt s (stringEnd s p))

@@ -16,6 +16,7 @@ isNameChar c =
     (leb 0x41 c && leb c 0x5A) || (leb 0x61 c && leb c 0x7A) || (leb 0x30 c && leb c 0x39) || eqb c 0x5F || eqb c 0x24 || eqb c 0x23
     || eqb c 0x40
 
+-- an ASCII digit
 abbrev pub isDigit : ℕ → Bool
 isDigit c = leb 0x30 c && leb c 0x39
 
@@ -23,6 +24,7 @@ isDigit c = leb 0x30 c && leb c 0x39
 unfoldable pub charOf : Page → ℕ → ℕ → ℕ
 charOf page alphabet b = pick (eqb alphabet (page .alphabet)) (charIn page b) b
 
+-- the characters of a text, one a byte (01, Parts 1)
 abbrev pub chars : Page → ℕ → List ℕ → List ℕ
 chars page alphabet bs = map (charOf page alphabet) bs
 

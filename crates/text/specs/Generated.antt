@@ -7,6 +7,7 @@ use lib.ListN.{length, getD, drop}
 use Rattle.search.specs.Search.{agree, below, each}
 use Rattle.text.specs.Chars.{isDigit}
 
+-- COL in front
 abbrev pub startsCol : List ℕ → Bool
 startsCol cs = eqb (getD cs 0 0) 0x43 && eqb (getD cs 1 0) 0x4F && eqb (getD cs 2 0) 0x4C
 

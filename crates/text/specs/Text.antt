@@ -10,6 +10,7 @@ use Rattle.codepage.specs.Blank.{isBlankIn}
 use Rattle.text.specs.Chars.{isAscii}
 use Rattle.text.specs.declared.Text.{Text}
 
+-- n bytes from p on, in alphabet a
 abbrev pub textIs : ℕ → ℕ → ℕ → Text
 textIs p n a = record { place = p; length = n; alphabet = a }
 
