@@ -1,4 +1,4 @@
--- What a test that was computed over a whole range or list says at one place of it.
+-- What a test that was computed over a whole range or list says at one place of it, or of what was chosen or found.
 -- Assumes nothing.
 use mathlib.Core.Path.{_≡_, refl, sym, ap, subst}
 use mathlib.Core.Bool.{Bool, true, false, _&&_}
@@ -8,7 +8,7 @@ use Prim.Native.Nat.{ℕ, zero, suc, _<_}
 use native.Mathlib.Nat.{le-of-suc-le-suc, not-suc-le-zero, eq-or-lt-of-le}
 use lib.Dec.{T}
 use lib.ListN.{length, getD}
-use Rattle.search.specs.Search.{agree, below, each}
+use Rattle.search.specs.Search.{pick, agree, below, each, firstIn}
 
 pub and-left : (a b : Bool) → T (a && b) → T a
 and-left true b t = tt
@@ -35,3 +35,15 @@ pub each-at : {A : Type 0} (f : A → Bool) (xs : List A) (d : A) → T (each f 
 each-at f [] d t k h = absurd (not-suc-le-zero h)
 each-at f (x ∷ xs) d t zero h = and-left (f x) (each f xs) t
 each-at f (x ∷ xs) d t (suc k) h = each-at f xs d (and-right (f x) (each f xs) t) k (le-of-suc-le-suc h)
+
+-- a test that both pass is passed by the one that is picked
+pub pick-passes : {A : Type 0} (f : A → Bool) (b : Bool) (x y : A) → T (f x) → T (f y) → T (f (pick b x y))
+pick-passes f true x y p q = p
+pick-passes f false x y p q = q
+
+-- a test that every element and the default pass is passed by what a search finds
+pub found-passes : {A : Type 0} (f g : A → Bool) (l : List A) (d : A) → T (each f l) → T (f d) → T (f (firstIn g l d))
+found-passes f g [] d p q = q
+found-passes f g (x ∷ xs) d p q =
+    pick-passes f (g x) x (firstIn g xs d) (and-left (f x) (each f xs) p)
+    (found-passes f g xs d (and-right (f x) (each f xs) p) q)
