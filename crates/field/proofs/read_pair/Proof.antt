@@ -5,12 +5,6 @@ use Rattle.field.proofs.Strings.{pair-first, pair-second}
 use Rattle.field.proofs.read_pair.Statement.{statement}
 use Rattle.field.proofs.read_pair.Tie as tie
 
-read-string-requires : tie.Need-read-string-requires
-read-string-requires c κs = search needs
-
-read-string-requires-2 : tie.Need-read-string-requires-2
-read-string-requires-2 c κs = search needs
-
 returns : tie.Need-returns
 returns c =
     pair-second _ _ (c .before .before .before .read-string .result) _ (c .before .before .before .read-string .ensures)
@@ -25,4 +19,4 @@ returns-2 c =
     (c .if1 .left)
 
 pub read-pair-spec : {M : Type 1} → statement M
-read-pair-spec = tie.close (tie.spec read-string-requires read-string-requires-2 returns returns-2)
+read-pair-spec = tie.close (tie.spec (search needs) (search needs) returns returns-2)

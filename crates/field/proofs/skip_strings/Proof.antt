@@ -1,7 +1,6 @@
 -- The loop's invariant: past all strings is past those that are left, from the position in hand.
 -- Assumes nothing.
 use mathlib.Core.Path.{_≡_, refl}
-use native.Mathlib.Omega.{arith}
 use borrow.Author.Needs.{needs}
 use Rattle.field.specs.Strings.{stringsEnd}
 use Rattle.field.proofs.Strings.{strings-more, strings-done}
@@ -17,15 +16,6 @@ abbrev μ-loop : tie.MeasureT-loop
 loop-holds : tie.Need-loop-holds Inv-loop μ-loop
 loop-holds c = refl
 
-read-string-requires : tie.Need-read-string-requires Inv-loop μ-loop
-read-string-requires c κs = search needs
-
-sub-left : tie.Need-sub-left Inv-loop μ-loop
-sub-left c = omega arith
-
-loop-less : tie.Need-loop-less Inv-loop μ-loop
-loop-less c = omega arith
-
 loop-again : tie.Need-loop-again Inv-loop μ-loop
 loop-again c =
     strings-more _ _ _ _ (c .before .before .loop .inv) (c .read-string .result) (c .before .loop-test .taken) (c .read-string .ensures)
@@ -40,8 +30,8 @@ skip-strings-spec =
     Inv-loop
     μ-loop
     loop-holds
-    read-string-requires
-    sub-left
-    loop-less
+    (search needs)
+    (search needs)
+    (search needs)
     loop-again
     returns)

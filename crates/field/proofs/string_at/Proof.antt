@@ -8,33 +8,12 @@ use Rattle.field.proofs.string_at.Tie as tie
 returns : tie.Need-returns
 returns c = string-past _ _ (c .if1 .taken)
 
-add-t8 : tie.Need-add-t8
-add-t8 c = search needs
-
 returns-2 : tie.Need-returns-2
 returns-2 c = string-short _ _ (c .before .if1 .left) (c .if2 .taken)
-
-u16-at-requires : tie.Need-u16-at-requires
-u16-at-requires c κs = search needs
-
-cast-length : tie.Need-cast-length
-cast-length c = search needs
-
-add-place : tie.Need-add-place
-add-place c = search needs
-
-sub-if3 : tie.Need-sub-if3
-sub-if3 c = search needs
-
-add-t11 : tie.Need-add-t11
-add-t11 c = search needs
 
 returns-3 : tie.Need-returns-3
 returns-3 c =
     string-cut _ _ (c .before .before .before .if1 .left) (c .before .before .if2 .left) _ (c .before .u16-at .ensures) (c .if3 .taken)
-
-add-t7 : tie.Need-add-t7
-add-t7 c = search needs
 
 returns-4 : tie.Need-returns-4
 returns-4 c =
@@ -45,13 +24,13 @@ string-at-spec =
     tie.close
     (tie.spec
     returns
-    add-t8
+    (search needs)
     returns-2
-    u16-at-requires
-    cast-length
-    add-place
-    sub-if3
-    add-t11
+    (search needs)
+    (search needs)
+    (search needs)
+    (search needs)
+    (search needs)
     returns-3
-    add-t7
+    (search needs)
     returns-4)

@@ -5,15 +5,6 @@ use Rattle.field.proofs.Numbers.{at-least-zero-is, below-zero-fits, bel
 use Rattle.field.proofs.to_signed.Statement.{statement}
 use Rattle.field.proofs.to_signed.Tie as tie
 
-cast-result : tie.Need-cast-result
-cast-result c = search needs
-
-sub-result : tie.Need-sub-result
-sub-result c = search needs
-
-cast-result-2 : tie.Need-cast-result-2
-cast-result-2 c = search needs
-
 sub-result-2 : tie.Need-sub-result-2
 sub-result-2 c = below-zero-fits (c .before .args .bits) (c .if1 .left) (c .before .fits .bits .fits)
 
@@ -25,4 +16,4 @@ returns-2 c = below-zero-is (c .before .args .bits) (c .if1 .left) (c .before .f
 
 pub to-signed-spec : {M : Type 1} → statement M
 to-signed-spec =
-    tie.close (tie.spec cast-result sub-result cast-result-2 sub-result-2 returns returns-2)
+    tie.close (tie.spec (search needs) (search needs) (search needs) sub-result-2 returns returns-2)

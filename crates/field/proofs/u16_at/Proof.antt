@@ -6,27 +6,6 @@ use Rattle.field.proofs.Numbers.{number-one, halves-big, halves-little}
 use Rattle.field.proofs.u16_at.Statement.{statement}
 use Rattle.field.proofs.u16_at.Tie as tie
 
-shared-slice-read-first : tie.Need-shared-slice-read-first
-shared-slice-read-first c = search needs
-
-add-second : tie.Need-add-second
-add-second c = search needs
-
-shared-slice-read-second : tie.Need-shared-slice-read-second
-shared-slice-read-second c = search needs
-
-enum-told : tie.Need-enum-told
-enum-told c = search needs
-
-join8-requires : tie.Need-join8-requires
-join8-requires c κs = search needs
-
-enum-told-2 : tie.Need-enum-told-2
-enum-told-2 c = search needs
-
-join8-requires-2 : tie.Need-join8-requires-2
-join8-requires-2 c κs = search needs
-
 returns : tie.Need-returns
 returns c =
     let a = c .before .before .before .before .before .before .args in
@@ -41,12 +20,12 @@ pub u16-at-spec : {M : Type 1} → statement M
 u16-at-spec =
     tie.close
     (tie.spec
-    shared-slice-read-first
-    add-second
-    shared-slice-read-second
-    enum-told
-    join8-requires
-    enum-told-2
-    join8-requires-2
+    (search needs)
+    (search needs)
+    (search needs)
+    (search needs)
+    (search needs)
+    (search needs)
+    (search needs)
     returns
     returns-2)

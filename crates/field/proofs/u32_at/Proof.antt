@@ -5,27 +5,6 @@ use Rattle.field.proofs.Numbers.{halves-big, halves-little}
 use Rattle.field.proofs.u32_at.Statement.{statement}
 use Rattle.field.proofs.u32_at.Tie as tie
 
-u16-at-requires : tie.Need-u16-at-requires
-u16-at-requires c κs = search needs
-
-add-u16-at : tie.Need-add-u16-at
-add-u16-at c = search needs
-
-u16-at-requires-2 : tie.Need-u16-at-requires-2
-u16-at-requires-2 c κs = search needs
-
-enum-told : tie.Need-enum-told
-enum-told c = search needs
-
-join16-requires : tie.Need-join16-requires
-join16-requires c κs = search needs
-
-enum-told-2 : tie.Need-enum-told-2
-enum-told-2 c = search needs
-
-join16-requires-2 : tie.Need-join16-requires-2
-join16-requires-2 c κs = search needs
-
 returns : tie.Need-returns
 returns c =
     let a = c .before .before .before .before .before .before .args in
@@ -40,12 +19,12 @@ pub u32-at-spec : {M : Type 1} → statement M
 u32-at-spec =
     tie.close
     (tie.spec
-    u16-at-requires
-    add-u16-at
-    u16-at-requires-2
-    enum-told
-    join16-requires
-    enum-told-2
-    join16-requires-2
+    (search needs)
+    (search needs)
+    (search needs)
+    (search needs)
+    (search needs)
+    (search needs)
+    (search needs)
     returns
     returns-2)

@@ -5,27 +5,6 @@ use Rattle.field.proofs.Numbers.{halves-big, halves-little}
 use Rattle.field.proofs.u64_at.Statement.{statement}
 use Rattle.field.proofs.u64_at.Tie as tie
 
-u32-at-requires : tie.Need-u32-at-requires
-u32-at-requires c κs = search needs
-
-add-u32-at : tie.Need-add-u32-at
-add-u32-at c = search needs
-
-u32-at-requires-2 : tie.Need-u32-at-requires-2
-u32-at-requires-2 c κs = search needs
-
-enum-told : tie.Need-enum-told
-enum-told c = search needs
-
-join32-requires : tie.Need-join32-requires
-join32-requires c κs = search needs
-
-enum-told-2 : tie.Need-enum-told-2
-enum-told-2 c = search needs
-
-join32-requires-2 : tie.Need-join32-requires-2
-join32-requires-2 c κs = search needs
-
 returns : tie.Need-returns
 returns c =
     let a = c .before .before .before .before .before .before .args in
@@ -40,12 +19,12 @@ pub u64-at-spec : {M : Type 1} → statement M
 u64-at-spec =
     tie.close
     (tie.spec
-    u32-at-requires
-    add-u32-at
-    u32-at-requires-2
-    enum-told
-    join32-requires
-    enum-told-2
-    join32-requires-2
+    (search needs)
+    (search needs)
+    (search needs)
+    (search needs)
+    (search needs)
+    (search needs)
+    (search needs)
     returns
     returns-2)

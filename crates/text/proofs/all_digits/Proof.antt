@@ -22,22 +22,10 @@ abbrev μ-loop : tie.MeasureT-loop
 loop-holds : tie.Need-loop-holds Inv-loop μ-loop
 loop-holds c = (omega arith, refl)
 
-shared-slice-read-is-digit-in : tie.Need-shared-slice-read-is-digit-in Inv-loop μ-loop
-shared-slice-read-is-digit-in c = omega arith
-
-is-digit-in-requires : tie.Need-is-digit-in-requires Inv-loop μ-loop
-is-digit-in-requires c κs = search needs
-
 returns : tie.Need-returns Inv-loop μ-loop
 returns c =
     each-fails (isDigitOf page037 (c .before .before .before .before .before .before .args .alphabet)) _ 0 _ _ (c .before .before .before .before .loop .inv .1) (c .before .before .before .loop-test .taken)
     (sym (c .before .is-digit-in .ensures) ∙ not-true _ (c .if1 .taken))
-
-add-i : tie.Need-add-i Inv-loop μ-loop
-add-i c = omega arith
-
-loop-less : tie.Need-loop-less Inv-loop μ-loop
-loop-less c = omega arith
 
 loop-again : tie.Need-loop-again Inv-loop μ-loop
 loop-again c = (
@@ -56,10 +44,10 @@ all-digits-spec =
     Inv-loop
     μ-loop
     loop-holds
-    shared-slice-read-is-digit-in
-    is-digit-in-requires
+    (search needs)
+    (search needs)
     returns
-    add-i
-    loop-less
+    (search needs)
+    (search needs)
     loop-again
     returns-2)

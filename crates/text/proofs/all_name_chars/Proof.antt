@@ -21,22 +21,10 @@ abbrev μ-loop : tie.MeasureT-loop
 loop-holds : tie.Need-loop-holds Inv-loop μ-loop
 loop-holds c = (omega arith, refl)
 
-shared-slice-read-is-name-char : tie.Need-shared-slice-read-is-name-char Inv-loop μ-loop
-shared-slice-read-is-name-char c = omega arith
-
-is-name-char-requires : tie.Need-is-name-char-requires Inv-loop μ-loop
-is-name-char-requires c κs = search needs
-
 returns : tie.Need-returns Inv-loop μ-loop
 returns c =
     each-fails isNameChar _ 0 _ _ (c .before .before .before .before .loop .inv .1) (c .before .before .before .loop-test .taken)
     (sym (c .before .is-name-char .ensures) ∙ not-true _ (c .if1 .taken))
-
-add-i : tie.Need-add-i Inv-loop μ-loop
-add-i c = omega arith
-
-loop-less : tie.Need-loop-less Inv-loop μ-loop
-loop-less c = omega arith
 
 loop-again : tie.Need-loop-again Inv-loop μ-loop
 loop-again c = (
@@ -55,10 +43,10 @@ all-name-chars-spec =
     Inv-loop
     μ-loop
     loop-holds
-    shared-slice-read-is-name-char
-    is-name-char-requires
+    (search needs)
+    (search needs)
     returns
-    add-i
-    loop-less
+    (search needs)
+    (search needs)
     loop-again
     returns-2)

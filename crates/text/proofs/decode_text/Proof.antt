@@ -14,21 +14,6 @@ returns c =
     let a = c .before .before .args in
     decode-none page037 rearranged-037 blanks-037 (a .reply .now) (a .start) (a .length) (c .before .before .pre) (c .if1 .taken)
 
-add-bytes : tie.Need-add-bytes
-add-bytes c = search needs
-
-sub-bytes : tie.Need-sub-bytes
-sub-bytes c = search needs
-
-part-bytes-start : tie.Need-part-bytes-start
-part-bytes-start c = search needs
-
-part-bytes-end : tie.Need-part-bytes-end
-part-bytes-end c = search needs
-
-is-ascii-requires : tie.Need-is-ascii-requires
-is-ascii-requires c κs = search needs
-
 returns-2 : tie.Need-returns-2
 returns-2 c =
     let s = c .before .before .before .before .before in
@@ -36,12 +21,6 @@ returns-2 c =
     decode-ascii page037 rearranged-037 blanks-037 (a .reply .now) (a .start) (a .length) (s .pre)
     (c .before .before .before .if1 .left)
     (sym (c .before .is-ascii .ensures) ∙ c .if2 .taken)
-
-leading-blanks-requires : tie.Need-leading-blanks-requires
-leading-blanks-requires c κs = search needs
-
-kept-bytes-requires : tie.Need-kept-bytes-requires
-kept-bytes-requires c κs = search needs
 
 add-t8 : tie.Need-add-t8
 add-t8 c =
@@ -82,14 +61,14 @@ decode-text-spec =
     tie.close
     (tie.spec
     returns
-    add-bytes
-    sub-bytes
-    part-bytes-start
-    part-bytes-end
-    is-ascii-requires
+    (search needs)
+    (search needs)
+    (search needs)
+    (search needs)
+    (search needs)
     returns-2
-    leading-blanks-requires
-    kept-bytes-requires
+    (search needs)
+    (search needs)
     add-t8
     sub-t10
     returns-3)

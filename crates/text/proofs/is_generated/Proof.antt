@@ -13,26 +13,11 @@ returns c =
     let a = c .before .before .args in
     generated-short page037 (a .alphabet) (a .bytes .now) (c .if1 .taken)
 
-starts-col-requires : tie.Need-starts-col-requires
-starts-col-requires c κs = search needs
-
 returns-2 : tie.Need-returns-2
 returns-2 c =
     let a = c .before .before .before .before .args in
     generated-other page037 (a .alphabet) (a .bytes .now) (c .before .before .if1 .left)
     (sym (c .before .starts-col .ensures) ∙ not-true _ (c .if2 .taken))
-
-sub-all-digits : tie.Need-sub-all-digits
-sub-all-digits c = search needs
-
-part-all-digits-start : tie.Need-part-all-digits-start
-part-all-digits-start c = search needs
-
-part-all-digits-end : tie.Need-part-all-digits-end
-part-all-digits-end c = search needs
-
-all-digits-requires : tie.Need-all-digits-requires
-all-digits-requires c κs = search needs
 
 returns-3 : tie.Need-returns-3
 returns-3 c =
@@ -46,10 +31,10 @@ is-generated-spec =
     tie.close
     (tie.spec
     returns
-    starts-col-requires
+    (search needs)
     returns-2
-    sub-all-digits
-    part-all-digits-start
-    part-all-digits-end
-    all-digits-requires
+    (search needs)
+    (search needs)
+    (search needs)
+    (search needs)
     returns-3)

@@ -23,26 +23,11 @@ abbrev μ-loop : tie.MeasureT-loop
 loop-holds : tie.Need-loop-holds Inv-loop μ-loop
 loop-holds c = (omega arith, ap (kept (isBlankIn page037)) (sym (take-length (c .before .args .bytes .now))))
 
-sub-is-blank-byte : tie.Need-sub-is-blank-byte Inv-loop μ-loop
-sub-is-blank-byte c = omega arith
-
-shared-slice-read-is-blank-byte : tie.Need-shared-slice-read-is-blank-byte Inv-loop μ-loop
-shared-slice-read-is-blank-byte c = omega arith
-
-is-blank-byte-requires : tie.Need-is-blank-byte-requires Inv-loop μ-loop
-is-blank-byte-requires c κs = search needs
-
 returns : tie.Need-returns Inv-loop μ-loop
 returns c =
     kept-stop (isBlankIn page037) _ _ _ (c .before .before .before .before .loop .inv .1) (c .before .before .before .loop-test .taken)
     (c .before .before .before .before .loop .inv .0)
     (sym (c .before .is-blank-byte .ensures) ∙ not-true _ (c .if1 .taken))
-
-sub-end : tie.Need-sub-end Inv-loop μ-loop
-sub-end c = omega arith
-
-loop-less : tie.Need-loop-less Inv-loop μ-loop
-loop-less c = omega arith
 
 loop-again : tie.Need-loop-again Inv-loop μ-loop
 loop-again c = (
@@ -62,11 +47,11 @@ kept-bytes-spec =
     Inv-loop
     μ-loop
     loop-holds
-    sub-is-blank-byte
-    shared-slice-read-is-blank-byte
-    is-blank-byte-requires
+    (search needs)
+    (search needs)
+    (search needs)
     returns
-    sub-end
-    loop-less
+    (search needs)
+    (search needs)
     loop-again
     returns-2)

@@ -23,22 +23,10 @@ abbrev μ-loop : tie.MeasureT-loop
 loop-holds : tie.Need-loop-holds Inv-loop μ-loop
 loop-holds c = (omega arith, omega arith)
 
-shared-slice-read-is-blank-byte : tie.Need-shared-slice-read-is-blank-byte Inv-loop μ-loop
-shared-slice-read-is-blank-byte c = omega arith
-
-is-blank-byte-requires : tie.Need-is-blank-byte-requires Inv-loop μ-loop
-is-blank-byte-requires c κs = search needs
-
 returns : tie.Need-returns Inv-loop μ-loop
 returns c =
     leading-stop (isBlankIn page037) _ _ _ (c .before .before .before .before .loop .inv .1) (c .before .before .before .loop-test .taken)
     (sym (c .before .is-blank-byte .ensures) ∙ not-true _ (c .if1 .taken))
-
-add-i : tie.Need-add-i Inv-loop μ-loop
-add-i c = omega arith
-
-loop-less : tie.Need-loop-less Inv-loop μ-loop
-loop-less c = omega arith
 
 loop-again : tie.Need-loop-again Inv-loop μ-loop
 loop-again c = (
@@ -57,10 +45,10 @@ leading-blanks-spec =
     Inv-loop
     μ-loop
     loop-holds
-    shared-slice-read-is-blank-byte
-    is-blank-byte-requires
+    (search needs)
+    (search needs)
     returns
-    add-i
-    loop-less
+    (search needs)
+    (search needs)
     loop-again
     returns-2)

@@ -4,14 +4,8 @@ use borrow.Author.Needs.{needs}
 use Rattle.types.proofs.is_known_sql_type.Statement.{statement}
 use Rattle.types.proofs.is_known_sql_type.Tie as tie
 
-sub-find-type : tie.Need-sub-find-type
-sub-find-type c = search needs
-
-find-type-requires : tie.Need-find-type-requires
-find-type-requires c κs = search needs
-
 returns : tie.Need-returns
 returns c = rw (c .before .find-type .ensures)
 
 pub is-known-sql-type-spec : {M : Type 1} → statement M
-is-known-sql-type-spec = tie.close (tie.spec sub-find-type find-type-requires returns)
+is-known-sql-type-spec = tie.close (tie.spec (search needs) (search needs) returns)
