@@ -1,8 +1,7 @@
 -- Page 037 passes both tests: computed over its table. What they give holds of any page that passes them.
 -- Assumes nothing.
 use mathlib.Core.Path.{_≡_, refl, sym, ap, subst, _∙_}
-use mathlib.Core.Bool.{Bool, true, false, _&&_, _||_}
-use mathlib.Core.List.{List}
+use mathlib.Core.Bool.{Bool, true, false}
 use Prim.Native.Nat.{ℕ, _<_}
 use native.Mathlib.Omega.{arith}
 use lib.Dec.{T, ltb, ltb→lt}
@@ -10,7 +9,7 @@ use lib.ListN.{getD, List·getD-eq-default}
 use borrow.Author.Tests.{ltb-true, ltb-false}
 use Rattle.search.specs.Search.{agree, below, pick}
 use Rattle.search.proofs.Tests.{agree-same, below-at}
-use Rattle.codepage.specs.Page.{Page, page037, table037, charIn}
+use Rattle.codepage.specs.Page.{Page, table037, charIn}
 use Rattle.codepage.specs.Rearranged.{rearranged}
 use Rattle.codepage.specs.Blank.{isBlank, isBlankIn, isBlankByte, blanksAsIn037}
 use Rattle.codepage.proofs.Rearranged.{long}

@@ -4,7 +4,7 @@ ghost use mathlib.Core.Path.{_≡_};
 ghost use Prim.Native.Nat.{_+_, _*_, _<_, _≤_};
 ghost use lib.ListN.{length};
 ghost use Rattle.field.specs.Numbers.{number, signed};
-ghost use Rattle.field.specs.Strings.{stringEnd, stringAt, stringsEnd, pairAt};
+ghost use Rattle.field.specs.Strings.{stringAt, stringsEnd, pairAt};
 
 pub enum ByteOrder {
     BigEndian,

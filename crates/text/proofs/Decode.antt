@@ -2,8 +2,8 @@
 -- Assumes nothing.
 use Prim.Native.Nat.{ℕ, _+_, _-_, _≤_, _<_}
 use native.Mathlib.Omega.{arith}
-use mathlib.Core.Path.{_≡_, refl, sym, ap, subst, _∙_}
-use mathlib.Core.List.{List, []}
+use mathlib.Core.Path.{_≡_, refl, sym, ap, _∙_}
+use mathlib.Core.List.{List}
 use mathlib.Core.Bool.{Bool, true, false}
 use lib.ListN.{length, take, drop, length-drop}
 use lib.Seq.{length-take-le}
@@ -16,7 +16,6 @@ use Rattle.codepage.specs.Blank.{isBlankIn, blanksAsIn037}
 use Rattle.codepage.proofs.Pages.{blank-low}
 use Rattle.text.specs.Chars.{isAscii}
 use Rattle.text.specs.Text.{textIs, emptyText, placed, leading, kept, textOn, textOf}
-use Rattle.text.specs.declared.Text.{Text}
 use Rattle.text.proofs.Trim.{kept-le, kept-some}
 
 -- bytes s[a .. a + n], as the code lends them

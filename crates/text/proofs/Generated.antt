@@ -10,9 +10,9 @@ use lib.ListN.{length, getD, take, drop, length-map, length-drop}
 use lib.Seq.{take-all}
 use lib.Dec.{T, eqb, ltb, leb}
 use borrow.Author.Tests.{lt-ltb, le-ltb, eq-eqb, ne-eqb}
-use Rattle.search.specs.Search.{pick, agree, below, each}
+use Rattle.search.specs.Search.{agree, each}
 use Rattle.search.proofs.Tests.{and-left, and-right, agree-same, below-at}
-use Rattle.codepage.specs.Page.{Page, page037, table037, charIn}
+use Rattle.codepage.specs.Page.{Page, table037, charIn}
 use Rattle.text.specs.Chars.{isDigit, charOf, chars, isDigitOf}
 use Rattle.text.specs.Generated.{startsCol, isGenerated, spells, countsAsIn037, spellsColAsIn037}
 

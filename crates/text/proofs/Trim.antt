@@ -3,13 +3,13 @@
 use Prim.Native.Nat.{ℕ, suc, _+_, _-_, _≤_, _<_}
 use native.Mathlib.Nat.{le-refl}
 use native.Mathlib.Omega.{arith}
-use mathlib.Core.Path.{_≡_, refl, sym, ap, _∙_}
+use mathlib.Core.Path.{_≡_, refl, sym, ap, subst, _∙_}
 use mathlib.Core.List.{List, [], _∷_, _++_}
 use mathlib.Core.Bool.{Bool, true, false, _&&_}
 use lib.ListN.{length, getD, take, drop, drop-of-length-le}
 use lib.Seq.{take-suc, length-take-le}
-use lib.Dec.{T, ltb, eqb, eqb·suc-zero}
-use borrow.Author.Tests.{eqb-true, eqb-false, lt-ltb}
+use lib.Dec.{T, eqb, eqb·suc-zero}
+use borrow.Author.Tests.{eqb-true}
 use Rattle.search.specs.Search.{pick, each}
 use Rattle.search.proofs.Each.{drop-next}
 use Rattle.text.specs.Text.{leading, kept}
@@ -84,7 +84,7 @@ kept-le f (x ∷ xs) = go (eqb (kept f xs) 0) (f x) (kept-le f xs)
 -- where every element that passes f passes g too, and not all pass g, something is kept
 pub kept-some : (f g : ℕ → Bool) → ((x : ℕ) → f x ≡ true → g x ≡ true) → (xs : List ℕ) → each g xs ≡ false → leading f xs < kept f xs
 unfolding leading kept
-kept-some f g h [] e = let z : true ≡ false = e in absurd (mathlib.Core.Path.subst T z tt)
+kept-some f g h [] e = absurd (subst T e tt)
 kept-some f g h (x ∷ xs) e = go (f x) refl (eqb (kept f xs) 0) refl (kept-some f g h xs)
   where
     go : (b : Bool) → f x ≡ b → (z : Bool) → eqb (kept f xs) 0 ≡ z → (each g xs ≡ false → leading f xs < kept f xs)

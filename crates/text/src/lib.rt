@@ -1,8 +1,7 @@
 // Texts of a reply: where they lie, and in which alphabet.
 ghost use mathlib.Core.Path.{_≡_};
 ghost use Prim.Native.Nat.{_+_, _<_, _≤_};
-ghost use lib.Dec.{eqb};
-ghost use lib.ListN.{length, getD};
+ghost use lib.ListN.{length};
 ghost use Rattle.search.specs.Search.{each};
 ghost use Rattle.codepage.specs.Page.{page037};
 ghost use Rattle.codepage.specs.Blank.{isBlankIn};
