@@ -1,22 +1,32 @@
--- Page 037 passes both tests: computed over its table. What they give holds of any page that passes them.
+-- Page 037 passes two tests, computed over its table: it is a rearrangement, and has its blanks at eight bytes below 80.
+-- What the tests give holds of any page that passes them.
 -- Assumes nothing.
 use mathlib.Core.Path.{_≡_, refl, sym, ap, subst, _∙_}
-use mathlib.Core.Bool.{Bool, true, false}
+use mathlib.Core.Bool.{Bool, true, false, _&&_, _||_}
+use mathlib.Core.List.{List}
 use Prim.Native.Nat.{ℕ, _<_}
 use native.Mathlib.Omega.{arith}
-use lib.Dec.{T, ltb, ltb→lt}
+use lib.Dec.{T, eqb, leb, ltb, ltb→lt}
 use lib.ListN.{getD, List·getD-eq-default}
 use borrow.Author.Tests.{ltb-true, ltb-false}
-use Rattle.search.specs.Search.{agree, below, pick}
-use Rattle.search.proofs.Tests.{agree-same, below-at}
+use Rattle.search.specs.Search.{below, pick}
+use Rattle.search.proofs.Tests.{agree, agree-same, below-at}
 use Rattle.codepage.specs.Page.{Page, table037, charIn}
 use Rattle.codepage.specs.Rearranged.{rearranged}
-use Rattle.codepage.specs.Blank.{isBlank, isBlankIn, isBlankByte, blanksAsIn037}
+use Rattle.codepage.specs.Blank.{isBlank, isBlankIn}
 use Rattle.codepage.proofs.Rearranged.{long}
 
 pub rearranged-037 : T (rearranged table037)
 unfolding rearranged table037
 rearranged-037 = tt
+
+-- the bytes whose characters trimming drops, in page 037
+abbrev pub isBlankByte : ℕ → Bool
+isBlankByte b = (leb 0x0B b && leb b 0x0D) || eqb b 0x05 || eqb b 0x15 || eqb b 0x25 || eqb b 0x40 || eqb b 0x41
+
+-- the table has its blanks at those bytes and nowhere else
+unfoldable pub blanksAsIn037 : List ℕ → Bool
+blanksAsIn037 t = below 256 (λ b. agree (isBlank (getD t b 0)) (isBlankByte b))
 
 pub blanks-037 : T (blanksAsIn037 table037)
 unfolding blanksAsIn037 table037

@@ -8,7 +8,7 @@ use Prim.Native.Nat.{ℕ, zero, suc, _<_}
 use native.Mathlib.Nat.{le-of-suc-le-suc, not-suc-le-zero, eq-or-lt-of-le}
 use lib.Dec.{T}
 use lib.ListN.{length, getD}
-use Rattle.search.specs.Search.{pick, agree, below, each, firstIn}
+use Rattle.search.specs.Search.{pick, below, each, firstIn}
 
 pub and-left : (a b : Bool) → T (a && b) → T a
 and-left true b t = tt
@@ -17,6 +17,12 @@ and-left false b t = t
 pub and-right : (a b : Bool) → T (a && b) → T b
 and-right true b t = t
 and-right false b t = absurd t
+
+-- two tests agree
+abbrev pub agree : Bool → Bool → Bool
+agree true b = b
+agree false true = false
+agree false false = true
 
 pub agree-same : (a b : Bool) → T (agree a b) → a ≡ b
 agree-same true true t = refl

@@ -8,12 +8,6 @@ abbrev pub pick : {A : Type 0} → Bool → A → A → A
 pick true x y = x
 pick false x y = y
 
--- two tests agree
-abbrev pub agree : Bool → Bool → Bool
-agree true b = b
-agree false true = false
-agree false false = true
-
 -- the test holds at every number below n
 abbrev pub below : ℕ → (ℕ → Bool) → Bool
 below zero f = true

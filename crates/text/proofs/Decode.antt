@@ -12,8 +12,8 @@ use borrow.Author.Tests.{eqb-true, ne-eqb, lt-ltb}
 use Rattle.search.specs.Search.{pick}
 use Rattle.codepage.specs.Page.{Page}
 use Rattle.codepage.specs.Rearranged.{rearranged}
-use Rattle.codepage.specs.Blank.{isBlankIn, blanksAsIn037}
-use Rattle.codepage.proofs.Pages.{blank-low}
+use Rattle.codepage.specs.Blank.{isBlankIn}
+use Rattle.codepage.proofs.Pages.{blanksAsIn037, blank-low}
 use Rattle.text.specs.Chars.{isAscii}
 use Rattle.text.specs.Text.{textIs, emptyText, placed, leading, kept, textOn, textOf}
 use Rattle.text.proofs.Trim.{kept-le, kept-some}

@@ -10,15 +10,27 @@ use lib.ListN.{length, getD, take, drop, length-map, length-drop}
 use lib.Seq.{take-all}
 use lib.Dec.{T, eqb, ltb, leb}
 use borrow.Author.Tests.{lt-ltb, le-ltb, eq-eqb, ne-eqb}
-use Rattle.search.specs.Search.{agree, each}
-use Rattle.search.proofs.Tests.{and-left, and-right, agree-same, below-at}
+use Rattle.search.specs.Search.{below, each}
+use Rattle.search.proofs.Tests.{agree, agree-same, below-at}
 use Rattle.codepage.specs.Page.{Page, table037, charIn}
 use Rattle.text.specs.Chars.{isDigit, charOf, chars, isDigitOf}
-use Rattle.text.specs.Generated.{startsCol, isGenerated, spells, countsAsIn037, spellsColAsIn037}
+use Rattle.text.specs.Generated.{startsCol, isGenerated}
 
-pub spells-037 : T (spellsColAsIn037 table037)
-unfolding spellsColAsIn037 table037
-spells-037 = tt
+-- the table has character c at byte b and nowhere else
+abbrev spells : List ℕ → ℕ → ℕ → Bool
+spells t c b = below 256 (λ k. agree (eqb (getD t k 0) c) (eqb k b))
+
+-- the table has C, O, L and the digits at the bytes where page 037 has them, and nowhere else
+pub record SpellsColAsIn037 (t : List ℕ) : Type 0 where
+  pub c : T (spells t 0x43 0xC3)
+  pub o : T (spells t 0x4F 0xD6)
+  pub l : T (spells t 0x4C 0xD3)
+  pub digits : T (below 256 (λ k. agree (isDigit (getD t k 0)) (leb 0xF0 k && leb k 0xF9)))
+
+-- page 037 does: computed
+pub spells-037 : SpellsColAsIn037 table037
+unfolding table037
+spells-037 = record { c = tt; o = tt; l = tt; digits = tt }
 
 -- ---- characters by bytes
 
@@ -33,19 +45,19 @@ charOf-other page a b e = let t : eqb a (page .alphabet) ≡ false = ne-eqb a (p
 pub digit-other : (page : Page) (a b : ℕ) → (a ≡ page .alphabet → ⊥) → isDigit b ≡ isDigitOf page a b
 digit-other page a b e = ap isDigit (charOf-other page a b e)
 
--- three characters in a row, each found equal by its byte
 getD-map : (f : ℕ → ℕ) (l : List ℕ) (k : ℕ) → k < length l → getD (map f l) k 0 ≡ f (getD l k 0)
 getD-map f [] k h = absurd (not-suc-le-zero h)
 getD-map f (x ∷ xs) zero h = refl
 getD-map f (x ∷ xs) (suc k) h = getD-map f xs k (le-of-suc-le-suc h)
 
+-- three characters in a row, each told by its byte
 three : (page : Page) (a : ℕ) (bs : List ℕ) → 3 < length bs → (p q r : Bool)
     → p ≡ eqb (charOf page a (getD bs 0 0)) 0x43 → q ≡ eqb (charOf page a (getD bs 1 0)) 0x4F → r ≡ eqb (charOf page a (getD bs 2 0)) 0x4C
     → (p && q && r) ≡ startsCol (chars page a bs)
 three page a bs h p q r x y z =
-    let u : getD (chars page a bs) 0 0 ≡ charOf page a (getD bs 0 0) = getD-map (charOf page a) bs 0 (omega arith) in
-    let v : getD (chars page a bs) 1 0 ≡ charOf page a (getD bs 1 0) = getD-map (charOf page a) bs 1 (omega arith) in
-    let w : getD (chars page a bs) 2 0 ≡ charOf page a (getD bs 2 0) = getD-map (charOf page a) bs 2 (omega arith) in
+    let u = getD-map (charOf page a) bs 0 (omega arith) in
+    let v = getD-map (charOf page a) bs 1 (omega arith) in
+    let w = getD-map (charOf page a) bs 2 (omega arith) in
     rw (u, v, w, x, y, z) refl
 
 pub col-other : (page : Page) (a : ℕ) (bs : List ℕ) → 3 < length bs → (a ≡ page .alphabet → ⊥)
@@ -57,34 +69,23 @@ col-other page a bs h e =
     at k c = ap (λ (x : ℕ). eqb x c) (charOf-other page a (getD bs k 0) e)
 
 -- a page that spells COL and the digits as page 037 does
-module _ (page : Page) (h : T (spellsColAsIn037 (page .table))) (a : ℕ) (e : a ≡ page .alphabet) where
-  in-page : (b : ℕ) → charIn page b ≡ charOf page a b
-  in-page b = charOf-page page a b e
-
+module _ (page : Page) (h : SpellsColAsIn037 (page .table)) (a : ℕ) (e : a ≡ page .alphabet) where
   pub digit-page : (b : ℕ) → b < 256 → (leb 0xF0 b && leb b 0xF9) ≡ isDigitOf page a b
-  unfolding spellsColAsIn037
-  digit-page b l =
-      let t : T (countsAsIn037 (page .table)) =
-      and-right (spells (page .table) 0x43 0xC3 && spells (page .table) 0x4F 0xD6 && spells (page .table) 0x4C 0xD3) (countsAsIn037 (page .table)) h in
+  digit-page b m =
       sym (agree-same (isDigit (charIn page b)) (leb 0xF0 b && leb b 0xF9)
-      (below-at 256 (λ k. agree (isDigit (getD (page .table) k 0)) (leb 0xF0 k && leb k 0xF9)) t b l))
-      ∙ ap isDigit (in-page b)
+      (below-at 256 (λ k. agree (isDigit (getD (page .table) k 0)) (leb 0xF0 k && leb k 0xF9)) (h .digits) b m))
+      ∙ ap isDigit (charOf-page page a b e)
 
   letter : (c b : ℕ) → T (spells (page .table) c b) → (k : ℕ) → k < 256 → eqb k b ≡ eqb (charOf page a k) c
-  letter c b t k l =
-      sym (agree-same (eqb (charIn page k) c) (eqb k b) (below-at 256 (λ j. agree (eqb (getD (page .table) j 0) c) (eqb j b)) t k l))
-      ∙ ap (λ (x : ℕ). eqb x c) (in-page k)
+  letter c b t k m =
+      sym (agree-same (eqb (charIn page k) c) (eqb k b) (below-at 256 (λ j. agree (eqb (getD (page .table) j 0) c) (eqb j b)) t k m))
+      ∙ ap (λ (x : ℕ). eqb x c) (charOf-page page a k e)
 
   pub col-page : (bs : List ℕ) → 3 < length bs → ((k : ℕ) → getD bs k 0 < 256)
       → (eqb (getD bs 0 0) 0xC3 && eqb (getD bs 1 0) 0xD6 && eqb (getD bs 2 0) 0xD3) ≡ startsCol (chars page a bs)
-  unfolding spellsColAsIn037
-  col-page bs m l =
-      let t = and-left (spells (page .table) 0x43 0xC3 && spells (page .table) 0x4F 0xD6 && spells (page .table) 0x4C 0xD3) (countsAsIn037 (page .table)) h in
-      let u = and-left (spells (page .table) 0x43 0xC3 && spells (page .table) 0x4F 0xD6) (spells (page .table) 0x4C 0xD3) t in
-      three page a bs m _ _ _
-      (letter 0x43 0xC3 (and-left (spells (page .table) 0x43 0xC3) (spells (page .table) 0x4F 0xD6) u) (getD bs 0 0) (l 0))
-      (letter 0x4F 0xD6 (and-right (spells (page .table) 0x43 0xC3) (spells (page .table) 0x4F 0xD6) u) (getD bs 1 0) (l 1))
-      (letter 0x4C 0xD3 (and-right (spells (page .table) 0x43 0xC3 && spells (page .table) 0x4F 0xD6) (spells (page .table) 0x4C 0xD3) t) (getD bs 2 0) (l 2))
+  col-page bs n m =
+      three page a bs n _ _ _ (letter 0x43 0xC3 (h .c) (getD bs 0 0) (m 0)) (letter 0x4F 0xD6 (h .o) (getD bs 1 0) (m 1))
+      (letter 0x4C 0xD3 (h .l) (getD bs 2 0) (m 2))
 
 -- ---- the ways out of `is_generated`
 
