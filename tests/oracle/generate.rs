@@ -17,11 +17,11 @@
 //! | scan       | 1450 |  150 |  150 |  600 | runs behind other bytes, equal, negative scores   |
 //! | two        |  550 |   50 |   50 |  100 | a list without names and another reply behind it  |
 //! | counts     |  450 |   46 |   46 |  100 | counts on the edges with few descriptors          |
-//! | many       |   20 |    4 |    4 |   20 | 256 to 514 descriptors                            |
+//! | many       |   40 |    4 |    4 |   40 | 256 to 514 descriptors                            |
 //! | candidates |  150 |  100 |  100 | 3300 | strings that the name scan takes, and repeats     |
 //! | layouts    |  250 |  100 |  100 | 2400 | layouts of any type, names in m, s and extension  |
 //! | sqlca      |  500 | 7030 | 6530 |  200 | a SQLCA alone, whole or cut, codes and messages   |
-//! | small      | 1257 | 1790 | 1790 | 1857 | every size from 0 to 64                           |
+//! | small      | 1237 | 1790 | 1790 | 1837 | every size from 0 to 64                           |
 //! | longest    |    3 |   10 |   10 |    3 | 65,534 to 65,536 bytes (slow in the Rust)         |
 //! | too long   |   20 |   20 |   20 |   20 | 65,537 to 65,540 bytes, and 70,000                |
 //!
@@ -30,6 +30,7 @@
 
 #[allow(dead_code)] // writes cases, reads none
 mod frame;
+mod groups;
 mod random;
 mod replies;
 mod texts;
@@ -63,12 +64,12 @@ const DAMAGED_MAKERS: usize = 10;
 
 /// The columns of the table above.
 const DESCRIPTION: [usize; 13] = [
-    3200, 1500, 650, 1450, 550, 450, 20, 150, 250, 500, 1257, 3, 20,
+    3200, 1500, 650, 1450, 550, 450, 40, 150, 250, 500, 1237, 3, 20,
 ];
 const STATUS: [usize; 13] = [400, 150, 150, 150, 50, 46, 4, 100, 100, 7030, 1790, 10, 20];
 const GROUP: [usize; 13] = [900, 150, 150, 150, 50, 46, 4, 100, 100, 6530, 1790, 10, 20];
 const NAMES: [usize; 13] = [
-    900, 300, 200, 600, 100, 100, 20, 3300, 2400, 200, 1857, 3, 20,
+    900, 300, 200, 600, 100, 100, 40, 3300, 2400, 200, 1837, 3, 20,
 ];
 
 fn reply(r: &mut Random, entry: u8) -> Vec<u8> {
