@@ -113,9 +113,9 @@ fn drop_flags(r: &mut Random, out: &mut Vec<u8>) {
     out.truncate(out.len() - r.between(0, flags.min(2)));
 }
 
-/// What may stand before a table or a run: the right groups, the shortest, or anything.
+/// What may stand before a table or a run: the right groups, the shortest, anything, nothing.
 fn front(r: &mut Random, out: &mut Vec<u8>) {
-    match r.weighted(&[50, 20, 20, 10]) {
+    match r.weighted(&[44, 18, 17, 9, 12]) {
         0 => out.extend_from_slice(&[0xFF, 0xFF]),
         1 => {
             status(r, out);
@@ -125,10 +125,11 @@ fn front(r: &mut Random, out: &mut Vec<u8>) {
             let count = r.between(0, 40);
             filler(r, out, count);
         }
-        _ => {
+        3 => {
             let count = r.between(0, 40);
             random_bytes(r, out, count);
         }
+        _ => {}
     }
 }
 
@@ -256,7 +257,7 @@ fn run(r: &mut Random, out: &mut Vec<u8>, order: Order, shape: &[Naming]) {
 pub fn scan(r: &mut Random) -> Vec<u8> {
     use Naming::{Generated, Named, Nameless};
     let mut out = Vec::new();
-    match r.weighted(&[40, 30, 30]) {
+    match r.weighted(&[35, 25, 40]) {
         0 => {
             out.extend_from_slice(&[0xFF, 0xFF]);
             let count = r.pick(&[0u64, 513, 0x0301, 0xFFFE]);
@@ -268,13 +269,14 @@ pub fn scan(r: &mut Random) -> Vec<u8> {
         }
         _ => front(r, &mut out),
     }
-    let shape: Vec<Naming> = match r.weighted(&[28, 12, 14, 5, 6, 5, 30]) {
+    let shape: Vec<Naming> = match r.weighted(&[26, 10, 12, 5, 6, 5, 10, 26]) {
         0 => vec![Named; r.between(2, 4)],
         1 => vec![Named],
         2 => vec![Named, Nameless, Nameless],
         3 => vec![Named, Nameless, Nameless, Nameless],
         4 => vec![Named, Generated],
         5 => vec![Nameless; r.between(2, 4)],
+        6 => r.pick(&[[Named, Nameless], [Nameless, Named]]).to_vec(),
         _ => (0..r.between(2, 6))
             .map(|_| r.pick(&[Named, Named, Named, Nameless, Generated]))
             .collect(),
@@ -294,8 +296,12 @@ pub fn scan(r: &mut Random) -> Vec<u8> {
         };
         run(r, &mut out, next, &shape);
     }
-    let extra = r.weighted(&[60, 20, 20]) * r.between(0, 12);
-    filler(r, &mut out, extra);
+    if r.chance(40) {
+        let extra = r.between(0, 24);
+        filler(r, &mut out, extra);
+    } else if r.chance(40) {
+        drop_flags(r, &mut out);
+    }
     out
 }
 
