@@ -33,6 +33,6 @@ table037 =
 abbrev pub page037 : Page
 page037 = record { table = table037; alphabet = 2 }
 
--- the character of a byte in a page
+-- the character of a byte in a page (01, Parts 1: a byte becomes one character)
 abbrev pub charIn : Page → ℕ → ℕ
 charIn page b = getD (page .table) b 0

@@ -8,7 +8,7 @@ use Rattle.search.specs.Search.{pick}
 use Rattle.field.specs.declared.ByteOrder.{ByteOrder}
 use Rattle.field.specs.declared.ByteOrder.the-variants.{BigEndian, LittleEndian}
 
--- the number of the w bytes of s at p: the first byte is the highest in BigEndian, the lowest in LittleEndian
+-- the w bytes of s at p as a number, the first byte the highest in BigEndian, the lowest in LittleEndian (DRDA V1: I2, I4, I8; 01: BE, LE)
 unfoldable pub number : ByteOrder → ℕ → List ℕ → ℕ → ℕ
 number order zero s p = 0
 number BigEndian (suc w) s p = getD s p 0 * 256 ^ w + number BigEndian w s (suc p)

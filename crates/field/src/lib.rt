@@ -137,7 +137,7 @@ pub fn string<'a>(walker: Walker<'a>) -> StringRead
 
 // The string at a position: what every group of strings is read by.
 pub fn read_string(reply: &[u8], offset: usize) -> StringRead
-    ensures { λ r. ⌜ r ≡ stringAt (now (reply .entry)) offset ⌝ }
+    ensures { λ read. ⌜ read ≡ stringAt (now (reply .entry)) offset ⌝ }
 {
     string(walker_at(reply, offset))
 }

@@ -1,4 +1,4 @@
--- Choosing, testing and searching: the words that the readers' definitions are made of.
+-- Choosing, testing and searching: the words that the readers' definitions are made of. No document defines them; each is its own source.
 use Prim.Native.Nat.{ℕ, zero, suc, _+_}
 use mathlib.Core.List.{List, [], _∷_}
 use mathlib.Core.Bool.{Bool, true, false, _&&_}

@@ -6,17 +6,17 @@ use lib.Dec.{leb, eqb, ltb}
 use Rattle.search.specs.Search.{pick, each}
 use Rattle.codepage.specs.Page.{Page, charIn}
 
--- bytes that are ASCII: all below 80 (01, Text)
+-- bytes that are ASCII: all below 80 (01, Parts 2: decode_text)
 unfoldable pub isAscii : List ℕ → Bool
 isAscii bs = each (λ b. ltb b 0x80) bs
 
--- an ASCII letter, digit, _ $ # or @ (01, Text)
+-- an ASCII letter, digit, _ $ # or @ (01, Parts 2: a name character)
 abbrev pub isNameChar : ℕ → Bool
 isNameChar c =
     (leb 0x41 c && leb c 0x5A) || (leb 0x61 c && leb c 0x7A) || (leb 0x30 c && leb c 0x39) || eqb c 0x5F || eqb c 0x24 || eqb c 0x23
     || eqb c 0x40
 
--- an ASCII digit
+-- an ASCII digit (01, Parts 2: COL and one or more digits)
 abbrev pub isDigit : ℕ → Bool
 isDigit c = leb 0x30 c && leb c 0x39
 
@@ -28,6 +28,6 @@ charOf page alphabet b = pick (eqb alphabet (page .alphabet)) (charIn page b) b
 abbrev pub chars : Page → ℕ → List ℕ → List ℕ
 chars page alphabet bs = map (charOf page alphabet) bs
 
--- a byte of a text that is a digit
+-- a byte of a text whose character is a digit (01, Parts 2)
 abbrev pub isDigitOf : Page → ℕ → ℕ → Bool
 isDigitOf page alphabet b = isDigit (charOf page alphabet b)
