@@ -2,6 +2,7 @@
 mod page037;
 
 ghost use mathlib.Core.Path.{_≡_};
+ghost use lib.ListN.{length, getD};
 ghost use Rattle.codepage.specs.Page.{page037, charIn};
 ghost use Rattle.codepage.specs.Blank.{isBlankIn};
 
@@ -10,6 +11,21 @@ pub fn ebcdic037_to_unicode(byte: u8) -> u8
     ensures { λ r. ⌜ r ≡ charIn page037 byte ⌝ }
 {
     page037::EBCDIC_037_TO_UNICODE[byte as usize]
+}
+
+// The table for loops: lent, it is copied once and not at every byte.
+pub fn ebcdic037_table() -> [u8; 256]
+    ensures { λ r. ⌜ r ≡ page037 .table ⌝ }
+{
+    page037::EBCDIC_037_TO_UNICODE
+}
+
+// The character of a byte by a table that was lent.
+pub fn char_by(table: &[u8], byte: u8) -> u8
+    requires { ⌜ length (now table) ≡ 256 ⌝ }
+    ensures { λ r. ⌜ r ≡ getD (now (table .entry)) byte 0 ⌝ }
+{
+    table[byte as usize]
 }
 
 // Whether trimming drops the byte's character. By the eight bytes themselves: naming the table would copy it at each call.

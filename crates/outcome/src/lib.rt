@@ -1,0 +1,51 @@
+// What an entry says of a call: that it accepted, or why it refused.
+ghost use mathlib.Core.Path.{_≡_};
+ghost use mathlib.Core.List.{[], _∷_};
+ghost use Prim.Native.Nat.{_+_};
+ghost use lib.ListN.{take};
+ghost use Rattle.outcome.specs.Refusal.{refusalOf, listed};
+
+// BufferTooShort and InvalidSqlcard are the Rust's refusals; the others are the project's own limits.
+pub enum Outcome {
+    Accepted,
+    // The reply ends early: how many bytes were expected, and how many there are.
+    BufferTooShort(usize, usize),
+    InvalidSqlcard,
+    ReplyTooLong,
+    // What was lent is too short: how many elements are needed.
+    RoomTooShort(usize),
+    OutsideReply,
+}
+
+// A refusal's number and its values in document 01's order: `count` of them, the others 0. Number 0 is none.
+pub struct Refusal {
+    pub number: u8,
+    pub count: u8,
+    pub first: usize,
+    pub second: usize,
+}
+
+fn refused(number: u8, count: u8, first: usize, second: usize) -> Refusal
+    ensures { λ r. ⌜ listed r ≡ take (count + 1) (number ∷ first ∷ second ∷ []) ⌝ }
+{
+    Refusal {
+        number,
+        count,
+        first,
+        second,
+    }
+}
+
+// The refusal in numbers, for those who print it or hand it on.
+pub fn refusal_of(outcome: Outcome) -> Refusal
+    ensures { λ r. ⌜ listed r ≡ refusalOf outcome ⌝ }
+{
+    match outcome {
+        Outcome::Accepted => refused(0, 0, 0, 0),
+        Outcome::BufferTooShort(expected, actual) => refused(2, 2, expected, actual),
+        Outcome::InvalidSqlcard => refused(3, 0, 0, 0),
+        Outcome::ReplyTooLong => refused(5, 0, 0, 0),
+        Outcome::RoomTooShort(needed) => refused(6, 1, needed, 0),
+        Outcome::OutsideReply => refused(7, 0, 0, 0),
+    }
+}
