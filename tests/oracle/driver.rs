@@ -1,10 +1,21 @@
 //! The oracle's driver: reads cases from standard input, asks the unchanged Rust, and writes
-//! one line of docs/ANSWERS.md for each, for the entries D, P, S, G and N.
+//! one line of docs/ANSWERS.md for each, for the entries D, P, S, s, G, N and M.
 //!
-//! Two things here are not the Rust's: refusal 5 (over 65,536 bytes), a limit of this project
-//! that the Rust does not have, and refusal 6, the size of the lists that the project's own
-//! program lends. A panic of the Rust gives the line `TRAP`; the one known is the overflow of
-//! the scan's score.
+//! What is not the Rust's but this project's own:
+//! - refusal 5 (over 65,536 bytes), a limit that the Rust does not have;
+//! - refusal 6, the size of the lists and of the message's room that a caller lends;
+//! - refusal 7, a message beyond the reply: the Rust has no entry for a message alone.
+//!
+//! What the Rust keeps to itself, and how it is asked:
+//! - M: the Rust's message decoder is private, so the bytes are put into a SQLCARD as its
+//!   SQLERRMSG_m, and the answer is the message that the Rust reads there. A string's length
+//!   has 16 bits; for 65,536 bytes, the only length above them that a reply allows,
+//!   `longest_text` asks more than once and joins the answers.
+//! - s: the Rust does not say where a message stands. The driver walks to the strings itself
+//!   (`message_strings`), asks as for M which text is not empty, and stops if that text is not
+//!   the message that the Rust read from the whole reply.
+//!
+//! A panic of the Rust gives the line `TRAP`; the one known is the overflow of the scan's score.
 
 #[allow(dead_code)] // reads cases, writes none
 mod frame;
@@ -61,7 +72,8 @@ fn run() -> io::Result<bool> {
     Ok(true)
 }
 
-/// Writes the answer to one case; false if there is no such entry, or no room for P's code point.
+/// Writes the answer to one case; false if there is no such entry, or too little in front of the
+/// reply: P's code point, M's three numbers.
 fn answer(entry: u8, payload: &[u8], line: &mut Vec<u8>) -> bool {
     match entry {
         b'D' => description(line, payload, || parse_sqldard_data(payload)),
@@ -91,6 +103,25 @@ fn answer(entry: u8, payload: &[u8], line: &mut Vec<u8>) -> bool {
                 },
             )
         }),
+        b's' => limited(line, payload, |line| {
+            ask(
+                line,
+                || Ok(message_place(payload, &parse_sqlcard_data(payload)?)),
+                |line, (place, length)| put(line, &format!("OK {place}/{length}")),
+            )
+        }),
+        b'M' => {
+            let Some((head, reply)) = payload.split_first_chunk::<10>() else {
+                return false;
+            };
+            let [a, b, c, d, e, f, g, h, i, j] = *head;
+            let place = u32::from_be_bytes([a, b, c, d]);
+            let length = u32::from_be_bytes([e, f, g, h]);
+            let room = u16::from_be_bytes([i, j]);
+            limited(line, reply, |line| {
+                message(line, reply, place, length, room)
+            });
+        }
         b'G' => limited(line, payload, |line| {
             ask(
                 line,
@@ -124,6 +155,146 @@ fn limited(line: &mut Vec<u8>, reply: &[u8], read: impl FnOnce(&mut Vec<u8>)) {
     } else {
         read(line);
     }
+}
+
+/// M: the text of `length` bytes from `place` on, if there is room for its characters.
+fn message(line: &mut Vec<u8>, reply: &[u8], place: u32, length: u32, room: u16) {
+    let end = u64::from(place) + u64::from(length);
+    if end > reply.len() as u64 {
+        return put(line, "E7");
+    }
+    let bytes = &reply[place as usize..end as usize];
+    ask(
+        line,
+        || Ok(message_text(bytes)),
+        |line, text| {
+            let needed = text.chars().count();
+            if needed > usize::from(room) {
+                return put(line, &format!("E6 {needed}"));
+            }
+            put(line, "OK ");
+            put_text(line, &text);
+        },
+    );
+}
+
+/// The text that the Rust makes of a message: it stands as SQLERRMSG_m in a SQLCARD of zeros
+/// with its extension whole and the other two strings empty.
+fn message_text(bytes: &[u8]) -> String {
+    let Ok(length) = u16::try_from(bytes.len()) else {
+        return longest_text(bytes);
+    };
+    let mut card = vec![0; 56]; // to the end of SQLRDBNAME, which is empty
+    card.extend_from_slice(&length.to_be_bytes());
+    card.extend_from_slice(bytes);
+    card.extend_from_slice(&[0, 0]); // SQLERRMSG_s, empty
+    match parse_sqlcard_data(&card) {
+        Ok(card) => card.sqlerrmc,
+        Err(error) => stop(&format!("the Rust refused the card for a message: {error}")),
+    }
+}
+
+/// The text of 65,536 bytes, one more than a string's length can say. The alphabet is the one
+/// that the Rust takes for other bytes of the same share of printables. Then the Rust is asked
+/// for one piece after the other, each between marks that make it take that alphabet: four
+/// marks to a byte are 80 percent by themselves if printable, and at most 20 are left if not.
+/// Counting, and joining the parts, is done here.
+fn longest_text(bytes: &[u8]) -> String {
+    const PIECE: usize = 8_192;
+    let counted = bytes.iter().filter(|byte| !matches!(**byte, 0x00 | 0xFF));
+    let printable = bytes.iter().filter(|byte| (0x20..=0x7E).contains(*byte));
+    let mark = if takes_ascii(printable.count(), counted.count()) {
+        b'x'
+    } else {
+        0xA7 // x in page 037
+    };
+    let marks = vec![mark; 2 * PIECE];
+    let read_marks = "x".repeat(2 * PIECE);
+    let mut text = String::new();
+    for piece in bytes.chunks(PIECE) {
+        let marked = message_text(&[&marks, piece, &marks].concat());
+        let part = marked.strip_prefix(&read_marks);
+        let Some(part) = part.and_then(|part| part.strip_suffix(&read_marks)) else {
+            stop("the marks around a piece of a message were not read as such");
+        };
+        // A blank that ends one part and one that starts the next are a single one.
+        let seam = if text.ends_with(' ') { " " } else { "" };
+        text.push_str(part.strip_prefix(seam).unwrap_or(part));
+    }
+    text.trim_matches(' ').to_string()
+}
+
+/// Whether the Rust takes ASCII where `printable` of the `counted` bytes (all but 00 and FF) are
+/// printable, up to 65,536. It is asked for bytes of that share; where it cannot be, because
+/// 65,536 cannot be halved along with an odd number, for one share below and one above it.
+fn takes_ascii(printable: usize, counted: usize) -> bool {
+    let takes = |printable: usize, counted: usize| {
+        let mut bytes = vec![b'x'; printable]; // another character in page 037
+        bytes.resize(counted, 0x01);
+        message_text(&bytes).starts_with('x')
+    };
+    if counted <= usize::from(u16::MAX) {
+        return takes(printable, counted);
+    }
+    if printable % 2 == 0 {
+        return takes(printable / 2, counted / 2);
+    }
+    let below = takes(printable - 1, counted - 1);
+    let above = takes(printable, counted - 1);
+    if below != above {
+        stop(&format!("no alphabet for {printable} of {counted} bytes"));
+    }
+    below
+}
+
+/// Place and length of the first raw string, m then s, whose text is not empty; else 0, 0.
+fn message_place(reply: &[u8], card: &SqlCard) -> (usize, usize) {
+    for (place, length) in message_strings(reply) {
+        let text = message_text(&reply[place..place + length]);
+        if !text.is_empty() {
+            if text != card.sqlerrmc {
+                stop("the message found is not the one that the Rust read");
+            }
+            return (place, length);
+        }
+    }
+    if !card.sqlerrmc.is_empty() {
+        stop("no message was found, but the Rust read one");
+    }
+    (0, 0)
+}
+
+/// Place and length of SQLERRMSG_m and SQLERRMSG_s in a reply that the Rust accepted; none where
+/// the card is null or its extension absent.
+fn message_strings(reply: &[u8]) -> Vec<(usize, usize)> {
+    const EXTENSION_FLAG: usize = 18;
+    const NUMBERS_END: usize = 19 + 24;
+    const WARNINGS_END: usize = NUMBERS_END + 11;
+    if reply.first().is_none_or(|flag| *flag == 0xFF)
+        || reply.get(EXTENSION_FLAG).is_none_or(|flag| *flag == 0xFF)
+        || reply.len() < NUMBERS_END
+    {
+        return Vec::new();
+    }
+    let mut at = if reply.len() >= WARNINGS_END {
+        WARNINGS_END
+    } else {
+        NUMBERS_END
+    };
+    let mut strings = Vec::new();
+    for _ in 0..3 {
+        let string = reply.get(at..).and_then(|rest| {
+            let (length, rest) = rest.split_first_chunk::<2>()?;
+            let length = usize::from(u16::from_be_bytes(*length));
+            (length <= rest.len()).then_some((at + 2, length))
+        });
+        let Some((place, length)) = string else {
+            stop("a string ends early in a reply that the Rust accepted");
+        };
+        strings.push((place, length));
+        at = place + length;
+    }
+    strings.split_off(1) // the first is SQLRDBNAME
 }
 
 /// Asks the Rust and writes what it gives, its refusal, or TRAP.

@@ -1,15 +1,18 @@
-//! Writes cases of docs/ANSWERS.md for the entries D, P, S, G and N, made from a seed.
+//! Writes cases of docs/ANSWERS.md for the entries D, P, S, s, G, N and M, made from a seed.
 //!
-//!     generate SEED COUNT [ENTRIES] [--from CASE] [--progress]
+//!     generate SEED COUNT [ENTRIES] [--edges] [--from CASE] [--progress]
 //!
-//! SEED is any number below 2^64. Each case is for one of ENTRIES (default DPSGN), all equally
-//! often. The same SEED and ENTRIES give the same cases on every machine; --from starts at a
-//! later case than 0, so that one case can be made again without those before it. Progress goes
-//! to standard error once a second if that is a terminal, or with --progress.
+//! SEED is any number below 2^64. Each case is for one of ENTRIES (some of DPSGNMs, default
+//! DPSGN), all equally often. The same SEED, ENTRIES and --edges give the same cases on every
+//! machine; --from starts at a later case than 0, so that one case can be made again without
+//! those before it. Progress goes to standard error once a second if that is a terminal, or with
+//! --progress.
 //!
-//! What a case holds, in 10,000 of each entry:
+//! With --edges half of the cases of S and G are SQLCAs on the edges of their fields (cards.rs),
+//! as half of those of s always are. It is an option so that old seeds keep their cases. What
+//! the others hold, in 10,000 of each entry:
 //!
-//! | family     | D, P |    S |    G |    N | replies                                           |
+//! | family     | D, P | S, s |    G |    N | replies                                           |
 //! |------------|-----:|-----:|-----:|-----:|---------------------------------------------------|
 //! | standard   | 3200 |  400 |  900 |  900 | every group present or absent, BE and LE          |
 //! | compact    | 1500 |  150 |  150 |  300 | compact tables, with and without FF, names to 65  |
@@ -25,12 +28,18 @@
 //! | longest    |    3 |   10 |   10 |    3 | 65,534 to 65,536 bytes (slow in the Rust)         |
 //! | too long   |   20 |   20 |   20 |   20 | 65,537 to 65,540 bytes, and 70,000                |
 //!
-//! Of all but the last three, 35 in 100 are damaged by one to three edits. P has the right code
-//! point in 92 of 100.
+//! Of all but the last three, 35 in 100 are damaged by one to three edits, and so are 15 in 100 of
+//! the SQLCAs on the edges. P has the right code point in 92 of 100.
+//!
+//! M has a message of its own making (messages.rs): in 10,000, 9,930 of 0 to some 300 bytes, 40
+//! longer ones, 10 in replies up to the limit, 20 in replies beyond it. A quarter asks for
+//! another part of the reply, at its end or beyond it; rooms are about the text's length.
 
+mod cards;
 #[allow(dead_code)] // writes cases, reads none
 mod frame;
 mod groups;
+mod messages;
 mod random;
 mod replies;
 mod texts;
@@ -40,8 +49,11 @@ use std::io::{self, BufWriter, IsTerminal, Write};
 use std::process::ExitCode;
 use std::time::{Duration, Instant};
 
-const ENTRIES: &str = "DPSGN";
+const ENTRIES: &str = "DPSGNMs";
+const DEFAULT_ENTRIES: &str = "DPSGN";
 const SQLDARD: u16 = 0x2411;
+
+const USAGE: &str = "usage: generate SEED COUNT [ENTRIES] [--edges] [--from CASE] [--progress]";
 
 type Maker = fn(&mut Random) -> Vec<u8>;
 
@@ -72,9 +84,21 @@ const NAMES: [usize; 13] = [
     900, 300, 200, 600, 100, 100, 40, 3300, 2400, 200, 1837, 3, 20,
 ];
 
-fn reply(r: &mut Random, entry: u8) -> Vec<u8> {
+fn reply(r: &mut Random, entry: u8, edges: bool) -> Vec<u8> {
+    let edges = match entry {
+        b's' => true,
+        b'S' | b'G' => edges,
+        _ => false,
+    };
+    if edges && r.chance(50) {
+        let mut reply = cards::edges(r);
+        if r.chance(15) {
+            replies::damage(r, &mut reply);
+        }
+        return reply;
+    }
     let weights = match entry {
-        b'S' => &STATUS,
+        b'S' | b's' => &STATUS,
         b'G' => &GROUP,
         b'N' => &NAMES,
         _ => &DESCRIPTION,
@@ -91,10 +115,12 @@ fn reply(r: &mut Random, entry: u8) -> Vec<u8> {
     reply
 }
 
-fn case(r: &mut Random, entries: &[u8]) -> (u8, Vec<u8>) {
-    let entry = r.pick(entries);
-    if entry != b'P' {
-        return (entry, reply(r, entry));
+fn case(r: &mut Random, request: &Request) -> (u8, Vec<u8>) {
+    let entry = r.pick(&request.entries);
+    match entry {
+        b'M' => return (entry, messages::case(r)),
+        b'P' => {}
+        _ => return (entry, reply(r, entry, request.edges)),
     }
     let code_point = if r.chance(92) {
         SQLDARD
@@ -103,7 +129,7 @@ fn case(r: &mut Random, entries: &[u8]) -> (u8, Vec<u8>) {
         r.pick(&[0x2408, 0x2410, 0x1124, 0x0000, 0xFFFF, other])
     };
     let mut payload = code_point.to_be_bytes().to_vec();
-    payload.append(&mut reply(r, entry));
+    payload.append(&mut reply(r, entry, request.edges));
     (entry, payload)
 }
 
@@ -111,17 +137,20 @@ struct Request {
     seed: u64,
     count: u64,
     entries: Vec<u8>,
+    edges: bool,
     from: u64,
     progress: bool,
 }
 
 fn request(arguments: impl Iterator<Item = String>) -> Result<Request, String> {
     let mut plain = Vec::new();
+    let mut edges = false;
     let mut from = 0;
     let mut progress = io::stderr().is_terminal();
     let mut arguments = arguments;
     while let Some(argument) = arguments.next() {
         match argument.as_str() {
+            "--edges" => edges = true,
             "--progress" => progress = true,
             "--from" => from = whole(&arguments.next().ok_or("--from needs a case number")?)?,
             option if option.starts_with('-') => return Err(format!("unknown option {option}")),
@@ -129,9 +158,9 @@ fn request(arguments: impl Iterator<Item = String>) -> Result<Request, String> {
         }
     }
     let (seed, count, entries) = match plain.as_slice() {
-        [seed, count] => (seed, count, ENTRIES),
+        [seed, count] => (seed, count, DEFAULT_ENTRIES),
         [seed, count, entries] => (seed, count, entries.as_str()),
-        _ => return Err("usage: generate SEED COUNT [ENTRIES] [--from CASE] [--progress]".into()),
+        _ => return Err(USAGE.into()),
     };
     if entries.is_empty() || !entries.chars().all(|entry| ENTRIES.contains(entry)) {
         return Err(format!("entries are some of {ENTRIES}, not {entries:?}"));
@@ -140,6 +169,7 @@ fn request(arguments: impl Iterator<Item = String>) -> Result<Request, String> {
         seed: whole(seed)?,
         count: whole(count)?,
         entries: entries.as_bytes().to_vec(),
+        edges,
         from,
         progress,
     })
@@ -155,7 +185,7 @@ fn run(request: &Request) -> io::Result<()> {
     let mut said = Instant::now();
     for done in 0..request.count {
         let mut r = Random::of_case(request.seed, request.from.wrapping_add(done));
-        let (entry, payload) = case(&mut r, &request.entries);
+        let (entry, payload) = case(&mut r, request);
         frame::write(&mut output, entry, &payload)?;
         if request.progress && done % 1024 == 0 && said.elapsed() >= Duration::from_secs(1) {
             eprintln!("generate: {done} of {}", request.count);

@@ -6,7 +6,7 @@ const NAME_CHARACTERS: &[u8] =
     b"ABCDEFGHIJKLMNOPQRSTUVWXYZabcdefghijklmnopqrstuvwxyz0123456789_$#@";
 
 /// The bytes of page 037 that trimming drops, one for each of the eight blanks.
-const BLANKS_037: [u8; 8] = [0x05, 0x25, 0x0B, 0x0C, 0x0D, 0x40, 0x15, 0x41];
+pub const BLANKS_037: [u8; 8] = [0x05, 0x25, 0x0B, 0x0C, 0x0D, 0x40, 0x15, 0x41];
 
 /// A name character of ASCII in page 037.
 fn to_037(character: u8) -> u8 {

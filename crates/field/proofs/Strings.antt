@@ -32,7 +32,7 @@ module _ (s : List ℕ) (p : ℕ) where
       unread (p + 2) (rw (le-ltb (length s) p l, lt-ltb (length s) (p + 2) k) refl) k
 
   module _ (l : p ≤ length s) (h : 2 ≤ length s - p) (n : ℕ) (e : n ≡ number BigEndian 2 s p) where
-    end-known : stringEnd s p ≡ p + 2 + n
+    pub end-known : stringEnd s p ≡ p + 2 + n
     unfolding stringEnd
     end-known =
         let k : p + 2 ≤ length s = omega arith in

@@ -1,3 +1,4 @@
 pub mod Tests
 pub mod Each
 pub mod First
+pub mod Over

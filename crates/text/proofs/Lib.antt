@@ -2,3 +2,4 @@ pub mod Trim
 pub mod Decode
 pub mod Generated
 pub mod Cases
+pub mod Windows

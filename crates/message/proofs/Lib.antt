@@ -1,0 +1,5 @@
+pub mod Ascii
+pub mod Squeezed
+pub mod Text
+pub mod Answer
+pub mod Cases

@@ -1,0 +1,3 @@
+pub mod Message
+pub mod Squeezed
+pub mod Answer

@@ -1,0 +1,5 @@
+pub mod Orders
+pub mod Extended
+pub mod Messages
+pub mod Local
+pub mod Cases

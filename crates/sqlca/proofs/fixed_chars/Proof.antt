@@ -1,0 +1,35 @@
+-- Printable bytes are copied, others mapped.
+-- Assumes nothing.
+use mathlib.Core.Path.{sym, _∙_}
+use borrow.Author.Needs.{needs}
+use Rattle.codepage.specs.Page.{page037}
+use Rattle.sqlca.proofs.Orders.{fixed-printable, fixed-mapped, copied}
+use Rattle.sqlca.proofs.fixed_chars.Statement.{statement}
+use Rattle.sqlca.proofs.fixed_chars.Tie as tie
+
+returns : tie.Need-returns
+returns c =
+    let tested = c .before .before .before .before in
+    let start = tested .before .before .before .before in
+    c .before .before .copy .ensures .1
+    ∙ (copied (start .args .bytes .now) (start .args .characters .now) (start .pre)
+    ∙ sym (fixed-printable page037 (start .args .bytes .now) (sym (tested .before .all-printable .ensures) ∙ tested .if1 .taken)))
+
+returns-2 : tie.Need-returns-2
+returns-2 c =
+    let tested = c .before .before .before .before in
+    let start = tested .before .before .before .before in
+    c .before .before .convert .ensures
+    ∙ sym (fixed-mapped page037 (start .args .bytes .now) (sym (tested .before .all-printable .ensures) ∙ tested .if1 .left))
+
+pub fixed-chars-spec : {M : Type 1} → statement M
+fixed-chars-spec =
+    tie.close
+    (tie.spec
+    (search needs)
+    (search needs)
+    (search needs)
+    (search needs)
+    returns
+    (search needs)
+    returns-2)

@@ -1,0 +1,14 @@
+-- The tests are the definition's.
+-- Assumes nothing.
+use mathlib.Core.Path.{refl}
+use borrow.Author.Needs.{needs}
+use Rattle.sqlca.specs.Extension.{isExtended}
+use Rattle.sqlca.proofs.is_extended.Statement.{statement}
+use Rattle.sqlca.proofs.is_extended.Tie as tie
+
+returns : tie.Need-returns
+unfolding isExtended
+returns c = refl
+
+pub is-extended-spec : {M : Type 1} → statement M
+is-extended-spec = tie.close (tie.spec (search needs) returns)

@@ -1,0 +1,4 @@
+pub mod Cards
+pub mod Alones
+pub mod Groups
+pub mod Cases

@@ -1,0 +1,4 @@
+pub mod Card
+pub mod Alone
+pub mod Group
+pub mod Sqldhgrp
