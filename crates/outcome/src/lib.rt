@@ -3,7 +3,7 @@ ghost use mathlib.Core.Path.{_≡_};
 ghost use mathlib.Core.List.{[], _∷_};
 ghost use Prim.Native.Nat.{_+_};
 ghost use lib.ListN.{take};
-ghost use Rattle.outcome.specs.Refusal.{refusalOf, listed};
+ghost use Rattle.outcome.specs.Refusal.{refusalOf, isRefused, listed};
 
 // BufferTooShort and InvalidSqlcard are the Rust's refusals; the others are the project's own limits.
 pub enum Outcome {
@@ -48,4 +48,10 @@ pub fn refusal_of(outcome: Outcome) -> Refusal
         Outcome::RoomTooShort(needed) => refused(6, 1, needed, 0),
         Outcome::OutsideReply => refused(7, 0, 0, 0),
     }
+}
+
+pub fn is_refused(outcome: Outcome) -> bool
+    ensures { λ r. ⌜ r ≡ isRefused (refusalOf outcome) ⌝ }
+{
+    refusal_of(outcome).number != 0
 }

@@ -8,10 +8,11 @@ use Rattle.sqlca.proofs.message_at.Statement.{statement}
 use Rattle.sqlca.proofs.message_at.Tie as tie
 
 string-has-text-requires : tie.Need-string-has-text-requires
-string-has-text-requires c κs = (
-  c .before .before .before .before .pre,
-  m-inside page037 _ _ _ _ _ (c .before .before .read-string .ensures) (c .before .read-string2 .ensures) (c .read-string3 .ensures),
-)
+string-has-text-requires c κs =
+    let x = c .before .before .read-string .ensures in
+    let y = c .before .read-string2 .ensures in
+    let z = c .read-string3 .ensures in
+    search (needs, m-inside page037 _ _ _ _ _ x y z, t-inside page037 _ _ _ _ _ x y z)
 
 returns : tie.Need-returns
 returns c =

@@ -1,0 +1,68 @@
+// Answers cases: reads them from standard input and writes a line for each, as docs/ANSWERS.md says.
+mod cards;
+mod input;
+mod status;
+mod texts;
+
+ghost use Prim.Native.Nat.{_≤_};
+ghost use lib.ListN.{length};
+use input::Next;
+
+// What one case is answered: an entry is a function and an arm.
+fn put_answer(out: &mut [u8], used: usize, entry: u8, payload: &[u8], room: &mut [u8]) -> usize
+    requires { ⌜ used ≤ length (now out) ⌝ }
+    ensures { λ r. ⌜ r ≤ length (now (out .exit)) ⌝ }
+{
+    match entry {
+        b'S' => cards::put_status_alone(out, used, payload, room),
+        b's' => cards::put_message_place(out, used, payload),
+        b'G' => cards::put_group(out, used, payload, room),
+        b'M' => texts::put_message_text(out, used, payload, room),
+        _ => output::put_bad(out, used),
+    }
+}
+
+// Its line. After BAD the output is closed, and no line's end is put.
+fn put_line(out: &mut [u8], used: usize, entry: u8, payload: &[u8], room: &mut [u8]) -> usize
+    requires { ⌜ used ≤ length (now out) ⌝ }
+    ensures { λ r. ⌜ r ≤ length (now (out .exit)) ⌝ }
+{
+    let next = put_answer(out, used, entry, payload, room);
+    output::put_byte(out, next, b'\n')
+}
+
+// The next case, read and answered. Where the input ends, the output is closed.
+fn one_case(out: &mut [u8], used: usize, payload: &mut [u8], room: &mut [u8]) -> usize
+    requires { ⌜ used ≤ length (now out) ⌝ }
+    ensures { λ r. ⌜ r ≤ length (now (out .exit)) ⌝ }
+{
+    match input::next_case(payload) {
+        Next::End => output::close(out, used),
+        Next::Bad => output::put_bad(out, used),
+        Next::Case(entry, count) => {
+            if payload.len() < count {
+                return output::put_bad(out, used);
+            }
+            put_line(out, used, entry, &payload[0..count], room)
+        }
+    }
+}
+
+// Case after case, until the output is closed.
+fn all_cases(out: &mut [u8], payload: &mut [u8], room: &mut [u8]) {
+    let mut used = 0;
+    let mut turns = u64::MAX;
+    while turns > 0 && used < out.len() {
+        used = one_case(out, used, payload, room);
+        turns -= 1;
+    }
+}
+
+fn main() {
+    let mut out = [0u8; 65_536];
+    // The longest payload that is taken. Q and R, once they are here, need 420,000.
+    let mut payload = [0u8; 70_000];
+    // What M lends, and where a status record's message is written to be printed.
+    let mut room = [0u8; 65_536];
+    all_cases(&mut out, &mut payload, &mut room);
+}
