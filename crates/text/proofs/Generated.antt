@@ -1,7 +1,6 @@
 -- Generated names by bytes: page 037 passes the test, and what the test gives of any page that passes it; the ways out of `is_generated`.
 -- Assumes nothing.
 use Prim.Native.Nat.{ℕ, zero, suc, _-_, _≤_, _<_}
-use native.Mathlib.Nat.{le-of-suc-le-suc, not-suc-le-zero}
 use native.Mathlib.Omega.{arith}
 use mathlib.Core.Path.{_≡_, refl, sym, ap, _∙_}
 use mathlib.Core.List.{List, [], _∷_, map}
@@ -11,6 +10,7 @@ use lib.Seq.{take-all}
 use lib.Dec.{T, eqb, ltb, leb}
 use borrow.Author.Tests.{lt-ltb, le-ltb, eq-eqb, ne-eqb}
 use Rattle.search.specs.Search.{below, each}
+use Rattle.search.proofs.Over.{getD-map}
 use Rattle.search.proofs.Tests.{agree, agree-same, below-at}
 use Rattle.codepage.specs.Page.{Page, table037, charIn}
 use Rattle.text.specs.Chars.{isDigit, charOf, chars, isDigitOf}
@@ -45,19 +45,14 @@ charOf-other page a b e = let t : eqb a (page .alphabet) ≡ false = ne-eqb a (p
 pub digit-other : (page : Page) (a b : ℕ) → (a ≡ page .alphabet → ⊥) → isDigit b ≡ isDigitOf page a b
 digit-other page a b e = ap isDigit (charOf-other page a b e)
 
-getD-map : (f : ℕ → ℕ) (l : List ℕ) (k : ℕ) → k < length l → getD (map f l) k 0 ≡ f (getD l k 0)
-getD-map f [] k h = absurd (not-suc-le-zero h)
-getD-map f (x ∷ xs) zero h = refl
-getD-map f (x ∷ xs) (suc k) h = getD-map f xs k (le-of-suc-le-suc h)
-
 -- three characters in a row, each told by its byte
 three : (page : Page) (a : ℕ) (bs : List ℕ) → 3 < length bs → (p q r : Bool)
     → p ≡ eqb (charOf page a (getD bs 0 0)) 0x43 → q ≡ eqb (charOf page a (getD bs 1 0)) 0x4F → r ≡ eqb (charOf page a (getD bs 2 0)) 0x4C
     → (p && q && r) ≡ startsCol (chars page a bs)
 three page a bs h p q r x y z =
-    let u = getD-map (charOf page a) bs 0 (omega arith) in
-    let v = getD-map (charOf page a) bs 1 (omega arith) in
-    let w = getD-map (charOf page a) bs 2 (omega arith) in
+    let u = getD-map (charOf page a) bs 0 0 0 (omega arith) in
+    let v = getD-map (charOf page a) bs 1 0 0 (omega arith) in
+    let w = getD-map (charOf page a) bs 2 0 0 (omega arith) in
     rw (u, v, w, x, y, z) refl
 
 pub col-other : (page : Page) (a : ℕ) (bs : List ℕ) → 3 < length bs → (a ≡ page .alphabet → ⊥)
