@@ -1,4 +1,7 @@
 // Cases on standard input: a byte for the entry, a 32-bit big-endian length, and that many bytes, the payload.
+ghost use mathlib.Core.Path.{_≡_};
+ghost use Prim.Native.Nat.{_≤_};
+ghost use lib.ListN.{length};
 use field::ByteOrder;
 use libc::STDIN_FILENO;
 
@@ -7,30 +10,54 @@ pub enum Next {
     End,
     // A case that ends early, or whose payload is too long.
     Bad,
-    // The entry, and the length of its payload.
-    Case(u8, usize),
+    Case,
 }
 
-fn read_payload(entry: u8, count: usize, payload: &mut [u8]) -> Next {
+// The entry of a case and the length of its payload; both 0 where there is none.
+pub struct CaseRead {
+    pub next: Next,
+    pub entry: u8,
+    pub count: usize,
+}
+
+fn no_case(next: Next) -> CaseRead
+    ensures { λ r. ⌜ r .count ≡ 0 ⌝ }
+{
+    CaseRead {
+        next,
+        entry: 0,
+        count: 0,
+    }
+}
+
+fn read_payload(entry: u8, count: usize, payload: &mut [u8]) -> CaseRead
+    ensures { λ r. ⌜ r .count ≤ length (now (payload .exit)) ⌝ }
+{
     if payload.len() < count {
-        return Next::Bad;
+        return no_case(Next::Bad);
     }
     let got = io::read_full(STDIN_FILENO, &mut payload[0..count]);
     if got < count {
-        return Next::Bad;
+        return no_case(Next::Bad);
     }
-    Next::Case(entry, count)
+    CaseRead {
+        next: Next::Case,
+        entry,
+        count,
+    }
 }
 
 // Reads the next case; its payload stands at the start of `payload`.
-pub fn next_case(payload: &mut [u8]) -> Next {
+pub fn next_case(payload: &mut [u8]) -> CaseRead
+    ensures { λ r. ⌜ r .count ≤ length (now (payload .exit)) ⌝ }
+{
     let mut head = [0u8; 5];
     let got = io::read_full(STDIN_FILENO, &mut head);
     if got == 0 {
-        return Next::End;
+        return no_case(Next::End);
     }
     if got < 5 {
-        return Next::Bad;
+        return no_case(Next::Bad);
     }
     let count = field::u32_at(&head, 1, ByteOrder::BigEndian) as usize;
     read_payload(head[0], count, payload)

@@ -36,15 +36,14 @@ fn one_case(out: &mut [u8], used: usize, payload: &mut [u8], room: &mut [u8]) ->
     requires { ⌜ used ≤ length (now out) ⌝ }
     ensures { λ r. ⌜ r ≤ length (now (out .exit)) ⌝ }
 {
-    match input::next_case(payload) {
+    let case = input::next_case(payload);
+    let entry = case.entry;
+    let count = case.count;
+    let next = case.next;
+    match next {
         Next::End => output::close(out, used),
         Next::Bad => output::put_bad(out, used),
-        Next::Case(entry, count) => {
-            if payload.len() < count {
-                return output::put_bad(out, used);
-            }
-            put_line(out, used, entry, &payload[0..count], room)
-        }
+        Next::Case => put_line(out, used, entry, &payload[0..count], room),
     }
 }
 
