@@ -1,4 +1,5 @@
--- Runs of blanks as one 0x20, and none at the ends (01, Answers: message text).
+-- Runs of blanks as one 0x20, and none at the ends (01, Answers: message text). proofs/Words.antt shows that this is to split the characters
+-- at blanks and to join the words with one 0x20 between, as the Rust does.
 use mathlib.Core.Bool.{Bool, true, false}
 use mathlib.Core.List.{List, [], _∷_, _++_}
 use Prim.Native.Nat.{ℕ}

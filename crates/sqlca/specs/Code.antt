@@ -1,4 +1,6 @@
 -- SQLCODE, SQLSTATE and SQLERRPROC of a reply that starts with a SQLCAGRP (DRDA V1: SQLCAGRP; 01, Layouts and SQLCODE).
+-- By bytes: flag 0; SQLCODE 1 to 4; SQLSTATE 5 to 9; SQLERRPROC 10 to 17; SQLCAXGRP's flag 18, its six numbers 19 to 42, its eleven
+-- warnings 43 to 53, and its three strings from 54 on.
 use mathlib.Core.Bool.{Bool, not, _&&_}
 use mathlib.Core.List.{List, map}
 use Prim.Native.Nat.{ℕ}

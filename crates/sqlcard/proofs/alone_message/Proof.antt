@@ -1,6 +1,7 @@
 -- None without an extension, else behind the warnings, or behind the numbers where there are none.
 -- Assumes nothing.
 use mathlib.Core.Path.{sym, _∙_}
+use native.Mathlib.Omega.{arith}
 use borrow.Author.Needs.{needs}
 use borrow.Author.Tests.{not-true, not-false}
 use Rattle.codepage.specs.Page.{page037}
@@ -15,7 +16,9 @@ returns-2 : tie.Need-returns-2
 returns-2 c =
     let tested = c .before .before in
     c .message-at .ensures
-    ∙ sym (message-behind-warnings page037 _ (sym (tested .before .is-extended .ensures) ∙ not-false _ (tested .if1 .left)) (c .before .if2 .taken))
+    ∙ sym (message-behind-warnings page037 (tested .before .before .before .args .reply .now)
+    (sym (tested .before .is-extended .ensures) ∙ not-false _ (tested .if1 .left))
+    (omega (arith, c .before .if2 .taken)))
 
 returns-3 : tie.Need-returns-3
 returns-3 c =

@@ -1,6 +1,7 @@
 -- Each way out is a law of Alones: refusal and card together.
 -- Assumes nothing.
 use mathlib.Core.Path.{ap, _∙_}
+use native.Mathlib.Omega.{arith}
 use borrow.Author.Needs.{needs}
 use Rattle.codepage.specs.Page.{page037}
 use Rattle.outcome.specs.Refusal.{refusalOf}
@@ -23,14 +24,21 @@ returns-2 c =
 returns-3 : tie.Need-returns-3
 returns-3 c =
     let null = c .before .before in
-    let a = alone-short page037 _ (null .before .before .if1 .left) (tested (null .before .before .before .before .args .reply .now) _ (null .before .starts-null .ensures) ∙ null .if2 .left) (c .before .if3 .taken) in
+    let s = null .before .before .before .before .args .reply .now in
+    let a =
+    alone-short page037 s (null .before .before .if1 .left) (tested s _ (null .before .starts-null .ensures) ∙ null .if2 .left)
+    (omega (arith, c .before .if3 .taken)) in
     (ap refusalOf (c .without-card3 .ensures .0) ∙ a .0, c .without-card3 .ensures .1 ∙ a .1)
 
 returns-4 : tie.Need-returns-4
 returns-4 c =
     let message = c .before .before in
     let null = message .before .before in
-    let a = alone-cut page037 _ (null .before .before .if1 .left) (tested (null .before .before .before .before .args .reply .now) _ (null .before .starts-null .ensures) ∙ null .if2 .left) (message .before .if3 .left) _
+    let s = null .before .before .before .before .args .reply .now in
+    let a =
+    alone-cut page037 s (null .before .before .if1 .left) (tested s _ (null .before .starts-null .ensures) ∙ null .if2 .left)
+    (message .before .if3 .left)
+    _
     (message .alone-message .ensures)
     (c .before .if4 .taken) in
     (ap refusalOf (c .without-card4 .ensures .0) ∙ a .0, c .without-card4 .ensures .1 ∙ a .1)
@@ -39,7 +47,11 @@ returns-5 : tie.Need-returns-5
 returns-5 c =
     let message = c .before .before in
     let null = message .before .before in
-    let a = alone-told page037 _ (null .before .before .if1 .left) (tested (null .before .before .before .before .args .reply .now) _ (null .before .starts-null .ensures) ∙ null .if2 .left) (message .before .if3 .left) _
+    let s = null .before .before .before .before .args .reply .now in
+    let a =
+    alone-told page037 s (null .before .before .if1 .left) (tested s _ (null .before .starts-null .ensures) ∙ null .if2 .left)
+    (message .before .if3 .left)
+    _
     (message .alone-message .ensures)
     (c .before .if4 .left) in
     (a .0, c .card-with .ensures ∙ a .1)
