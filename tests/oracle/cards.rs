@@ -1,4 +1,4 @@
-//! SQLCAs on the edges of each field: for s, and with --edges for S and G.
+//! SQLCAs on the edges of each field, for S, s and G.
 
 use crate::groups::{filler, number, order, present, random_bytes, string};
 use crate::messages;

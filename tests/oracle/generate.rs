@@ -1,16 +1,14 @@
 //! Writes cases of docs/ANSWERS.md for the entries D, P, S, s, G, N and M, made from a seed.
 //!
-//!     generate SEED COUNT [ENTRIES] [--edges] [--from CASE] [--progress]
+//!     generate SEED COUNT [ENTRIES] [--from CASE] [--progress]
 //!
 //! SEED is any number below 2^64. Each case is for one of ENTRIES (some of DPSGNMs, default
-//! DPSGN), all equally often. The same SEED, ENTRIES and --edges give the same cases on every
-//! machine; --from starts at a later case than 0, so that one case can be made again without
-//! those before it. Progress goes to standard error once a second if that is a terminal, or with
-//! --progress.
+//! DPSGN), all equally often. The same SEED and ENTRIES give the same cases on every machine;
+//! --from starts at a later case than 0, so that one case can be made again without those before
+//! it. Progress goes to standard error once a second if that is a terminal, or with --progress.
 //!
-//! With --edges half of the cases of S and G are SQLCAs on the edges of their fields (cards.rs),
-//! as half of those of s always are. It is an option so that old seeds keep their cases. What
-//! the others hold, in 10,000 of each entry:
+//! Half of the cases of S, s and G are SQLCAs on the edges of their fields (cards.rs). What the
+//! others hold, in 10,000 of each entry:
 //!
 //! | family     | D, P | S, s |    G |    N | replies                                           |
 //! |------------|-----:|-----:|-----:|-----:|---------------------------------------------------|
@@ -53,7 +51,7 @@ const ENTRIES: &str = "DPSGNMs";
 const DEFAULT_ENTRIES: &str = "DPSGN";
 const SQLDARD: u16 = 0x2411;
 
-const USAGE: &str = "usage: generate SEED COUNT [ENTRIES] [--edges] [--from CASE] [--progress]";
+const USAGE: &str = "usage: generate SEED COUNT [ENTRIES] [--from CASE] [--progress]";
 
 type Maker = fn(&mut Random) -> Vec<u8>;
 
@@ -84,13 +82,8 @@ const NAMES: [usize; 13] = [
     900, 300, 200, 600, 100, 100, 40, 3300, 2400, 200, 1837, 3, 20,
 ];
 
-fn reply(r: &mut Random, entry: u8, edges: bool) -> Vec<u8> {
-    let edges = match entry {
-        b's' => true,
-        b'S' | b'G' => edges,
-        _ => false,
-    };
-    if edges && r.chance(50) {
+fn reply(r: &mut Random, entry: u8) -> Vec<u8> {
+    if matches!(entry, b'S' | b's' | b'G') && r.chance(50) {
         let mut reply = cards::edges(r);
         if r.chance(15) {
             replies::damage(r, &mut reply);
@@ -120,7 +113,7 @@ fn case(r: &mut Random, request: &Request) -> (u8, Vec<u8>) {
     match entry {
         b'M' => return (entry, messages::case(r)),
         b'P' => {}
-        _ => return (entry, reply(r, entry, request.edges)),
+        _ => return (entry, reply(r, entry)),
     }
     let code_point = if r.chance(92) {
         SQLDARD
@@ -129,7 +122,7 @@ fn case(r: &mut Random, request: &Request) -> (u8, Vec<u8>) {
         r.pick(&[0x2408, 0x2410, 0x1124, 0x0000, 0xFFFF, other])
     };
     let mut payload = code_point.to_be_bytes().to_vec();
-    payload.append(&mut reply(r, entry, request.edges));
+    payload.append(&mut reply(r, entry));
     (entry, payload)
 }
 
@@ -137,20 +130,17 @@ struct Request {
     seed: u64,
     count: u64,
     entries: Vec<u8>,
-    edges: bool,
     from: u64,
     progress: bool,
 }
 
 fn request(arguments: impl Iterator<Item = String>) -> Result<Request, String> {
     let mut plain = Vec::new();
-    let mut edges = false;
     let mut from = 0;
     let mut progress = io::stderr().is_terminal();
     let mut arguments = arguments;
     while let Some(argument) = arguments.next() {
         match argument.as_str() {
-            "--edges" => edges = true,
             "--progress" => progress = true,
             "--from" => from = whole(&arguments.next().ok_or("--from needs a case number")?)?,
             option if option.starts_with('-') => return Err(format!("unknown option {option}")),
@@ -169,7 +159,6 @@ fn request(arguments: impl Iterator<Item = String>) -> Result<Request, String> {
         seed: whole(seed)?,
         count: whole(count)?,
         entries: entries.as_bytes().to_vec(),
-        edges,
         from,
         progress,
     })

@@ -9,6 +9,7 @@ use lib.Pow.{pow-add}
 use native.Mathlib.Omega.{arith}
 use lib.IntN.{ℤ, pos, negsuc, _-ℤ_}
 use lib.ListN.{getD}
+use lib.Signed.{mag}
 use mir.Syntax.{w32}
 use mir.Val.{SFits, toZ, ofZ}
 use mir.Facts.{toZ-ofZ, toZ-pos}
@@ -84,6 +85,10 @@ module _ (bits : ℕ) (l : 0x8000_0000 ≤ bits) (u : bits < 0x1_0000_0000) wher
 
   pub below-zero-is : toZ w32 (ofZ w32 (negsuc 0 -ℤ toZ w32 (0xFFFF_FFFF - bits))) ≡ signed bits
   below-zero-is = toZ-ofZ below-zero-fits ∙ (below-zero ∙ sym (signed-high bits l))
+
+-- a signed number, written to 32 bits and read back
+pub back32 : (z : ℤ) → mag z < 0x8000_0000 → toZ w32 (ofZ w32 z) ≡ z
+back32 z h = toZ-ofZ {w = w32} {z = z} (record { sfits = h })
 
 pub at-least-zero-is : (bits : ℕ) → bits < 0x8000_0000 → toZ w32 bits ≡ signed bits
 at-least-zero-is bits h = toZ-pos w32 {n = bits} h ∙ sym (signed-low bits h)

@@ -4,7 +4,7 @@ ghost use mathlib.Core.Path.{_≡_};
 ghost use Prim.Native.Nat.{_+_, _*_, _<_, _≤_};
 ghost use lib.ListN.{length};
 ghost use Rattle.field.specs.Numbers.{number, signed};
-ghost use Rattle.field.specs.Strings.{stringAt, stringsEnd, pairAt};
+ghost use Rattle.field.specs.Strings.{noString, stringAt, stringsEnd, pairAt};
 
 pub enum ByteOrder {
     BigEndian,
@@ -83,32 +83,30 @@ pub struct StringRead {
     pub next: usize,
 }
 
+pub fn no_string(next: usize) -> StringRead
+    ensures { λ r. ⌜ r ≡ noString next ⌝ }
+{
+    StringRead {
+        place: 0,
+        length: 0,
+        next,
+    }
+}
+
 fn string_at(reply: &[u8], offset: usize) -> StringRead
     ensures { λ r. ⌜ r ≡ stringAt (now (reply .entry)) offset ⌝ }
 {
     let end = reply.len();
     if end < offset {
-        return StringRead {
-            place: 0,
-            length: 0,
-            next: offset,
-        };
+        return no_string(offset);
     }
     if end - offset < 2 {
-        return StringRead {
-            place: 0,
-            length: 0,
-            next: offset + 2,
-        };
+        return no_string(offset + 2);
     }
     let length = u16_at(reply, offset, ByteOrder::BigEndian) as usize;
     let place = offset + 2;
     if end - place < length {
-        return StringRead {
-            place: 0,
-            length: 0,
-            next: place + length,
-        };
+        return no_string(place + length);
     }
     StringRead {
         place,

@@ -1,40 +1,16 @@
--- What the loop that counts goes by, and that a message's blanks are known by their bytes.
+-- The ways out of the loop that counts, and that a message's blanks are known by their bytes.
 -- Assumes nothing.
-use mathlib.Core.Path.{_≡_, refl, sym, ap, _∙_}
+use mathlib.Core.Path.{_≡_, refl, sym, _∙_}
 use mathlib.Core.Bool.{Bool, true, false, _||_}
 use mathlib.Core.List.{List}
-use Prim.Native.Nat.{ℕ, _+_, _*_, _/_, _<_, _≤_}
+use Prim.Native.Nat.{ℕ, _*_, _/_, _<_}
 use native.Mathlib.Nat.{div-zero}
-use native.Mathlib.Omega.{arith}
-use mir.Val.{boolByte}
 use lib.Dec.{T, leb, ltb}
-use lib.ListN.{length, getD, drop, drop-of-length-le}
 use Rattle.search.specs.Search.{pick, below, count}
-use Rattle.search.proofs.Each.{drop-next}
 use Rattle.search.proofs.Tests.{agree, agree-same, below-at}
 use Rattle.codepage.specs.Page.{Page, charIn}
 use Rattle.codepage.specs.Blank.{isBlank, isBlankIn}
 use Rattle.message.specs.Message.{isPrintable, isSeparator, others, isAsciiMessage, messageChar}
-
--- ---- counting: n of the first i bytes pass the test, `n + count f (drop i l) ≡ count f l` the loop's invariant
-
-one : (t : Bool) → pick {A = ℕ} t 1 0 ≡ boolByte t
-one true = refl
-one false = refl
-
-pub one-most : (t : Bool) → boolByte t ≤ 1
-one-most true = omega arith
-one-most false = omega arith
-
-module _ (f : ℕ → Bool) (l : List ℕ) (n i : ℕ) (e : n + count f (drop i l) ≡ count f l) where
-  pub count-more : i < length l → (t : Bool) → t ≡ f (getD l i 0) → n + boolByte t + count f (drop (i + 1) l) ≡ count f l
-  count-more h t g =
-      let z : count f (drop i l) ≡ pick (f (getD l i 0)) 1 0 + count f (drop (i + 1) l) = ap (count f) (drop-next l i 0 h) in
-      let o : pick {A = ℕ} (f (getD l i 0)) 1 0 ≡ boolByte t = one (f (getD l i 0)) ∙ ap boolByte (sym g) in
-      omega arith
-
-  pub count-done : length l ≤ i → n ≡ count f l
-  count-done h = let z : count f (drop i l) ≡ 0 = ap (count f) (drop-of-length-le l h) in omega arith
 
 -- ---- the two ways out
 

@@ -18,13 +18,13 @@ pub fn is_printable(byte: u8) -> bool
     (byte >= 0x20) & (byte <= 0x7E)
 }
 
-pub fn is_separator(byte: u8) -> bool
+fn is_separator(byte: u8) -> bool
     ensures { λ r. ⌜ r ≡ isSeparator byte ⌝ }
 {
     (byte == 0x00) | (byte == 0xFF)
 }
 
-pub fn is_ascii_message(bytes: &[u8]) -> bool
+fn is_ascii_message(bytes: &[u8]) -> bool
     requires { ⌜ length (now bytes) ≤ 65536 ⌝ }
     ensures { λ r. ⌜ r ≡ isAsciiMessage (now (bytes .entry)) ⌝ }
 {

@@ -1,9 +1,9 @@
 -- Numbers of refusal (01), for every entry: promises of entries are stated through refusalOf.
 use mathlib.Core.Bool.{Bool, not}
 use mathlib.Core.List.{List, [], _∷_}
-use Prim.Native.Nat.{ℕ, _+_}
+use Prim.Native.Nat.{ℕ, _-_}
 use lib.Dec.{eqb}
-use lib.ListN.{getD, take}
+use lib.ListN.{length, getD}
 use Rattle.outcome.specs.declared.Outcome.{Outcome}
 use Rattle.outcome.specs.declared.Outcome.the-variants.{Accepted, BufferTooShort, InvalidSqlcard, ReplyTooLong, RoomTooShort, OutsideReply}
 use Rattle.outcome.specs.declared.Refusal.{Refusal}
@@ -21,6 +21,10 @@ refusalOf OutsideReply = 7 ∷ []
 abbrev pub isRefused : List ℕ → Bool
 isRefused refusal = not (eqb (getD refusal 0 0) 0)
 
--- a refusal in numbers, as such a list (01, Numbers of refusal)
-abbrev pub listed : Refusal → List ℕ
-listed r = take (r .count + 1) (r .number ∷ r .first ∷ r .second ∷ [])
+-- a number, how many values it has, and two values (01, Numbers of refusal)
+abbrev pub refusalIs : ℕ → ℕ → ℕ → ℕ → Refusal
+refusalIs number count first second = record { number = number; count = count; first = first; second = second }
+
+-- the same of such a list, 0 for a value that it does not have (01, Numbers of refusal)
+abbrev pub inNumbers : List ℕ → Refusal
+inNumbers l = refusalIs (getD l 0 0) (length l - 1) (getD l 1 0) (getD l 2 0)

@@ -1,9 +1,6 @@
 // What an entry says of a call: that it accepted, or why it refused.
 ghost use mathlib.Core.Path.{_≡_};
-ghost use mathlib.Core.List.{[], _∷_};
-ghost use Prim.Native.Nat.{_+_};
-ghost use lib.ListN.{take};
-ghost use Rattle.outcome.specs.Refusal.{refusalOf, isRefused, listed};
+ghost use Rattle.outcome.specs.Refusal.{refusalOf, isRefused, refusalIs, inNumbers};
 
 // BufferTooShort and InvalidSqlcard are the Rust's refusals; the others are the project's own limits.
 pub enum Outcome {
@@ -26,7 +23,7 @@ pub struct Refusal {
 }
 
 fn refused(number: u8, count: u8, first: usize, second: usize) -> Refusal
-    ensures { λ r. ⌜ listed r ≡ take (count + 1) (number ∷ first ∷ second ∷ []) ⌝ }
+    ensures { λ r. ⌜ r ≡ refusalIs number count first second ⌝ }
 {
     Refusal {
         number,
@@ -38,7 +35,7 @@ fn refused(number: u8, count: u8, first: usize, second: usize) -> Refusal
 
 // The refusal in numbers, for those who print it or hand it on.
 pub fn refusal_of(outcome: Outcome) -> Refusal
-    ensures { λ r. ⌜ listed r ≡ refusalOf outcome ⌝ }
+    ensures { λ r. ⌜ r ≡ inNumbers (refusalOf outcome) ⌝ }
 {
     match outcome {
         Outcome::Accepted => refused(0, 0, 0, 0),

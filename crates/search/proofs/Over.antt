@@ -23,6 +23,10 @@ module _ {A : Type 0} (t b : List A) (i : ℕ) where
   pub over-all : length t ≤ i → length b ≤ i → take i t ++ drop i b ≡ t
   over-all p q = rw (take-all i t p, drop-of-length-le b q) (append-nil t)
 
+-- a whole list, over one that is as long
+pub over-whole : {A : Type 0} (t b : List A) → length t ≡ length b → take (length t) t ++ drop (length t) b ≡ t
+over-whole t b h = over-all t b (length t) (omega arith) (omega arith)
+
 -- an element of a list that was mapped
 pub getD-map : {A B : Type 0} (f : A → B) (l : List A) (i : ℕ) (d : A) (e : B) → i < length l → getD (map f l) i e ≡ f (getD l i d)
 getD-map f [] i d e h = absurd (omega arith)

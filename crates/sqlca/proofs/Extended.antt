@@ -1,22 +1,19 @@
 -- The extension: a list of six numbers, the warnings that were copied, and the ways out of its reader.
 -- Assumes nothing.
 use mathlib.Core.Path.{_≡_, sym, ap, subst, _∙_}
-use mathlib.Core.Bool.{Bool, true, false, not, _&&_}
+use mathlib.Core.Bool.{Bool, true, false, not}
 use mathlib.Core.List.{List, [], _∷_}
 use Prim.Native.Nat.{ℕ, _≤_, _<_}
-use lib.Dec.{T, eqb}
+use lib.Dec.{T, eqb, leb, leb→le}
 use lib.IntN.{ℤ}
 use lib.ListN.{length, getD, take, drop, replicate}
-use borrow.Author.Tests.{le-leb, lt-leb, leb-true}
+use borrow.Author.Tests.{le-leb, lt-leb}
 use Rattle.search.specs.Search.{pick}
+use Rattle.search.proofs.Tests.{and-right}
 use Rattle.field.specs.declared.ByteOrder.{ByteOrder}
 use Rattle.field.specs.Numbers.{number, signed}
 use Rattle.sqlca.specs.Code.{numbersOrder}
 use Rattle.sqlca.specs.Extension.{isExtended, numbersFrom, rowsOf, warningsOf, noExtension, extensionIn, extensionOf}
-
-and-second : (a b : Bool) → (a && b) ≡ true → b ≡ true
-and-second true b e = e
-and-second false b e = absurd (subst T (sym e) tt)
 
 -- equal numbers make equal lists of six
 pub six : {a b c d e f a′ b′ c′ d′ e′ f′ : ℤ} → a ≡ a′ → b ≡ b′ → c ≡ c′ → d ≡ d′ → e ≡ e′ → f ≡ f′
@@ -35,7 +32,7 @@ warnings-none s h = ap (λ (b : Bool). pick b (take 11 (drop 43 s)) (replicate 1
 
 pub extended-room : (s : List ℕ) → isExtended s ≡ true → 43 ≤ length s
 unfolding isExtended
-extended-room s e = leb-true 43 (length s) (and-second (not (eqb (getD s 18 0) 0xFF)) _ e)
+extended-room s e = leb→le 43 (length s) (and-right (not (eqb (getD s 18 0) 0xFF)) (leb 43 (length s)) (subst T (sym e) tt))
 
 pub extension-absent : (s : List ℕ) → isExtended s ≡ false → noExtension ≡ extensionOf s
 unfolding extensionOf

@@ -1,20 +1,13 @@
 -- SQLCODE's byte order, by the tests that the code makes; state and proc.
 -- Assumes nothing.
 use mathlib.Core.Path.{_≡_, refl, sym, ap, _∙_}
-use mathlib.Core.Bool.{Bool, true, false, not, _&&_, _||_}
-use mathlib.Core.List.{List, map, _++_}
-use Prim.Native.Nat.{ℕ, suc, _+_, _-_, _≤_, _<_}
+use mathlib.Core.Bool.{Bool, true, false, not, _&&_, _||_, or-false}
+use mathlib.Core.List.{List, map}
+use Prim.Native.Nat.{ℕ, suc, _-_, _≤_, _<_}
 use native.Mathlib.Omega.{arith}
 use lib.Dec.{leb, ltb}
-use lib.IntN.{ℤ}
-use lib.Signed.{mag}
-use lib.ListN.{length, take, drop}
-use mir.Syntax.{w32}
-use mir.Val.{toZ, ofZ}
-use mir.Facts.{toZ-ofZ}
 use borrow.Author.Tests.{le-leb, lt-leb, ltb-true, ltb-false, eq-eqb, ne-eqb}
 use Rattle.search.specs.Search.{pick, each}
-use Rattle.search.proofs.Over.{over-all}
 use Rattle.codepage.specs.Page.{Page, charIn}
 use Rattle.text.specs.Chars.{isAscii}
 use Rattle.field.specs.declared.ByteOrder.{ByteOrder}
@@ -24,10 +17,6 @@ use Rattle.message.specs.Message.{isPrintable}
 use Rattle.sqlca.specs.Code.{isNear, codeBits, codeOrder, stateBytes, numbersOrder, fixedChars}
 
 -- ---- within ±100,000
-
-or-false : (b : Bool) → (b || false) ≡ b
-or-false true = refl
-or-false false = refl
 
 near-low : (v : ℕ) → v < 0x8000_0000 → (leb v 100000 || leb 0xFFFE_7960 v) ≡ isNear v
 unfolding isNear
@@ -59,10 +48,6 @@ near-is v u = go (ltb v 0x8000_0000) refl (ltb v 0xFFFE_7960) refl
     go true e b f = near-low v (ltb-true v 0x8000_0000 e)
     go false e true f = near-far v (ltb-false v 0x8000_0000 e) (ltb-true v 0xFFFE_7960 f)
     go false e false f = near-high v u (ltb-false v 0xFFFE_7960 f)
-
--- a signed number, written to 32 bits and read back
-pub back32 : (z : ℤ) → mag z < 0x8000_0000 → toZ w32 (ofZ w32 z) ≡ z
-back32 z h = toZ-ofZ {w = w32} {z = z} (record { sfits = h })
 
 -- ---- byte orders, from the two numbers that the bytes give
 
@@ -102,7 +87,3 @@ fixed-printable page bs e = ap (λ (b : Bool). pick b bs (map (charIn page) bs))
 pub fixed-mapped : (page : Page) (bs : List ℕ) → each isPrintable bs ≡ false → fixedChars page bs ≡ map (charIn page) bs
 unfolding fixedChars
 fixed-mapped page bs e = ap (λ (b : Bool). pick b bs (map (charIn page) bs)) e
-
--- a whole list over the front of one as long
-pub copied : (bs cs : List ℕ) → length bs ≡ length cs → take (length bs) bs ++ drop (length bs) cs ≡ bs
-copied bs cs h = over-all bs cs (length bs) (omega arith) (omega arith)

@@ -33,11 +33,18 @@ fn sqlcode_order(reply: &[u8]) -> ByteOrder
     }
 }
 
+fn number_at(reply: &[u8], offset: usize, order: ByteOrder) -> i32
+    requires { ⌜ offset + 4 ≤ length (now reply) ⌝ }
+    ensures { λ r. ⌜ r ≡ signed (number order 4 (now (reply .entry)) offset) ⌝ }
+{
+    field::to_signed(field::u32_at(reply, offset, order))
+}
+
 pub fn sqlcode(reply: &[u8]) -> i32
     requires { ⌜ 19 ≤ length (now reply) ⌝ }
     ensures { λ r. ⌜ r ≡ codeOf (now (reply .entry)) ⌝ }
 {
-    field::to_signed(field::u32_at(reply, 1, sqlcode_order(reply)))
+    number_at(reply, 1, sqlcode_order(reply))
 }
 
 fn sqlerrd_order(reply: &[u8]) -> ByteOrder
@@ -106,13 +113,6 @@ pub struct Extension {
     pub sqlerrd: [i32; 6],
     pub rows_updated: u32,
     pub sqlwarn: [u8; 11],
-}
-
-fn number_at(reply: &[u8], offset: usize, order: ByteOrder) -> i32
-    requires { ⌜ offset + 4 ≤ length (now reply) ⌝ }
-    ensures { λ r. ⌜ r ≡ signed (number order 4 (now (reply .entry)) offset) ⌝ }
-{
-    field::to_signed(field::u32_at(reply, offset, order))
 }
 
 fn six_numbers(reply: &[u8], order: ByteOrder) -> [i32; 6]
@@ -194,9 +194,5 @@ pub fn message_at(reply: &[u8], offset: usize) -> StringRead
     if string_has_text(reply, s) {
         return s;
     }
-    StringRead {
-        place: 0,
-        length: 0,
-        next: s.next,
-    }
+    field::no_string(s.next)
 }

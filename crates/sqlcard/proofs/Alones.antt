@@ -1,7 +1,7 @@
 -- The ways out of the status read alone.
 -- Assumes nothing.
 use mathlib.Core.Path.{_≡_, refl, sym, ap, _∙_}
-use mathlib.Core.Bool.{Bool, true, false, _||_}
+use mathlib.Core.Bool.{Bool, true, false, true≢false, _||_}
 use mathlib.Core.List.{List, [], _∷_}
 use Prim.Native.Nat.{ℕ, _≤_, _<_}
 use native.Mathlib.Omega.{arith}
@@ -19,6 +19,15 @@ use Rattle.sqlca.proofs.Messages.{message-next}
 use Rattle.sqlcard.specs.declared.SqlCard.{SqlCard}
 use Rattle.sqlcard.specs.Card.{successCard, cardWith}
 use Rattle.sqlcard.specs.Alone.{startsNull, isNull, stringsStart, aloneEnd, aloneMessage, aloneRefusal, aloneCard}
+
+-- an empty reply does not start with FF
+pub empty-not-null : (s : List ℕ) → length s ≡ 0 → false ≡ startsNull s
+empty-not-null [] h = refl
+empty-not-null (b ∷ bs) h = absurd (omega arith)
+
+pub null-not-empty : (s : List ℕ) → startsNull s ≡ true → 0 < length s
+null-not-empty [] e = absurd (true≢false (sym e))
+null-not-empty (b ∷ bs) e = omega arith
 
 -- the code's test for a null status, by its callee's promise
 pub tested : (s : List ℕ) (b : Bool) → b ≡ startsNull s → isNull s ≡ (eqb (length s) 0 || b)

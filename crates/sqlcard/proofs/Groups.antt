@@ -1,12 +1,12 @@
 -- The ways out of the SQLCA group; and that its status depends on its own bytes alone, and is that of the whole reply read alone.
 -- Assumes nothing.
-use mathlib.Core.Path.{_≡_, refl, sym, ap, subst, _∙_}
-use mathlib.Core.Bool.{Bool, true, false, _||_}
+use mathlib.Core.Path.{_≡_, refl, sym, ap, _∙_}
+use mathlib.Core.Bool.{Bool, true, false, or-true}
 use mathlib.Core.List.{List, [], _∷_}
 use Prim.Native.Nat.{ℕ, _≤_, _<_}
 use native.Mathlib.Nat.{le-refl}
 use native.Mathlib.Omega.{arith}
-use lib.Dec.{T, ltb, eqb}
+use lib.Dec.{ltb, eqb}
 use lib.ListN.{length, getD, take}
 use lib.Seq.{length-take-le, getD-take}
 use borrow.Author.Tests.{lt-ltb, le-ltb, ne-eqb, eqb-true, eqb-false, ltb-true, ltb-false}
@@ -27,15 +27,7 @@ use Rattle.sqlcard.specs.Card.{successCard, cardWith}
 use Rattle.sqlcard.specs.Alone.{startsNull, isNull, aloneEnd, aloneMessage, aloneCard}
 use Rattle.sqlcard.specs.Group.{groupEnd, groupMessage, groupRefusal, groupBytes, groupCard, groupLength}
 use Rattle.sqlcard.proofs.Cards.{card-made}
-use Rattle.sqlcard.proofs.Alones.{message-absent, message-behind-warnings, alone-next, alone-long, alone-null, alone-read}
-
-or-true : (b : Bool) → (b || true) ≡ true
-or-true true = refl
-or-true false = refl
-
-not-empty : (s : List ℕ) → startsNull s ≡ true → 0 < length s
-not-empty [] e = absurd (subst T (sym e) tt)
-not-empty (b ∷ bs) e = omega arith
+use Rattle.sqlcard.proofs.Alones.{null-not-empty, message-absent, message-behind-warnings, alone-next, alone-long, alone-null, alone-read}
 
 -- ---- past the group
 
@@ -100,7 +92,7 @@ module _ (page : Page) (s : List ℕ) where
 -- ---- locality: v begins with the group of s
 
 -- what a group that can be read has: no extension, or one in full
-pub data Read (s : List ℕ) : Type 0 where
+data Read (s : List ℕ) : Type 0 where
   plain : eqb (getD s 18 0) 0xFF ≡ true → groupEnd s ≡ 19 → Read s
   extended : eqb (getD s 18 0) 0xFF ≡ false → 56 ≤ length s → groupEnd s ≡ stringsEnd 3 s 54 → Read s
 
@@ -221,7 +213,7 @@ module _ (page : Page) (s : List ℕ) where
     pub group-null : startsNull s ≡ true → Answers page s (0 ∷ []) successCard 1
     group-null e =
         let g = end-null s e in
-        let l : 0 < length s = not-empty s e in
+        let l : 0 < length s = null-not-empty s e in
         let t = taken (omega (arith, g)) in
         let b : getD (groupBytes s) 0 0 ≡ getD s 0 0 = getD-take (groupEnd s) s 0 0 (omega (arith, g)) in
         let z : isNull (groupBytes s) ≡ true = rw (b, e) (or-true (eqb (length (groupBytes s)) 0)) in

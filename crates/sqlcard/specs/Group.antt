@@ -13,7 +13,7 @@ use Rattle.sqlcard.specs.declared.SqlCard.{SqlCard}
 use Rattle.sqlcard.specs.Card.{successCard}
 use Rattle.sqlcard.specs.Alone.{startsNull, aloneCard}
 
--- past an extension that is due: it must be there in full, and is asked for at its first string (01, Layouts: SQLCA; DRDA V1: SQLCAXGRP)
+-- past an extension that is due: it must be there in full, and is asked for at its first string's length, bytes 54 and 55 (01, Layouts: SQLCA)
 abbrev pub extensionEnd : List ℕ → ℕ
 extensionEnd s = pick (ltb (length s) 56) 56 (stringsEnd 3 s 54)
 

@@ -3,7 +3,6 @@ ghost use mathlib.Core.Path.{_≡_};
 ghost use Prim.Native.Nat.{_+_, _≤_, _<_};
 ghost use lib.ListN.{length};
 ghost use Rattle.codepage.specs.Page.{page037};
-ghost use Rattle.field.specs.Strings.{noString};
 ghost use Rattle.outcome.specs.Refusal.{refusalOf};
 ghost use Rattle.sqlcard.specs.Card.{successCard, cardWith};
 ghost use Rattle.sqlcard.specs.Alone.{startsNull, aloneMessage, aloneRefusal, aloneCard};
@@ -84,16 +83,6 @@ fn starts_null(reply: &[u8]) -> bool
     reply[0] == 0xFF
 }
 
-fn no_message(next: usize) -> StringRead
-    ensures { λ r. ⌜ r ≡ noString next ⌝ }
-{
-    StringRead {
-        place: 0,
-        length: 0,
-        next,
-    }
-}
-
 // The message of a status that is read alone; `next` is past the status, also where the reply ends early.
 fn alone_message(reply: &[u8]) -> StringRead
     requires { ⌜ 19 ≤ length (now reply) ⌝ }
@@ -101,7 +90,7 @@ fn alone_message(reply: &[u8]) -> StringRead
     ensures { λ r. ⌜ r ≡ aloneMessage page037 (now (reply .entry)) ⌝ }
 {
     if !sqlca::is_extended(reply) {
-        return no_message(19);
+        return field::no_string(19);
     }
     if reply.len() >= 54 {
         sqlca::message_at(reply, 54)
@@ -117,10 +106,10 @@ fn group_message(reply: &[u8]) -> StringRead
     ensures { λ r. ⌜ r ≡ groupMessage page037 (now (reply .entry)) ⌝ }
 {
     if reply[18] == 0xFF {
-        return no_message(19);
+        return field::no_string(19);
     }
     if reply.len() < 56 {
-        return no_message(56);
+        return field::no_string(56);
     }
     sqlca::message_at(reply, 54)
 }

@@ -1,19 +1,22 @@
 -- A law for each way out: past the end, no room for a length, no room for the bytes, and read.
 -- Assumes nothing.
+use mathlib.Core.Path.{_∙_}
 use borrow.Author.Needs.{needs}
 use Rattle.field.proofs.Strings.{string-past, string-short, string-cut, string-full}
 use Rattle.field.proofs.string_at.Statement.{statement}
 use Rattle.field.proofs.string_at.Tie as tie
 
 returns : tie.Need-returns
-returns c = string-past _ _ (c .if1 .taken)
+returns c = c .no-string .ensures ∙ string-past _ _ (c .before .if1 .taken)
 
 returns-2 : tie.Need-returns-2
-returns-2 c = string-short _ _ (c .before .if1 .left) (c .if2 .taken)
+returns-2 c = c .no-string2 .ensures ∙ string-short _ _ (c .before .before .if1 .left) (c .before .if2 .taken)
 
 returns-3 : tie.Need-returns-3
 returns-3 c =
-    string-cut _ _ (c .before .before .before .if1 .left) (c .before .before .if2 .left) _ (c .before .u16-at .ensures) (c .if3 .taken)
+    c .no-string3 .ensures
+    ∙ string-cut _ _ (c .before .before .before .before .if1 .left) (c .before .before .before .if2 .left) _ (c .before .before .u16-at .ensures)
+    (c .before .if3 .taken)
 
 returns-4 : tie.Need-returns-4
 returns-4 c =
@@ -23,9 +26,12 @@ pub string-at-spec : {M : Type 1} → statement M
 string-at-spec =
     tie.close
     (tie.spec
+    (search needs)
     returns
     (search needs)
+    (search needs)
     returns-2
+    (search needs)
     (search needs)
     (search needs)
     (search needs)

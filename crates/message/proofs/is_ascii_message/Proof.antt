@@ -7,8 +7,9 @@ use native.Mathlib.Omega.{arith}
 use lib.ListN.{length, drop}
 use borrow.Author.Needs.{needs}
 use Rattle.search.specs.Search.{count}
+use Rattle.search.proofs.Count.{one-most, count-more, count-done}
 use Rattle.message.specs.Message.{isPrintable, isSeparator, others}
-use Rattle.message.proofs.Ascii.{one-most, count-more, count-done, ascii-none, ascii-some}
+use Rattle.message.proofs.Ascii.{ascii-none, ascii-some}
 use Rattle.message.proofs.is_ascii_message.Statement.{statement}
 use Rattle.message.proofs.is_ascii_message.Tie as tie
 
@@ -36,24 +37,24 @@ loop-again c =
       omega arith,
       omega (arith, one-most (c .before .before .is-printable .result)),
       omega (arith, one-most (not (c .is-separator .result))),
-      count-more isPrintable _ _ _ (l .inv .3) h _ (c .before .before .is-printable .ensures),
-      count-more (λ b. not (isSeparator b)) _ _ _ (l .inv .4) h _ (ap not (c .is-separator .ensures)),
+      count-more isPrintable _ 0 _ _ (l .inv .3) h _ (c .before .before .is-printable .ensures),
+      count-more (λ b. not (isSeparator b)) _ 0 _ _ (l .inv .4) h _ (ap not (c .is-separator .ensures)),
     )
 
 returns : tie.Need-returns Inv-loop μ-loop
 returns c =
     let l = c .before .before .loop in
     let b = c .before .before .before .before .args .bytes .now in
-    ascii-none b (l .printables) (l .others) (count-done isPrintable b (l .printables) (l .i) (l .inv .3) (c .before .loop-test .left))
-    (count-done (λ b. not (isSeparator b)) b (l .others) (l .i) (l .inv .4) (c .before .loop-test .left))
+    ascii-none b (l .printables) (l .others) (count-done isPrintable b 0 (l .printables) (l .i) (l .inv .3) (c .before .loop-test .left))
+    (count-done (λ b. not (isSeparator b)) b 0 (l .others) (l .i) (l .inv .4) (c .before .loop-test .left))
     (c .if1 .taken)
 
 returns-2 : tie.Need-returns-2 Inv-loop μ-loop
 returns-2 c =
     let l = c .before .before .loop in
     let b = c .before .before .before .before .args .bytes .now in
-    ascii-some b (l .printables) (l .others) (count-done isPrintable b (l .printables) (l .i) (l .inv .3) (c .before .loop-test .left))
-    (count-done (λ b. not (isSeparator b)) b (l .others) (l .i) (l .inv .4) (c .before .loop-test .left))
+    ascii-some b (l .printables) (l .others) (count-done isPrintable b 0 (l .printables) (l .i) (l .inv .3) (c .before .loop-test .left))
+    (count-done (λ b. not (isSeparator b)) b 0 (l .others) (l .i) (l .inv .4) (c .before .loop-test .left))
 
 pub is-ascii-message-spec : {M : Type 1} → statement M
 is-ascii-message-spec =

@@ -2,8 +2,9 @@
 -- Assumes nothing.
 use mathlib.Core.Path.{sym, _∙_}
 use borrow.Author.Needs.{needs}
+use Rattle.search.proofs.Over.{over-whole}
 use Rattle.codepage.specs.Page.{page037}
-use Rattle.sqlca.proofs.Orders.{fixed-printable, fixed-mapped, copied}
+use Rattle.sqlca.proofs.Orders.{fixed-printable, fixed-mapped}
 use Rattle.sqlca.proofs.fixed_chars.Statement.{statement}
 use Rattle.sqlca.proofs.fixed_chars.Tie as tie
 
@@ -12,7 +13,7 @@ returns c =
     let tested = c .before .before .before .before in
     let start = tested .before .before .before .before in
     c .before .before .copy .ensures .1
-    ∙ (copied (start .args .bytes .now) (start .args .characters .now) (start .pre)
+    ∙ (over-whole (start .args .bytes .now) (start .args .characters .now) (start .pre)
     ∙ sym (fixed-printable page037 (start .args .bytes .now) (sym (tested .before .all-printable .ensures) ∙ tested .if1 .taken)))
 
 returns-2 : tie.Need-returns-2

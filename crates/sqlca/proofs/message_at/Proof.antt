@@ -36,10 +36,13 @@ returns-2 c =
 
 returns-3 : tie.Need-returns-3
 returns-3 c =
-    let strings = c .before .before .before .before in
-    message-none page037 _ _ _ _ _ (strings .before .before .read-string .ensures) (strings .before .read-string2 .ensures) (strings .read-string3 .ensures)
-    (sym (c .before .before .before .string-has-text .ensures) ∙ c .before .before .if1 .left)
-    (sym (c .before .string-has-text2 .ensures) ∙ c .if2 .left)
+    let tested = c .before in
+    let strings = tested .before .before .before .before in
+    c .no-string .ensures
+    ∙ message-none page037 _ _ _ _ _ (strings .before .before .read-string .ensures) (strings .before .read-string2 .ensures)
+    (strings .read-string3 .ensures)
+    (sym (tested .before .before .before .string-has-text .ensures) ∙ tested .before .before .if1 .left)
+    (sym (tested .before .string-has-text2 .ensures) ∙ tested .if2 .left)
 
 pub message-at-spec : {M : Type 1} → statement M
 message-at-spec =
@@ -52,4 +55,5 @@ message-at-spec =
     returns
     string-has-text-requires-2
     returns-2
+    (search needs)
     returns-3)

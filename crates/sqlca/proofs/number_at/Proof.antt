@@ -3,7 +3,7 @@
 use mathlib.Core.Path.{ap, _∙_}
 use borrow.Author.Needs.{needs}
 use Rattle.field.specs.Numbers.{signed}
-use Rattle.sqlca.proofs.Orders.{back32}
+use Rattle.field.proofs.Numbers.{back32}
 use Rattle.sqlca.proofs.number_at.Statement.{statement}
 use Rattle.sqlca.proofs.number_at.Tie as tie
 

@@ -2,7 +2,7 @@
 -- Assumes nothing.
 use mathlib.Core.Path.{_∙_}
 use borrow.Author.Needs.{needs}
-use Rattle.sqlca.proofs.Orders.{back32}
+use Rattle.field.proofs.Numbers.{back32}
 use Rattle.sqlca.proofs.Extended.{six}
 use Rattle.sqlca.proofs.six_numbers.Statement.{statement}
 use Rattle.sqlca.proofs.six_numbers.Tie as tie

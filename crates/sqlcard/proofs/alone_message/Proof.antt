@@ -10,7 +10,7 @@ use Rattle.sqlcard.proofs.alone_message.Statement.{statement}
 use Rattle.sqlcard.proofs.alone_message.Tie as tie
 
 returns : tie.Need-returns
-returns c = c .no-message .ensures ∙ sym (message-absent page037 _ (sym (c .before .before .is-extended .ensures) ∙ not-true _ (c .before .if1 .taken)))
+returns c = c .no-string .ensures ∙ sym (message-absent page037 _ (sym (c .before .before .is-extended .ensures) ∙ not-true _ (c .before .if1 .taken)))
 
 returns-2 : tie.Need-returns-2
 returns-2 c =

@@ -3,7 +3,7 @@
 use mathlib.Core.Path.{refl, _∙_}
 use borrow.Author.Needs.{needs}
 use Rattle.codepage.specs.Page.{page037}
-use Rattle.sqlca.proofs.Orders.{back32}
+use Rattle.field.proofs.Numbers.{back32}
 use Rattle.sqlcard.proofs.Cards.{card-made}
 use Rattle.sqlcard.proofs.card_with.Statement.{statement}
 use Rattle.sqlcard.proofs.card_with.Tie as tie

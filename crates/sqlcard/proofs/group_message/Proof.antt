@@ -9,10 +9,10 @@ use Rattle.sqlcard.proofs.group_message.Statement.{statement}
 use Rattle.sqlcard.proofs.group_message.Tie as tie
 
 returns : tie.Need-returns
-returns c = c .no-message .ensures ∙ sym (message-plain page037 _ (eq-eqb _ 0xFF (c .before .if1 .taken)))
+returns c = c .no-string .ensures ∙ sym (message-plain page037 _ (eq-eqb _ 0xFF (c .before .if1 .taken)))
 
 returns-2 : tie.Need-returns-2
-returns-2 c = c .no-message2 .ensures ∙ sym (message-cut page037 _ (ne-eqb _ 0xFF (c .before .before .if1 .left)) (c .before .if2 .taken))
+returns-2 c = c .no-string2 .ensures ∙ sym (message-cut page037 _ (ne-eqb _ 0xFF (c .before .before .if1 .left)) (c .before .if2 .taken))
 
 returns-3 : tie.Need-returns-3
 returns-3 c = c .message-at .ensures ∙ sym (message-due page037 _ (ne-eqb _ 0xFF (c .before .before .if1 .left)) (c .before .if2 .left))
