@@ -3,3 +3,7 @@ pub mod Each
 pub mod First
 pub mod Over
 pub mod Count
+pub mod Index
+pub mod Best
+pub mod Walks
+pub mod Alternatives

@@ -1,0 +1,1 @@
+// One standard descriptor at a position of a reply.
