@@ -1,0 +1,40 @@
+-- Columns whose texts are moved in the reply, and the bytes of a column's texts (01, What each entry owes (e)).
+use mathlib.Core.List.{List, [], _∷_}
+use Prim.Native.Nat.{ℕ, _+_, _-_}
+use lib.Dec.{eqb}
+use lib.ListN.{take, drop}
+use Rattle.search.specs.Search.{pick}
+use Rattle.text.specs.declared.Text.{Text}
+use Rattle.text.specs.Text.{textIs}
+use Rattle.types.specs.declared.ColumnMetadata.{ColumnMetadata}
+
+-- a text that has bytes, moved as far as from a to b; one that has none stays (01, What each entry owes (e): places of texts that have bytes)
+unfoldable pub moveText : ℕ → ℕ → Text → Text
+moveText a b t = pick (eqb (t .length) 0) t (textIs (t .place - a + b) (t .length) (t .alphabet))
+
+-- a column whose texts are so moved, and nothing else of it (01, What each entry owes (e))
+unfoldable pub moveColumn : ℕ → ℕ → ColumnMetadata → ColumnMetadata
+moveColumn a b c = record {
+  number = c .number;
+  «db2_type» = c .«db2_type»;
+  «drda_type» = c .«drda_type»;
+  length = c .length;
+  nullable = c .nullable;
+  precision = c .precision;
+  scale = c .scale;
+  ccsid = c .ccsid;
+  «byte_order» = c .«byte_order»;
+  name = moveText a b (c .name);
+  label = moveText a b (c .label);
+  «base_table_name» = moveText a b (c .«base_table_name»);
+  «schema_name» = moveText a b (c .«schema_name»);
+}
+
+-- the bytes of a text of the reply s (01, Answers: place, length)
+unfoldable pub textBytes : List ℕ → Text → List ℕ
+textBytes s t = take (t .length) (drop (t .place) s)
+
+-- the bytes of a column's four texts (01, Answers: name, label, base table, schema)
+unfoldable pub columnBytes : List ℕ → ColumnMetadata → List (List ℕ)
+columnBytes s c =
+    textBytes s (c .name) ∷ textBytes s (c .label) ∷ textBytes s (c .«base_table_name») ∷ textBytes s (c .«schema_name») ∷ []

@@ -1,0 +1,3 @@
+pub mod Grows
+pub mod Local
+pub mod Lies
