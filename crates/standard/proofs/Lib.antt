@@ -1,0 +1,5 @@
+pub mod Front
+pub mod Descriptors
+pub mod Splice
+pub mod Exchange
+pub mod Kept
