@@ -6,7 +6,7 @@ ghost use Rattle.codepage.specs.Page.{page037};
 ghost use Rattle.outcome.specs.Refusal.{refusalOf};
 ghost use Rattle.sqlcard.specs.Card.{successCard, cardWith};
 ghost use Rattle.sqlcard.specs.Alone.{startsNull, aloneMessage, aloneRefusal, aloneCard};
-ghost use Rattle.sqlcard.specs.Group.{groupMessage, groupRefusal, groupCard, groupLength};
+ghost use Rattle.sqlcard.specs.Group.{groupEnd, groupMessage, groupRefusal, groupCard, groupLength};
 ghost use Rattle.sqlcard.specs.Sqldhgrp.{sqldhgrpEnd};
 use field::StringRead;
 use outcome::Outcome;
@@ -197,6 +197,27 @@ pub fn consume_sqlca_group(reply: &[u8]) -> GroupAnswer
         card: card_with(reply, message),
         length: next,
     }
+}
+
+// Past the group, its status left unread: for the readings that start behind it.
+pub fn sqlca_end(reply: &[u8]) -> usize
+    ensures { λ r. ⌜ r ≡ groupEnd (now (reply .entry)) ⌝ }
+{
+    let size = reply.len();
+    if starts_null(reply) {
+        return 1;
+    }
+    if size < 19 {
+        return 19;
+    }
+    let extension = reply[18];
+    if extension == 0xFF {
+        return 19;
+    }
+    if size < 56 {
+        return 56;
+    }
+    field::skip_strings(reply, 54, 3)
 }
 
 // Past the group between the SQLCA and the columns, whose flag stands at `offset`.
