@@ -22,7 +22,7 @@ use Rattle.text.proofs.Trim.{kept-le}
 use Rattle.types.specs.declared.ColumnMetadata.{ColumnMetadata}
 use Rattle.column.specs.declared.Described.{Described}
 use Rattle.column.specs.Column.{stringText, nameText, generatedText, columnWith}
-use Rattle.column.specs.Moved.{moveText, moveColumn, textBytes, columnBytes}
+use Rattle.column.specs.Moved.{moveText, moveColumn, textBytes, columnBytes, Lies, LiesAll}
 
 -- ---- strings
 
@@ -46,11 +46,6 @@ string-chosen p q r u h k = go (eqb (r .length) 0)
     go false = record { from = h .from; to = h .to }
 
 -- ---- texts
-
--- the text's bytes, if it has any, lie from p on and up to q
-pub record Lies (p q : ℕ) (t : Text) : Type 0 where
-  pub from : (t .length ≡ 0 → ⊥) → p ≤ t .place
-  pub to : t .place + t .length ≤ q
 
 pub lies-wider : (p q p′ q′ : ℕ) (t : Text) → p′ ≤ p → q ≤ q′ → Lies p q t → Lies p′ q′ t
 lies-wider p q p′ q′ t h k l = record { from = λ z. le-trans h (l .from z); to = le-trans (l .to) k }
@@ -101,13 +96,6 @@ name-lies page s p q r l = go (eqb (r .length) 0)
     go false = text-lies page s p q r l
 
 -- ---- columns
-
--- all texts of a column lie from p to q
-pub record LiesAll (p q : ℕ) (c : ColumnMetadata) : Type 0 where
-  pub name : Lies p q (c .name)
-  pub label : Lies p q (c .label)
-  pub base : Lies p q (c .«base_table_name»)
-  pub schema : Lies p q (c .«schema_name»)
 
 -- all strings of a descriptor do
 pub record StringsLie (p q : ℕ) (d : Described) : Type 0 where

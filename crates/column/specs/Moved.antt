@@ -1,6 +1,7 @@
 -- Columns whose texts are moved in the reply, and the bytes of a column's texts (01, What each entry owes (e)).
 use mathlib.Core.List.{List, [], _∷_}
-use Prim.Native.Nat.{ℕ, _+_, _-_}
+use mathlib.Core.Path.{_≡_}
+use Prim.Native.Nat.{ℕ, _+_, _-_, _≤_}
 use lib.Dec.{eqb}
 use lib.ListN.{take, drop}
 use Rattle.search.specs.Search.{pick}
@@ -38,3 +39,15 @@ textBytes s t = take (t .length) (drop (t .place) s)
 unfoldable pub columnBytes : List ℕ → ColumnMetadata → List (List ℕ)
 columnBytes s c =
     textBytes s (c .name) ∷ textBytes s (c .label) ∷ textBytes s (c .«base_table_name») ∷ textBytes s (c .«schema_name») ∷ []
+
+-- a text's bytes, if it has any, lie from p on and up to q (01, What each entry owes (e): texts that have bytes)
+pub record Lies (p q : ℕ) (t : Text) : Type 0 where
+  pub from : (t .length ≡ 0 → ⊥) → p ≤ t .place
+  pub to : t .place + t .length ≤ q
+
+-- so do those of all four texts of a column (01, What each entry owes (e): its texts lie in the new reply)
+pub record LiesAll (p q : ℕ) (c : ColumnMetadata) : Type 0 where
+  pub name : Lies p q (c .name)
+  pub label : Lies p q (c .label)
+  pub base : Lies p q (c .«base_table_name»)
+  pub schema : Lies p q (c .«schema_name»)

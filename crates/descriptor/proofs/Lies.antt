@@ -18,8 +18,8 @@ use Rattle.field.specs.Numbers.{number}
 use Rattle.field.specs.Strings.{stringEnd, stringsEnd, stringAt, noString, pairAt}
 use Rattle.field.proofs.Strings.{end-inside}
 use Rattle.field.proofs.Windows.{Same, stringEnd-grows, stringsEnd-grows, stringsEnd-within}
-use Rattle.column.specs.Moved.{columnBytes}
-use Rattle.column.proofs.Lies.{StringLies, string-wider, string-none, string-chosen, StringsLie, LiesAll, all-wider, column-lies, column-bytes}
+use Rattle.column.specs.Moved.{columnBytes, LiesAll}
+use Rattle.column.proofs.Lies.{StringLies, string-wider, string-none, string-chosen, StringsLie, all-wider, column-lies, column-bytes}
 use Rattle.descriptor.specs.Nullable.{Flags, lenient, nullableEnd, inNullable}
 use Rattle.descriptor.specs.Descriptor.{udtEnd, dxEnd, dxStart, optEnd, descriptorEnd, dxPair, optName, optLabel, optPair, describedAt, columnAt}
 use Rattle.descriptor.proofs.Grows.{GroupIs, gone, null, held, group-is, in-gone, in-null, in-held, nullable-grows, udt-grows, dx-grows, start-grows, descriptor-in}

@@ -5,14 +5,16 @@ use Prim.Native.Nat.{ℕ, _-_}
 use lib.Dec.{eqb}
 use lib.ListN.{length, getD}
 use Rattle.outcome.specs.declared.Outcome.{Outcome}
-use Rattle.outcome.specs.declared.Outcome.the-variants.{Accepted, BufferTooShort, InvalidSqlcard, ReplyTooLong, RoomTooShort, OutsideReply}
+use Rattle.outcome.specs.declared.Outcome.the-variants.{Accepted, EmptyReply, BufferTooShort, InvalidSqlcard, UnexpectedCodePoint, ReplyTooLong, RoomTooShort, OutsideReply}
 use Rattle.outcome.specs.declared.Refusal.{Refusal}
 
 -- the number and then the values, in the order of 01, Numbers of refusal; 0 alone where nothing is refused
 abbrev pub refusalOf : Outcome → List ℕ
 refusalOf Accepted = 0 ∷ []
+refusalOf EmptyReply = 1 ∷ []
 refusalOf (BufferTooShort expected actual) = 2 ∷ expected ∷ actual ∷ []
 refusalOf InvalidSqlcard = 3 ∷ []
+refusalOf (UnexpectedCodePoint point) = 4 ∷ point ∷ []
 refusalOf ReplyTooLong = 5 ∷ []
 refusalOf (RoomTooShort needed) = 6 ∷ needed ∷ []
 refusalOf OutsideReply = 7 ∷ []

@@ -2,12 +2,15 @@
 ghost use mathlib.Core.Path.{_≡_};
 ghost use Rattle.outcome.specs.Refusal.{refusalOf, isRefused, refusalIs, inNumbers};
 
-// BufferTooShort and InvalidSqlcard are the Rust's refusals; the others are the project's own limits.
+// EmptyReply to UnexpectedCodePoint are the Rust's refusals; the others are the project's own limits.
 pub enum Outcome {
     Accepted,
+    EmptyReply,
     // The reply ends early: how many bytes were expected, and how many there are.
     BufferTooShort(usize, usize),
     InvalidSqlcard,
+    // The code point that the reply came with.
+    UnexpectedCodePoint(u16),
     ReplyTooLong,
     // What was lent is too short: how many elements are needed.
     RoomTooShort(usize),
@@ -39,8 +42,10 @@ pub fn refusal_of(outcome: Outcome) -> Refusal
 {
     match outcome {
         Outcome::Accepted => refused(0, 0, 0, 0),
+        Outcome::EmptyReply => refused(1, 0, 0, 0),
         Outcome::BufferTooShort(expected, actual) => refused(2, 2, expected, actual),
         Outcome::InvalidSqlcard => refused(3, 0, 0, 0),
+        Outcome::UnexpectedCodePoint(point) => refused(4, 1, point as usize, 0),
         Outcome::ReplyTooLong => refused(5, 0, 0, 0),
         Outcome::RoomTooShort(needed) => refused(6, 1, needed, 0),
         Outcome::OutsideReply => refused(7, 0, 0, 0),

@@ -6,17 +6,13 @@ use mathlib.Core.List.{List, [], _∷_, map}
 use mathlib.Core.Option.{some}
 use Prim.Native.Nat.{ℕ, zero, suc, _+_, _-_, _≤_, _<_}
 use native.Mathlib.Omega.{arith}
-use lib.Dec.{eqb}
 use lib.ListN.{length, getElem?, length-map}
-use borrow.Author.Tests.{eqb-true, eqb-false}
 use Rattle.search.specs.Search.{pick}
 use Rattle.codepage.specs.Page.{Page}
 use Rattle.field.specs.declared.ByteOrder.{ByteOrder}
-use Rattle.text.specs.declared.Text.{Text}
-use Rattle.text.specs.Text.{textIs}
 use Rattle.types.specs.declared.ColumnMetadata.{ColumnMetadata}
-use Rattle.column.specs.Moved.{moveText, moveColumn, columnBytes}
-use Rattle.column.proofs.Lies.{Lies, LiesAll, all-wider}
+use Rattle.column.specs.Moved.{columnBytes, LiesAll}
+use Rattle.column.proofs.Lies.{all-wider}
 use Rattle.descriptor.specs.Nullable.{lenient}
 use Rattle.descriptor.specs.Descriptor.{descriptorEnd, columnAt, Complete}
 use Rattle.descriptor.proofs.Lies.{texts-lie, column-bytes-same}

@@ -15,10 +15,10 @@ returns : tie.Need-returns
 returns c = c .refused .ensures ∙ ap told (sym (c .before .enum-told .given .1))
 
 returns-2 : tie.Need-returns-2
-returns-2 c = c .refused2 .ensures ∙ ap told (sym (c .before .before .outcome .given .1))
+returns-2 c = c .refused2 .ensures ∙ ap told (sym (c .before .enum-told2 .given .1))
 
 returns-3 : tie.Need-returns-3
-returns-3 c = c .refused3 .ensures ∙ ap told (sym (c .before .enum-told2 .given .1))
+returns-3 c = c .refused3 .ensures ∙ ap told (sym (c .before .before .outcome .given .1))
 
 returns-4 : tie.Need-returns-4
 returns-4 c = c .refused4 .ensures ∙ ap told (sym (c .before .enum-told3 .given .1))
@@ -28,6 +28,12 @@ returns-5 c = c .refused5 .ensures ∙ ap told (sym (c .before .before .outcome2
 
 returns-6 : tie.Need-returns-6
 returns-6 c = c .refused6 .ensures ∙ ap told (sym (c .before .enum-told4 .given .1))
+
+returns-7 : tie.Need-returns-7
+returns-7 c = c .refused7 .ensures ∙ ap told (sym (c .before .before .outcome3 .given .1))
+
+returns-8 : tie.Need-returns-8
+returns-8 c = c .refused8 .ensures ∙ ap told (sym (c .before .enum-told5 .given .1))
 
 pub refusal-of-spec : {M : Type 1} → statement M
 refusal-of-spec =
@@ -45,9 +51,16 @@ refusal-of-spec =
     (search needs)
     (search needs)
     (search needs)
+    (search needs)
+    (search needs)
+    (search needs)
+    (search needs)
+    (search needs)
     returns
     returns-2
     returns-3
     returns-4
     returns-5
-    returns-6)
+    returns-6
+    returns-7
+    returns-8)

@@ -1,0 +1,5 @@
+// stub
+pub enum Ends {
+    Compact,
+    Last,
+}

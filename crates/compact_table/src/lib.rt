@@ -1,0 +1,5 @@
+// stub
+pub struct Table {
+    pub start: usize,
+    pub count: usize,
+}

@@ -1,0 +1,99 @@
+-- The plan: which reading wins, from where and how many columns, so that who fills the list cannot fail (01, Choice).
+use mathlib.Core.Bool.{Bool, true, false}
+use mathlib.Core.List.{List, [], _∷_}
+use Prim.Native.Nat.{ℕ, _+_}
+use lib.Dec.{ltb, leb, eqb}
+use lib.ListN.{length}
+use Rattle.search.specs.Search.{pick, firstIn}
+use Rattle.search.specs.Walks.{Walk, chain}
+use Rattle.codepage.specs.Page.{Page}
+use Rattle.field.specs.declared.ByteOrder.{ByteOrder}
+use Rattle.field.specs.declared.ByteOrder.the-variants.{BigEndian, LittleEndian}
+use Rattle.field.specs.Numbers.{number}
+use Rattle.outcome.specs.declared.Outcome.{Outcome}
+use Rattle.outcome.specs.declared.Outcome.the-variants.{Accepted, EmptyReply, BufferTooShort}
+use Rattle.outcome.specs.Refusal.{refusalOf}
+use Rattle.types.specs.declared.ColumnMetadata.{ColumnMetadata}
+use Rattle.column.specs.Column.{hasNames, namedIn}
+use Rattle.standard.specs.Reading.{countAt, countIn, gives}
+use Rattle.standard.specs.Run.{standardWalk}
+use Rattle.compact_table.specs.Table.{tableOf}
+use Rattle.compact.specs.declared.Ends.the-variants as ends
+use Rattle.compact.specs.Compact.{compactWalk}
+use Rattle.scan.specs.Scan.{scanBest, limitOf}
+use Rattle.plan.specs.declared.Layout.{Layout}
+use Rattle.plan.specs.declared.Layout.the-variants.{Standard, Compact, Last}
+use Rattle.plan.specs.declared.Plan.{Plan}
+use Rattle.plan.specs.Choice.{Reading, hasSome, lastCountAt}
+
+-- from descriptor to descriptor, by layout and byte order (01, Layouts)
+abbrev pub walkBy : Page → List ℕ → Layout → ByteOrder → Walk ColumnMetadata
+walkBy page s Standard order = standardWalk page order s
+walkBy page s Compact order = compactWalk page ends.Compact s
+walkBy page s Last order = compactWalk page ends.Last s
+
+-- the walk of a plan (01, Layouts)
+unfoldable pub walkOf : Page → List ℕ → Plan → Walk ColumnMetadata
+walkOf page s p = walkBy page s (p .layout) (p .order)
+
+-- the columns that a plan stands for: what the filler writes (01, Answers)
+unfoldable pub columnsOf : Page → List ℕ → Plan → List ColumnMetadata
+columnsOf page s p = chain (walkOf page s p) (p .limit) 0 (p .start)
+
+-- the reading that a plan stands for (01, Choice)
+unfoldable pub readingOf : Page → List ℕ → Plan → Reading
+readingOf page s p = record { columns = columnsOf page s p; alone = p .alone; refusal = refusalOf (p .outcome) }
+
+-- a plan of at most n descriptors from p on, not counted yet (01, Layouts)
+abbrev pub planned : Layout → ByteOrder → Bool → ℕ → ℕ → Plan
+planned layout order alone p n =
+    record { layout = layout; order = order; alone = alone; start = p; limit = n; count = 0; named = 0; outcome = Accepted }
+
+-- a plan that reads nothing (01, Numbers of refusal: description)
+abbrev pub emptyPlan : Outcome → Plan
+emptyPlan outcome =
+    record { layout = Last; order = LittleEndian; alone = false; start = 0; limit = 0; count = 0; named = 0; outcome = outcome }
+
+-- counted: with how many columns it stands for, and how many of them have names (01, Choice)
+unfoldable pub counted : Page → List ℕ → Plan → Plan
+counted page s p = record {
+  layout = p .layout;
+  order = p .order;
+  alone = p .alone;
+  start = p .start;
+  limit = p .limit;
+  count = length (columnsOf page s p);
+  named = namedIn page s (columnsOf page s p);
+  outcome = p .outcome;
+}
+
+-- the standard reading: all its descriptors, or nothing (01, Choice: standard BE, standard LE)
+unfoldable pub standardPlan : Page → ByteOrder → List ℕ → Plan
+standardPlan page order s =
+    counted page s (planned Standard order false (pick (gives order s) (countAt s + 2) 0) (pick (gives order s) (countIn order s) 0))
+
+-- the compact reading (01, Choice: compact)
+unfoldable pub compactPlan : Page → List ℕ → Plan
+compactPlan page s = counted page s (planned Compact LittleEndian true (tableOf s .start) (tableOf s .count))
+
+-- the scan's best run (01, Choice: scan)
+unfoldable pub scanPlan : Page → List ℕ → Plan
+scanPlan page s = counted page s (planned Standard (scanBest page s .order) true (scanBest page s .start) (limitOf (scanBest page s)))
+
+-- the last reader (01, Choice; 01, Numbers of refusal: 1 empty, 2 ends early)
+unfoldable pub lastPlan : Page → List ℕ → Plan
+lastPlan page s =
+    pick (eqb (length s) 0) (emptyPlan EmptyReply)
+    (pick (ltb (length s) (countAt s)) (emptyPlan (BufferTooShort (countAt s) (length s)))
+    (pick (ltb (length s) (countAt s + 2)) (emptyPlan Accepted)
+    (counted page s (planned Last LittleEndian false (lastCountAt s + 2) (number LittleEndian 2 s (lastCountAt s))))))
+
+-- the four readings' plans in their order (01, Choice)
+abbrev pub plans : Page → List ℕ → List Plan
+plans page s = standardPlan page BigEndian s ∷ compactPlan page s ∷ standardPlan page LittleEndian s ∷ scanPlan page s ∷ []
+
+-- the choice among them, as among the readings (01, Choice)
+unfoldable pub planOf : Page → List ℕ → Plan
+planOf page s =
+    firstIn (λ p. hasNames page s (columnsOf page s p)) (plans page s)
+    (firstIn (λ p. hasSome (columnsOf page s p)) (plans page s) (lastPlan page s))

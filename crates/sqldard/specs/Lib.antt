@@ -1,0 +1,2 @@
+pub mod Description
+pub mod Exchanged
