@@ -12,6 +12,10 @@ use Rattle.descriptor.specs.declared.Step.{Step}
 use Rattle.descriptor.specs.Nullable.{lenient, nullableEnd, inNullable}
 use Rattle.descriptor.specs.Descriptor.{dxEnd, optEnd, descriptorEnd, dxPair, optName, optLabel, optPair, describedAt}
 
+-- a SQLDXGRP that is null or missing (DRDA V1; 01, Layouts: unless FF)
+abbrev pub noSqldxgrp : ℕ → Sqldxgrp
+noSqldxgrp next = record { «base_table_name» = noString 0; «schema_name» = noString 0; name = noString 0; next = next }
+
 -- the SQLDXGRP whose flag is due at p (DRDA V1: SQLDXGRP; 01, Layouts: extension)
 abbrev pub sqldxgrpAt : List ℕ → ℕ → Sqldxgrp
 sqldxgrpAt s p = record {
@@ -19,6 +23,16 @@ sqldxgrpAt s p = record {
   «schema_name» = dxPair 5 s p;
   name = dxPair 7 s p;
   next = nullableEnd lenient dxEnd s p;
+}
+
+-- a SQLDOPTGRP that is null or missing (DRDA V1; 01, Layouts: unless FF)
+abbrev pub noSqldoptgrp : ℕ → Sqldoptgrp
+noSqldoptgrp next = record {
+  name = noString 0;
+  label = noString 0;
+  «base_table_name» = noString 0;
+  «schema_name» = noString 0;
+  next = next;
 }
 
 -- the SQLDOPTGRP whose flag is due at p (DRDA V1: SQLDOPTGRP; 01, Layouts: option flag)
@@ -31,9 +45,13 @@ sqldoptgrpAt s p = record {
   next = nullableEnd lenient (optEnd lenient) s p;
 }
 
+-- a descriptor that cannot be read, for counting (01, Choice: columns)
+abbrev pub noStep : ℕ → Step
+noStep next = record { name = noString 0; next = next }
+
 -- what counting a run asks of the descriptor at p: its name, none where it cannot be read, and what is past it (01, Choice: columns, generated)
 unfoldable pub stepAt : ByteOrder → List ℕ → ℕ → Step
 stepAt order s p =
     pick (leb (descriptorEnd lenient order s p) (length s))
     (record { name = describedAt order s p .name; next = descriptorEnd lenient order s p })
-    (record { name = noString 0; next = descriptorEnd lenient order s p })
+    (noStep (descriptorEnd lenient order s p))

@@ -1,0 +1,4 @@
+pub mod Flags
+pub mod Groups
+pub mod Ends
+pub mod Steps
