@@ -3,7 +3,7 @@
 use mathlib.Core.Bool.{Bool, true, false}
 use mathlib.Core.List.{List}
 use mathlib.Core.Path.{_≡_, refl, sym, ap, subst, _∙_}
-use Prim.Native.Nat.{ℕ, suc, _+_, _%_, _≤_, _<_}
+use Prim.Native.Nat.{ℕ, suc, _+_, _≤_, _<_}
 use native.Mathlib.Omega.{arith}
 use lib.Dec.{ltb, leb}
 use lib.ListN.{length}
@@ -16,11 +16,12 @@ use Rattle.field.specs.Strings.{noString}
 use Rattle.types.specs.Types.{isKnown}
 use Rattle.column.specs.declared.Described.{Described}
 use Rattle.column.specs.Column.{StringsInside}
+use Rattle.descriptor.specs.declared.Sqldagrp.{Sqldagrp}
 use Rattle.descriptor.specs.declared.Sqldoptgrp.{Sqldoptgrp}
 use Rattle.descriptor.specs.declared.Step.{Step}
 use Rattle.descriptor.specs.Nullable.{Flags, lenient, nullableEnd, inNullable}
 use Rattle.descriptor.specs.Descriptor.{optEnd, descriptorEnd, optName, describedAt}
-use Rattle.descriptor.specs.Groups.{sqldoptgrpAt, noStep, stepAt}
+use Rattle.descriptor.specs.Groups.{sqldagrpAt, sqldoptgrpAt, noStep, stepAt}
 use Rattle.descriptor.proofs.Groups.{Inside, name-inside, label-inside, optPair-inside}
 use Rattle.descriptor.proofs.Ends.{descriptorEnd-grows}
 
@@ -97,29 +98,14 @@ module _ (order : ByteOrder) (s : List ℕ) (p : ℕ) where
       unfolding stepAt describedAt
       step-read l =
           let n : o .name ≡ inNullable (noString 0) optName s (p + 16) = ap (λ (o : Sqldoptgrp). o .name) x in
-          let u : leb (descriptorEnd lenient order s p) (length s) ≡ true = le-leb (descriptorEnd lenient order s p) (length s) (omega (arith, past-group)) in
-          ((λ i. record { name = n i; next = past-group i }) ∙ sym (ap stepBy u),
-          (omega (arith, descriptorEnd-grows lenient order s p, past-group), rw n (name-inside s (p + 16))))
+          let u : leb (descriptorEnd lenient order s p) (length s) ≡ true = le-leb (descriptorEnd lenient order s p) (length s) (omega (arith, past-group)) in (
+            (λ i. record { name = n i; next = past-group i }) ∙ sym (ap stepBy u),
+            (omega (arith, descriptorEnd-grows lenient order s p, past-group), rw n (name-inside s (p + 16))),
+          )
 
 -- ---- in full
 
 module _ (order : ByteOrder) (s : List ℕ) (p : ℕ) where
-  -- the answer of read_descriptor, from what its callees answer
-  abbrev pub describedBy : Sqldoptgrp → ℕ → ℕ → ℕ → ℕ → ℕ → Described
-  describedBy o a b c t d = record {
-    «sql_type» = t;
-    «raw_length» = c;
-    precision = a % 256;
-    scale = b % 256;
-    ccsid = d;
-    «byte_order» = order;
-    name = o .name;
-    label = o .label;
-    «base_table_name» = o .«base_table_name»;
-    «schema_name» = o .«schema_name»;
-    next = o .next;
-  }
-
   pub described-inside : StringsInside s (describedAt order s p)
   unfolding describedAt
   described-inside =
@@ -130,24 +116,26 @@ module _ (order : ByteOrder) (s : List ℕ) (p : ℕ) where
         schema = optPair-inside s 5 (p + 16);
       }
 
-  pub described-read : (o : Sqldoptgrp) (a b c t d : ℕ) → descriptorEnd lenient order s p ≤ length s
-      → a ≡ number order 2 s p → b ≡ number order 2 s (p + 2) → c ≡ number order 8 s (p + 4) → t ≡ number order 2 s (p + 12)
-      → d ≡ number order 2 s (p + 14) → o ≡ sqldoptgrpAt s (p + 16)
-      → (let r = describedBy o a b c t d in (r ≡ describedAt order s p) × StringsInside s r)
+  -- two groups and what is past them as one descriptor
+  abbrev pub describedBy : Sqldagrp → Sqldoptgrp → ℕ → Described
+  describedBy g o next = record {
+    «sql_type» = g .«sql_type»;
+    «raw_length» = g .«raw_length»;
+    precision = g .precision;
+    scale = g .scale;
+    ccsid = g .ccsid;
+    «byte_order» = order;
+    name = o .name;
+    label = o .label;
+    «base_table_name» = o .«base_table_name»;
+    «schema_name» = o .«schema_name»;
+    next = next;
+  }
+
+  pub described-read : (g : Sqldagrp) (o : Sqldoptgrp) → descriptorEnd lenient order s p ≤ length s → g ≡ sqldagrpAt order s p → o ≡ sqldoptgrpAt s (p + 16)
+      → (describedBy g o (o .next) ≡ describedAt order s p) × StringsInside s (describedBy g o (o .next))
   unfolding describedAt
-  described-read o a b c t d h ea eb ec et ed x = (e, subst (StringsInside s) (sym e) described-inside)
-    where
-      e : describedBy o a b c t d ≡ describedAt order s p
-      e = λ i. record {
-        «sql_type» = et i;
-        «raw_length» = ec i;
-        precision = ea i % 256;
-        scale = eb i % 256;
-        ccsid = ed i;
-        «byte_order» = order;
-        name = x i .name;
-        label = x i .label;
-        «base_table_name» = x i .«base_table_name»;
-        «schema_name» = x i .«schema_name»;
-        next = (ap (λ (o : Sqldoptgrp). o .next) x ∙ sym (end-inside lenient order s p h)) i;
-      }
+  described-read g o h e f =
+      let next : o .next ≡ descriptorEnd lenient order s p = ap (λ (o : Sqldoptgrp). o .next) f ∙ sym (end-inside lenient order s p h) in
+      let read : describedBy g o (o .next) ≡ describedAt order s p = λ i. describedBy (e i) (f i) (next i) in
+      (read, subst (StringsInside s) (sym read) described-inside)

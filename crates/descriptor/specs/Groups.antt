@@ -1,16 +1,28 @@
 -- What the readers of a descriptor answer, as records of the definitions.
 use mathlib.Core.List.{List}
-use Prim.Native.Nat.{ℕ}
+use Prim.Native.Nat.{ℕ, _+_, _%_}
 use lib.Dec.{leb}
 use lib.ListN.{length}
 use Rattle.search.specs.Search.{pick}
 use Rattle.field.specs.declared.ByteOrder.{ByteOrder}
+use Rattle.field.specs.Numbers.{number}
 use Rattle.field.specs.Strings.{noString}
+use Rattle.descriptor.specs.declared.Sqldagrp.{Sqldagrp}
 use Rattle.descriptor.specs.declared.Sqldxgrp.{Sqldxgrp}
 use Rattle.descriptor.specs.declared.Sqldoptgrp.{Sqldoptgrp}
 use Rattle.descriptor.specs.declared.Step.{Step}
 use Rattle.descriptor.specs.Nullable.{lenient, nullableEnd, inNullable}
 use Rattle.descriptor.specs.Descriptor.{dxEnd, optEnd, descriptorEnd, dxPair, optName, optLabel, optPair, describedAt}
+
+-- the numbers of the SQLDAGRP at p (DRDA V1: SQLDAGRP; 01, Layouts: precision 2, scale 2, length 8, SQLTYPE 2, CCSID 2; 01, Types: low 8 bits)
+abbrev pub sqldagrpAt : ByteOrder → List ℕ → ℕ → Sqldagrp
+sqldagrpAt order s p = record {
+  precision = number order 2 s p % 256;
+  scale = number order 2 s (p + 2) % 256;
+  «raw_length» = number order 8 s (p + 4);
+  «sql_type» = number order 2 s (p + 12);
+  ccsid = number order 2 s (p + 14);
+}
 
 -- a SQLDXGRP that is null or missing (DRDA V1; 01, Layouts: unless FF)
 abbrev pub noSqldxgrp : ℕ → Sqldxgrp

@@ -6,7 +6,7 @@ ghost use lib.ListN.{length};
 ghost use Rattle.column.specs.Column.{StringsInside};
 ghost use Rattle.descriptor.specs.Nullable.{lenient, nullableEnd};
 ghost use Rattle.descriptor.specs.Descriptor.{udtEnd, descriptorEnd, describedAt};
-ghost use Rattle.descriptor.specs.Groups.{noSqldxgrp, sqldxgrpAt, noSqldoptgrp, sqldoptgrpAt, noStep, stepAt};
+ghost use Rattle.descriptor.specs.Groups.{sqldagrpAt, noSqldxgrp, sqldxgrpAt, noSqldoptgrp, sqldoptgrpAt, noStep, stepAt};
 use column::Described;
 use field::ByteOrder;
 use field::StringRead;
@@ -153,27 +153,47 @@ pub fn descriptor_step(reply: &[u8], offset: usize, order: ByteOrder) -> Step
     }
 }
 
-// A descriptor that can be read, as descriptor_step's `next` says.
+// The numbers of SQLDAGRP; of precision and scale the low 8 bits.
+pub struct Sqldagrp {
+    pub precision: u8,
+    pub scale: u8,
+    pub raw_length: u64,
+    pub sql_type: u16,
+    pub ccsid: u16,
+}
+
+fn read_sqldagrp(reply: &[u8], offset: usize, order: ByteOrder) -> Sqldagrp
+    requires { ⌜ offset + 16 ≤ length (now reply) ⌝ }
+    ensures { λ r. ⌜ r ≡ sqldagrpAt order (now (reply .entry)) offset ⌝ }
+{
+    let precision = field::u16_at(reply, offset, order);
+    let scale = field::u16_at(reply, offset + 2, order);
+    Sqldagrp {
+        precision: (precision % 256) as u8,
+        scale: (scale % 256) as u8,
+        raw_length: field::u64_at(reply, offset + 4, order),
+        sql_type: field::u16_at(reply, offset + 12, order),
+        ccsid: field::u16_at(reply, offset + 14, order),
+    }
+}
+
+// A descriptor that can be read: past it lies within the reply, as descriptor_step tells.
 pub fn read_descriptor(reply: &[u8], offset: usize, order: ByteOrder) -> Described
     requires { ⌜ descriptorEnd lenient order (now reply) offset ≤ length (now reply) ⌝ }
     ensures { λ r. ⌜ (r ≡ describedAt order (now (reply .entry)) offset) × StringsInside (now (reply .entry)) r ⌝ }
 {
-    let precision = field::u16_at(reply, offset, order);
-    let scale = field::u16_at(reply, offset + 2, order);
-    let raw_length = field::u64_at(reply, offset + 4, order);
-    let sql_type = field::u16_at(reply, offset + 12, order);
-    let ccsid = field::u16_at(reply, offset + 14, order);
+    let numbers = read_sqldagrp(reply, offset, order);
     let options = read_sqldoptgrp(reply, offset + 16);
     let name = options.name;
     let label = options.label;
     let base_table_name = options.base_table_name;
     let schema_name = options.schema_name;
     Described {
-        sql_type,
-        raw_length,
-        precision: (precision % 256) as u8,
-        scale: (scale % 256) as u8,
-        ccsid,
+        sql_type: numbers.sql_type,
+        raw_length: numbers.raw_length,
+        precision: numbers.precision,
+        scale: numbers.scale,
+        ccsid: numbers.ccsid,
         byte_order: order,
         name,
         label,
