@@ -1,7 +1,7 @@
 -- The record of a column, from what its descriptor says (01, Answers).
 use mathlib.Core.Bool.{Bool, not}
 use mathlib.Core.List.{List}
-use Prim.Native.Nat.{ℕ}
+use Prim.Native.Nat.{ℕ, _+_, _≤_}
 use lib.Dec.{eqb, leb}
 use Rattle.search.specs.Search.{pick, count}
 use Rattle.codepage.specs.Page.{Page}
@@ -18,6 +18,13 @@ use Rattle.column.specs.declared.Run.{Run}
 -- the text of a string of the reply s (01, Parts 2: decode_text)
 unfoldable pub stringText : Page → List ℕ → StringRead → Text
 stringText page s r = textOf page s (r .place) (r .length)
+
+-- the strings that a descriptor names lie in the reply s (01, Answers: a text is place, length)
+pub record StringsInside (s : List ℕ) (d : Described) : Type 0 where
+  pub name : d .name .place + d .name .length ≤ lib.ListN.length s
+  pub label : d .label .place + d .label .length ≤ lib.ListN.length s
+  pub base : d .«base_table_name» .place + d .«base_table_name» .length ≤ lib.ListN.length s
+  pub schema : d .«schema_name» .place + d .«schema_name» .length ≤ lib.ListN.length s
 
 -- a generated text is 0, 0, 0 (01, Answers)
 abbrev pub generatedText : Text

@@ -1,2 +1,3 @@
 pub mod Nullable
 pub mod Descriptor
+pub mod Groups

@@ -1,1 +1,204 @@
-// One standard descriptor at a position of a reply.
+// One standard descriptor (SQLDAROW) at a position of a reply. Only its places are read here, no text is decoded.
+// Each of its flags may be missing where the reply ends. A position past the reply's end says that it cannot be read.
+ghost use mathlib.Core.Path.{_≡_};
+ghost use Prim.Native.Nat.{_+_, _≤_};
+ghost use lib.ListN.{length};
+ghost use Rattle.column.specs.Column.{StringsInside};
+ghost use Rattle.descriptor.specs.Nullable.{lenient, nullableEnd};
+ghost use Rattle.descriptor.specs.Descriptor.{udtEnd, descriptorEnd, describedAt};
+ghost use Rattle.descriptor.specs.Groups.{sqldagrpAt, noSqldxgrp, sqldxgrpAt, noSqldoptgrp, sqldoptgrpAt, noStep, stepAt};
+use column::Described;
+use field::ByteOrder;
+use field::StringRead;
+
+// Past SQLUDTGRP: nothing of it is kept.
+fn skip_sqludtgrp(reply: &[u8], offset: usize) -> usize
+    ensures { λ r. ⌜ r ≡ nullableEnd lenient udtEnd (now (reply .entry)) offset ⌝ }
+{
+    if reply.len() <= offset {
+        return offset;
+    }
+    let start = offset + 1;
+    if reply[offset] == 0xFF {
+        return start;
+    }
+    field::skip_strings(reply, start + 4, 5)
+}
+
+// The names in SQLDXGRP, the extension.
+pub struct Sqldxgrp {
+    pub base_table_name: StringRead,
+    pub schema_name: StringRead,
+    pub name: StringRead,
+    pub next: usize,
+}
+
+fn no_sqldxgrp(next: usize) -> Sqldxgrp
+    ensures { λ r. ⌜ r ≡ noSqldxgrp next ⌝ }
+{
+    let none = field::no_string(0);
+    Sqldxgrp {
+        base_table_name: none,
+        schema_name: none,
+        name: none,
+        next,
+    }
+}
+
+fn read_sqldxgrp(reply: &[u8], offset: usize) -> Sqldxgrp
+    ensures { λ r. ⌜ r ≡ sqldxgrpAt (now (reply .entry)) offset ⌝ }
+{
+    if reply.len() <= offset {
+        return no_sqldxgrp(offset);
+    }
+    let start = offset + 1;
+    if reply[offset] == 0xFF {
+        return no_sqldxgrp(start);
+    }
+    let names = field::skip_strings(reply, start + 8, 3);
+    let base_table_name = field::read_pair(reply, names);
+    let schema_name = field::read_pair(reply, base_table_name.next);
+    let name = field::read_pair(reply, schema_name.next);
+    Sqldxgrp {
+        base_table_name,
+        schema_name,
+        name,
+        next: name.next,
+    }
+}
+
+// The names in SQLDOPTGRP and in its extension.
+pub struct Sqldoptgrp {
+    pub name: StringRead,
+    pub label: StringRead,
+    pub base_table_name: StringRead,
+    pub schema_name: StringRead,
+    pub next: usize,
+}
+
+fn no_sqldoptgrp(next: usize) -> Sqldoptgrp
+    ensures { λ r. ⌜ r ≡ noSqldoptgrp next ⌝ }
+{
+    let none = field::no_string(0);
+    Sqldoptgrp {
+        name: none,
+        label: none,
+        base_table_name: none,
+        schema_name: none,
+        next,
+    }
+}
+
+fn read_sqldoptgrp(reply: &[u8], offset: usize) -> Sqldoptgrp
+    ensures { λ r. ⌜ r ≡ sqldoptgrpAt (now (reply .entry)) offset ⌝ }
+{
+    if reply.len() <= offset {
+        return no_sqldoptgrp(offset);
+    }
+    let start = offset + 1;
+    if reply[offset] == 0xFF {
+        return no_sqldoptgrp(start);
+    }
+    let name = field::read_pair(reply, start + 2);
+    let label = field::read_pair(reply, name.next);
+    let comments_end = field::skip_strings(reply, label.next, 2);
+    let extension = read_sqldxgrp(reply, skip_sqludtgrp(reply, comments_end));
+    let base_table_name = extension.base_table_name;
+    let schema_name = extension.schema_name;
+    // The extension's name counts last.
+    let chosen_name = field::choose(name, extension.name);
+    Sqldoptgrp {
+        name: chosen_name,
+        label,
+        base_table_name,
+        schema_name,
+        next: extension.next,
+    }
+}
+
+// What counting a run asks of a descriptor: its name, none where it cannot be read, and what is past it.
+pub struct Step {
+    pub name: StringRead,
+    pub next: usize,
+}
+
+fn no_step(next: usize) -> Step
+    ensures { λ r. ⌜ r ≡ noStep next ⌝ }
+{
+    let name = field::no_string(0);
+    Step { name, next }
+}
+
+// A scan asks at every byte of a reply: room and SQLTYPE are tested before any string is walked over.
+pub fn descriptor_step(reply: &[u8], offset: usize, order: ByteOrder) -> Step
+    requires { ⌜ offset ≤ length (now reply) ⌝ }
+    ensures { λ r. ⌜ (r ≡ stepAt order (now (reply .entry)) offset)
+        × ((offset + 16 ≤ r .next) × (r .name .place + r .name .length ≤ length (now (reply .entry)))) ⌝ }
+{
+    let end = reply.len();
+    if end - offset < 16 {
+        return no_step(offset + 16);
+    }
+    if !types::is_known_sql_type(field::u16_at(reply, offset + 12, order)) {
+        return no_step(end + 1);
+    }
+    let options = read_sqldoptgrp(reply, offset + 16);
+    if end < options.next {
+        return no_step(options.next);
+    }
+    let name = options.name;
+    Step {
+        name,
+        next: options.next,
+    }
+}
+
+// The numbers of SQLDAGRP; of precision and scale the low 8 bits.
+pub struct Sqldagrp {
+    pub precision: u8,
+    pub scale: u8,
+    pub raw_length: u64,
+    pub sql_type: u16,
+    pub ccsid: u16,
+}
+
+fn read_sqldagrp(reply: &[u8], offset: usize, order: ByteOrder) -> Sqldagrp
+    requires { ⌜ offset + 16 ≤ length (now reply) ⌝ }
+    ensures { λ r. ⌜ r ≡ sqldagrpAt order (now (reply .entry)) offset ⌝ }
+{
+    let precision = field::u16_at(reply, offset, order);
+    let scale = field::u16_at(reply, offset + 2, order);
+    Sqldagrp {
+        precision: (precision % 256) as u8,
+        scale: (scale % 256) as u8,
+        raw_length: field::u64_at(reply, offset + 4, order),
+        sql_type: field::u16_at(reply, offset + 12, order),
+        ccsid: field::u16_at(reply, offset + 14, order),
+    }
+}
+
+// A descriptor that can be read: past it lies within the reply, as descriptor_step tells.
+pub fn read_descriptor(reply: &[u8], offset: usize, order: ByteOrder) -> Described
+    requires { ⌜ descriptorEnd lenient order (now reply) offset ≤ length (now reply) ⌝ }
+    ensures { λ r. ⌜ (r ≡ describedAt order (now (reply .entry)) offset) × StringsInside (now (reply .entry)) r ⌝ }
+{
+    let numbers = read_sqldagrp(reply, offset, order);
+    let options = read_sqldoptgrp(reply, offset + 16);
+    let name = options.name;
+    let label = options.label;
+    let base_table_name = options.base_table_name;
+    let schema_name = options.schema_name;
+    Described {
+        sql_type: numbers.sql_type,
+        raw_length: numbers.raw_length,
+        precision: numbers.precision,
+        scale: numbers.scale,
+        ccsid: numbers.ccsid,
+        byte_order: order,
+        name,
+        label,
+        base_table_name,
+        schema_name,
+        next: options.next,
+    }
+}

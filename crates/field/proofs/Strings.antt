@@ -96,28 +96,46 @@ module _ (s : List ℕ) (left next t : ℕ) (e : t ≡ stringsEnd left s next) w
 
 -- ---- two strings
 
-module _ (s : List ℕ) (p : ℕ) (a b : StringRead) (e : a ≡ stringAt s p) (f : b ≡ stringAt s (a .next)) where
-  both : chosen a b ≡ pairAt s p
+module _ (m s : StringRead) where
+  abbrev picked : Bool → StringRead
+  picked b = pick b s (record { place = m .place; length = m .length; next = s .next })
+
+  pub chosen-second : m .length ≡ 0 → s ≡ chosen m s
+  unfolding chosen
+  chosen-second z = sym (ap picked (eq-eqb (m .length) 0 z))
+
+  pub chosen-first : (m .length ≡ 0 → ⊥) → record { place = m .place; length = m .length; next = s .next } ≡ chosen m s
+  unfolding chosen
+  chosen-first z = sym (ap picked (ne-eqb (m .length) 0 z))
+
+  pub chosen-next : chosen m s .next ≡ s .next
+  unfolding chosen
+  chosen-next = go (eqb (m .length) 0)
+    where
+      go : (b : Bool) → picked b .next ≡ s .next
+      go true = refl
+      go false = refl
+
+  -- the bytes of the string that counts lie where those of both do
+  pub chosen-inside : (n : ℕ) → m .place + m .length ≤ n → s .place + s .length ≤ n → chosen m s .place + chosen m s .length ≤ n
+  unfolding chosen
+  chosen-inside n h k = go (eqb (m .length) 0)
+    where
+      go : (b : Bool) → picked b .place + picked b .length ≤ n
+      go true = k
+      go false = h
+
+module _ (s : List ℕ) (p : ℕ) where
+  pub pair-is : (a b : StringRead) → a ≡ stringAt s p → b ≡ stringAt s (a .next) → chosen a b ≡ pairAt s p
   unfolding pairAt
-  both =
+  pair-is a b e f =
       let n : a .next ≡ stringEnd s p = ap (λ (x : StringRead). x .next) e ∙ string-next s p in
       ap (λ (x : StringRead). chosen x b) e ∙ ap (chosen (stringAt s p)) (f ∙ ap (stringAt s) n)
 
-  pub pair-second : a .length ≡ 0 → b ≡ pairAt s p
-  unfolding chosen
-  pair-second z = rw (eq-eqb (a .length) 0 z) at both
+  pub pair-next : pairAt s p .next ≡ stringsEnd 2 s p
+  unfolding pairAt stringsEnd
+  pair-next = chosen-next (stringAt s p) (stringAt s (stringEnd s p)) ∙ string-next s (stringEnd s p)
 
-  pub pair-first : (a .length ≡ 0 → ⊥) → record { place = a .place; length = a .length; next = b .next } ≡ pairAt s p
-  unfolding chosen
-  pair-first z = rw (ne-eqb (a .length) 0 z) at both
-
--- the bytes of the string that counts lie in the reply
-pub pair-inside : (s : List ℕ) (p : ℕ) → pairAt s p .place + pairAt s p .length ≤ length s
-unfolding pairAt chosen
-pair-inside s p = go (eqb (stringAt s p .length) 0)
-  where
-    go : (t : Bool)
-        → (let r = pick t (stringAt s (stringEnd s p)) (record { place = stringAt s p .place; length = stringAt s p .length; next = stringAt s (stringEnd s p) .next }) in
-        r .place + r .length ≤ length s)
-    go true = string-inside s (stringEnd s p)
-    go false = string-inside s p
+  pub pair-inside : pairAt s p .place + pairAt s p .length ≤ length s
+  unfolding pairAt
+  pair-inside = chosen-inside (stringAt s p) (stringAt s (stringEnd s p)) (length s) (string-inside s p) (string-inside s (stringEnd s p))

@@ -4,7 +4,7 @@ ghost use mathlib.Core.Path.{_≡_};
 ghost use Prim.Native.Nat.{_+_, _*_, _<_, _≤_};
 ghost use lib.ListN.{length};
 ghost use Rattle.field.specs.Numbers.{number, signed};
-ghost use Rattle.field.specs.Strings.{noString, stringAt, stringsEnd, pairAt};
+ghost use Rattle.field.specs.Strings.{noString, stringAt, stringsEnd, chosen, pairAt};
 
 pub enum ByteOrder {
     BigEndian,
@@ -154,11 +154,9 @@ pub fn skip_strings(reply: &[u8], offset: usize, count: usize) -> usize
 }
 
 // Of two strings, m and s, the first that has bytes; `next` is past both.
-pub fn read_pair(reply: &[u8], offset: usize) -> StringRead
-    ensures { λ r. ⌜ r ≡ pairAt (now (reply .entry)) offset ⌝ }
+pub fn choose(m: StringRead, s: StringRead) -> StringRead
+    ensures { λ r. ⌜ r ≡ chosen m s ⌝ }
 {
-    let m = read_string(reply, offset);
-    let s = read_string(reply, m.next);
     if m.length == 0 {
         s
     } else {
@@ -168,4 +166,13 @@ pub fn read_pair(reply: &[u8], offset: usize) -> StringRead
             next: s.next,
         }
     }
+}
+
+// The pair of strings at a position.
+pub fn read_pair(reply: &[u8], offset: usize) -> StringRead
+    ensures { λ r. ⌜ r ≡ pairAt (now (reply .entry)) offset ⌝ }
+{
+    let m = read_string(reply, offset);
+    let s = read_string(reply, m.next);
+    choose(m, s)
 }

@@ -53,3 +53,9 @@ found-passes f g [] d p q = q
 found-passes f g (x ∷ xs) d p q =
     pick-passes f (g x) x (firstIn g xs d) (and-left (f x) (each f xs) p)
     (found-passes f g xs d (and-right (f x) (each f xs) p) q)
+
+-- a search that no element which passes a test can end finds none, if all pass it
+pub firstIn-none : {A : Type 0} (f g : A → Bool) (l : List A) (d : A) → T (each f l) → ((x : A) → T (f x) → g x ≡ false) → firstIn g l d ≡ d
+firstIn-none f g [] d p h = refl
+firstIn-none f g (x ∷ xs) d p h =
+    rw (h x (and-left (f x) (each f xs) p)) (firstIn-none f g xs d (and-right (f x) (each f xs) p) h)

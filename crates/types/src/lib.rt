@@ -158,10 +158,13 @@ pub fn find_type(base: u16) -> TypeRow
     }
 }
 
-// Whether the base type has a row.
+// Whether the base type has a row. Scans ask at every byte of a reply, so what the table cannot have is not searched for.
 pub fn is_known_sql_type(sql_type: u16) -> bool
     ensures { λ r. ⌜ r ≡ isKnown «sql_type» ⌝ }
 {
+    if (sql_type < 384) | (2437 < sql_type) {
+        return false;
+    }
     let row = find_type(sql_type - sql_type % 2);
     0 < row.base
 }

@@ -1,22 +1,16 @@
--- The pair is its second string where the first has no bytes, else the first, past both.
+-- The pair is chosen of the string at the position and the one past it.
 -- Assumes nothing.
+use mathlib.Core.Path.{_∙_}
 use borrow.Author.Needs.{needs}
-use Rattle.field.proofs.Strings.{pair-first, pair-second}
+use Rattle.field.proofs.Strings.{pair-is}
 use Rattle.field.proofs.read_pair.Statement.{statement}
 use Rattle.field.proofs.read_pair.Tie as tie
 
 returns : tie.Need-returns
 returns c =
-    pair-second _ _ (c .before .before .before .read-string .result) _ (c .before .before .before .read-string .ensures)
-    (c .before .before .read-string2 .ensures)
-    (c .if1 .taken)
-
-returns-2 : tie.Need-returns-2
-returns-2 c =
-    pair-first _ _ (c .before .before .before .read-string .result) (c .before .before .read-string2 .result)
-    (c .before .before .before .read-string .ensures)
-    (c .before .before .read-string2 .ensures)
-    (c .if1 .left)
+    c .choose .ensures
+    ∙ pair-is _ _ (c .before .before .read-string .result) (c .before .read-string2 .result) (c .before .before .read-string .ensures)
+    (c .before .read-string2 .ensures)
 
 pub read-pair-spec : {M : Type 1} → statement M
-read-pair-spec = tie.close (tie.spec (search needs) (search needs) returns returns-2)
+read-pair-spec = tie.close (tie.spec (search needs) (search needs) (search needs) returns)
