@@ -8,9 +8,9 @@ use mathlib.Core.List.{List, [], _∷_, map}
 use mathlib.Core.Bool.{Bool, true, false, _&&_, _||_, true≢false}
 use lib.ListN.{length, getD, take, drop, length-map, length-drop}
 use lib.Seq.{getD-take, getD-drop, drop-drop, take-take, length-take-le}
-use lib.Dec.{T, eqb, ltb, leb, eqb→eq, leb→le, ltb→lt, lt→ltb}
+use lib.Dec.{T, eqb, ltb, leb, eqb→eq, leb→le, ltb→lt}
 use borrow.Author.Tests.{eqb-true, eqb-false, eq-eqb, lt-ltb}
-use Rattle.search.specs.Search.{pick, each}
+use Rattle.search.specs.Search.{each}
 use Rattle.search.proofs.Over.{getD-map}
 use Rattle.search.proofs.Tests.{and-left, and-right, each-at}
 use Rattle.codepage.specs.Page.{Page}
@@ -18,7 +18,7 @@ use Rattle.codepage.specs.Rearranged.{rearranged}
 use Rattle.codepage.specs.Blank.{isBlankIn}
 use Rattle.codepage.proofs.Pages.{blanksAsIn037, blank-low}
 use Rattle.text.specs.Chars.{isAscii, isDigit, charOf, chars}
-use Rattle.text.specs.Text.{textIs, emptyText, placed, leading, kept, trimmed, textOn, textOf}
+use Rattle.text.specs.Text.{textIs, leading, kept, trimmed, textOf}
 use Rattle.text.specs.Generated.{startsCol, isGenerated, textChars}
 use Rattle.text.proofs.Trim.{kept-le, kept-some, leading-le}
 use Rattle.text.proofs.Decode.{lent, lent-length, some-kept, decode-none, decode-ascii, decode-page}
@@ -60,10 +60,13 @@ module _ (page : Page) (a : ℕ) (bs : List ℕ) (g : isGenerated (chars page a 
   letters : (charOf page a (getD bs 0 0) ≡ 0x43) × ((charOf page a (getD bs 1 0) ≡ 0x4F) × (charOf page a (getD bs 2 0) ≡ 0x4C))
   letters =
       let c = chars page a bs in
-      let p = and-left (eqb (getD c 0 0) 0x43 && eqb (getD c 1 0) 0x4F) (eqb (getD c 2 0) 0x4C) starts in
-      (sym (getD-map (charOf page a) bs 0 0 0 (omega (arith, long))) ∙ eqb→eq (getD c 0 0) 0x43 (and-left (eqb (getD c 0 0) 0x43) (eqb (getD c 1 0) 0x4F) p),
-      (sym (getD-map (charOf page a) bs 1 0 0 (omega (arith, long))) ∙ eqb→eq (getD c 1 0) 0x4F (and-right (eqb (getD c 0 0) 0x43) (eqb (getD c 1 0) 0x4F) p),
-      sym (getD-map (charOf page a) bs 2 0 0 (omega (arith, long))) ∙ eqb→eq (getD c 2 0) 0x4C (and-right (eqb (getD c 0 0) 0x43 && eqb (getD c 1 0) 0x4F) (eqb (getD c 2 0) 0x4C) starts)))
+      let p = and-left (eqb (getD c 0 0) 0x43 && eqb (getD c 1 0) 0x4F) (eqb (getD c 2 0) 0x4C) starts in (
+        sym (getD-map (charOf page a) bs 0 0 0 (omega (arith, long))) ∙ eqb→eq (getD c 0 0) 0x43 (and-left (eqb (getD c 0 0) 0x43) (eqb (getD c 1 0) 0x4F) p),
+        (
+          sym (getD-map (charOf page a) bs 1 0 0 (omega (arith, long))) ∙ eqb→eq (getD c 1 0) 0x4F (and-right (eqb (getD c 0 0) 0x43) (eqb (getD c 1 0) 0x4F) p),
+          sym (getD-map (charOf page a) bs 2 0 0 (omega (arith, long))) ∙ eqb→eq (getD c 2 0) 0x4C (and-right (eqb (getD c 0 0) 0x43 && eqb (getD c 1 0) 0x4F) (eqb (getD c 2 0) 0x4C) starts),
+        ),
+      )
 
 digits-ascii : (page : Page) (a : ℕ) → (a ≡ page .alphabet → ⊥) → (ws : List ℕ) → T (each isDigit (map (charOf page a) ws)) → isAscii ws ≡ true
 unfolding isAscii
