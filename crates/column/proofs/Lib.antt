@@ -1,2 +1,4 @@
+pub mod Names
+pub mod Numbers
 pub mod Moved
 pub mod Lies

@@ -1,15 +1,17 @@
 -- The record of a column, from what its descriptor says (01, Answers).
-use mathlib.Core.Bool.{Bool, not}
+use mathlib.Core.Bool.{Bool, false, not}
 use mathlib.Core.List.{List}
 use Prim.Native.Nat.{ℕ, _+_, _≤_}
 use lib.Dec.{eqb, leb}
 use Rattle.search.specs.Search.{pick, count}
 use Rattle.codepage.specs.Page.{Page}
+use Rattle.field.specs.declared.ByteOrder.the-variants.{BigEndian}
 use Rattle.field.specs.declared.StringRead.{StringRead}
 use Rattle.text.specs.declared.Text.{Text}
-use Rattle.text.specs.Text.{textIs, textOf}
+use Rattle.text.specs.Text.{textIs, emptyText, textOf}
 use Rattle.text.specs.Generated.{isGeneratedText}
 use Rattle.types.specs.declared.ColumnMetadata.{ColumnMetadata}
+use Rattle.types.specs.declared.Db2Type.{Db2Type}
 use Rattle.types.specs.declared.SqldaType.{SqldaType}
 use Rattle.types.specs.Types.{sqldaType}
 use Rattle.column.specs.declared.Described.{Described}
@@ -54,6 +56,31 @@ columnWith page s i d = record {
   label = stringText page s (d .label);
   «base_table_name» = stringText page s (d .«base_table_name»);
   «schema_name» = stringText page s (d .«schema_name»);
+}
+
+-- the four strings of a descriptor lie in the reply s (01, Layouts: a string's bytes follow its length)
+pub record StringsInside (s : List ℕ) (d : Described) : Type 0 where
+  pub name : d .name .place + d .name .length ≤ lib.ListN.length s
+  pub label : d .label .place + d .label .length ≤ lib.ListN.length s
+  pub base : d .«base_table_name» .place + d .«base_table_name» .length ≤ lib.ListN.length s
+  pub schema : d .«schema_name» .place + d .«schema_name» .length ≤ lib.ListN.length s
+
+-- what a lent list holds before a column is put there: 0 everywhere, SmallInt, BE, texts empty (01, Answers: an empty text is 0, 0, 1)
+unfoldable pub blankColumn : ColumnMetadata
+blankColumn = record {
+  number = 0;
+  «db2_type» = Db2Type.SmallInt;
+  «drda_type» = 0;
+  length = 0;
+  nullable = false;
+  precision = 0;
+  scale = 0;
+  ccsid = 0;
+  «byte_order» = BigEndian;
+  name = emptyText;
+  label = emptyText;
+  «base_table_name» = emptyText;
+  «schema_name» = emptyText;
 }
 
 -- a column has a name that is not generated (01, Choice)

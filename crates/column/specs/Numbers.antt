@@ -1,6 +1,6 @@
 -- A column in 19 numbers, and the record that they stand for (01, Expected form: a thin filler over a core that writes numbers).
 use mathlib.Core.List.{List, [], _∷_}
-use Prim.Native.Nat.{ℕ}
+use Prim.Native.Nat.{ℕ, _<_}
 use lib.Dec.{eqb}
 use lib.ListN.{getD}
 use Rattle.search.specs.Search.{pick}
@@ -35,13 +35,25 @@ numbersOf page s i d =
     textNumbers (nameText page s (d .name)) (textNumbers (stringText page s (d .label))
     (textNumbers (stringText page s (d .«base_table_name»)) (textNumbers (stringText page s (d .«schema_name»)) [])))
 
--- the text whose three numbers start at k (01, Answers: a text)
+-- the text whose three numbers stand at a, b and c (01, Answers: a text is place, length, alphabet)
 abbrev pub textFrom : List ℕ → ℕ → ℕ → ℕ → Text
 textFrom n a b c = textIs (getD n a 0) (getD n b 0) (getD n c 0)
 
 -- the type that the numbers say (01, Types and lengths)
 abbrev pub typeFrom : List ℕ → SqldaType
 typeFrom n = sqldaType (getD n 1 0) (getD n 2 0) (getD n 3 0) (getD n 4 0) (getD n 5 0)
+
+-- the numbers fit the fields of a record: 16 bits for number, SQLTYPE and CCSID, 8 for precision, scale and alphabets (01, Answers: a record)
+pub record Fits (n : List ℕ) : Type 0 where
+  pub number : getD n 0 0 < 65536
+  pub sqltype : getD n 1 0 < 65536
+  pub precision : getD n 3 0 < 256
+  pub scale : getD n 4 0 < 256
+  pub ccsid : getD n 5 0 < 65536
+  pub name : getD n 9 0 < 256
+  pub label : getD n 12 0 < 256
+  pub base : getD n 15 0 < 256
+  pub schema : getD n 18 0 < 256
 
 -- the record that the numbers stand for (01, Answers: a record)
 unfoldable pub columnOf : List ℕ → ColumnMetadata

@@ -37,6 +37,19 @@ placed-length p n a = go (eqb n 0) refl
     go true e = sym (eqb-true n 0 e)
     go false e = refl
 
+-- a text that is read has an alphabet: 0 is that of a generated name alone
+pub alphabet-some : (page : Page) → 0 < page .alphabet → (bs : List ℕ) (p : ℕ) → eqb (textOn page bs p .alphabet) 0 ≡ false
+unfolding textOn placed
+alphabet-some page h bs p =
+    go (isAscii bs) (eqb (length bs) 0) (eqb (kept (isBlankIn page) bs - leading (isBlankIn page) bs) 0)
+  where
+    go : (a b c : Bool) → eqb (pick a (pick b emptyText (textIs p (length bs) 1)) (pick c emptyText
+        (textIs (p + leading (isBlankIn page) bs) (kept (isBlankIn page) bs - leading (isBlankIn page) bs) (page .alphabet))) .alphabet) 0 ≡ false
+    go true true c = refl
+    go true false c = refl
+    go false b true = refl
+    go false b false = ne-eqb (page .alphabet) 0 (λ z. omega arith)
+
 -- a page whose blanks are those of page 037
 module _ (page : Page) (r : T (rearranged (page .table))) (h : T (blanksAsIn037 (page .table))) where
   -- bytes that are not all ASCII keep one in trimming

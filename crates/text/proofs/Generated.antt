@@ -38,7 +38,7 @@ charOf-page : (page : Page) (a b : ℕ) → a ≡ page .alphabet → charIn page
 unfolding charOf
 charOf-page page a b e = let t : eqb a (page .alphabet) ≡ true = eq-eqb a (page .alphabet) e in rw t refl
 
-charOf-other : (page : Page) (a b : ℕ) → (a ≡ page .alphabet → ⊥) → b ≡ charOf page a b
+pub charOf-other : (page : Page) (a b : ℕ) → (a ≡ page .alphabet → ⊥) → b ≡ charOf page a b
 unfolding charOf
 charOf-other page a b e = let t : eqb a (page .alphabet) ≡ false = ne-eqb a (page .alphabet) e in rw t refl
 
@@ -71,7 +71,7 @@ module _ (page : Page) (h : SpellsColAsIn037 (page .table)) (a : ℕ) (e : a ≡
       (below-at 256 (λ k. agree (isDigit (getD (page .table) k 0)) (leb 0xF0 k && leb k 0xF9)) (h .digits) b m))
       ∙ ap isDigit (charOf-page page a b e)
 
-  letter : (c b : ℕ) → T (spells (page .table) c b) → (k : ℕ) → k < 256 → eqb k b ≡ eqb (charOf page a k) c
+  pub letter : (c b : ℕ) → T (spells (page .table) c b) → (k : ℕ) → k < 256 → eqb k b ≡ eqb (charOf page a k) c
   letter c b t k m =
       sym (agree-same (eqb (charIn page k) c) (eqb k b) (below-at 256 (λ j. agree (eqb (getD (page .table) j 0) c) (eqb j b)) t k m))
       ∙ ap (λ (x : ℕ). eqb x c) (charOf-page page a k e)

@@ -1,5 +1,6 @@
 pub mod Trim
 pub mod Decode
 pub mod Generated
+pub mod Quick
 pub mod Cases
 pub mod Windows

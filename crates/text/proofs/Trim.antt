@@ -81,6 +81,15 @@ kept-le f (x ∷ xs) = go (eqb (kept f xs) 0) (f x) (kept-le f xs)
     go true false h = omega arith
     go false u h = omega arith
 
+pub leading-le : (f : ℕ → Bool) (xs : List ℕ) → leading f xs ≤ length xs
+unfolding leading
+leading-le f [] = le-refl 0
+leading-le f (x ∷ xs) = go (f x) (leading-le f xs)
+  where
+    go : (b : Bool) → leading f xs ≤ length xs → pick b (suc (leading f xs)) 0 ≤ suc (length xs)
+    go true h = omega arith
+    go false h = omega arith
+
 -- where every element that passes f passes g too, and not all pass g, something is kept
 pub kept-some : (f g : ℕ → Bool) → ((x : ℕ) → f x ≡ true → g x ≡ true) → (xs : List ℕ) → each g xs ≡ false → leading f xs < kept f xs
 unfolding leading kept

@@ -6,8 +6,8 @@ ghost use Rattle.search.specs.Search.{each};
 ghost use Rattle.codepage.specs.Page.{page037};
 ghost use Rattle.codepage.specs.Blank.{isBlankIn};
 ghost use Rattle.text.specs.Chars.{isAscii, isNameChar, isDigitOf, chars};
-ghost use Rattle.text.specs.Text.{leading, kept, textOf};
-ghost use Rattle.text.specs.Generated.{isGenerated, startsCol};
+ghost use Rattle.text.specs.Text.{leading, kept, trimmed, textOf};
+ghost use Rattle.text.specs.Generated.{isGenerated, startsCol, textChars};
 
 // Place and length of what trimming leaves; alphabet 0 is a generated name, 1 ASCII, 2 page 037. An empty text is 0, 0, 1.
 pub struct Text {
@@ -155,4 +155,28 @@ pub fn is_generated(bytes: &[u8], alphabet: u8) -> bool
         return false;
     }
     all_digits(&bytes[3..], alphabet)
+}
+
+// The same of bytes of page 037, trimmed. Most names end at the first test: blanks at the end are looked for only after a C.
+fn is_generated_trimmed(bytes: &[u8]) -> bool
+    ensures { λ r. ⌜ r ≡ isGenerated (chars page037 2 (trimmed page037 (now (bytes .entry)))) ⌝ }
+{
+    let first = leading_blanks(bytes);
+    if bytes.len() - first <= 3 {
+        return false;
+    }
+    if bytes[first] != 0xC3 {
+        return false;
+    }
+    let end = kept_bytes(bytes);
+    is_generated(&bytes[first..end], 2)
+}
+
+// The same of the text of a string. It need not be decoded: COL and digits of ASCII are all ASCII, and a C of page 037 is not.
+pub fn is_generated_at(reply: &[u8], start: usize, length: usize) -> bool
+    requires { ⌜ start + length ≤ lib.ListN.length (now reply) ⌝ }
+    ensures { λ r. ⌜ r ≡ isGenerated (textChars page037 (now (reply .entry)) (textOf page037 (now (reply .entry)) start length)) ⌝ }
+{
+    let bytes = &reply[start..start + length];
+    is_generated(bytes, 1) | is_generated_trimmed(bytes)
 }
