@@ -21,13 +21,6 @@ use Rattle.column.specs.declared.Run.{Run}
 unfoldable pub stringText : Page → List ℕ → StringRead → Text
 stringText page s r = textOf page s (r .place) (r .length)
 
--- the strings that a descriptor names lie in the reply s (01, Answers: a text is place, length)
-pub record StringsInside (s : List ℕ) (d : Described) : Type 0 where
-  pub name : d .name .place + d .name .length ≤ lib.ListN.length s
-  pub label : d .label .place + d .label .length ≤ lib.ListN.length s
-  pub base : d .«base_table_name» .place + d .«base_table_name» .length ≤ lib.ListN.length s
-  pub schema : d .«schema_name» .place + d .«schema_name» .length ≤ lib.ListN.length s
-
 -- a generated text is 0, 0, 0 (01, Answers)
 abbrev pub generatedText : Text
 generatedText = textIs 0 0 0

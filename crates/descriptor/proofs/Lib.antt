@@ -1,7 +1,7 @@
-pub mod Grows
-pub mod Local
-pub mod Lies
-pub mod Ends
 pub mod Flags
+pub mod Ends
 pub mod Groups
 pub mod Steps
+pub mod Cases
+pub mod Local
+pub mod Lies

@@ -22,7 +22,9 @@ use Rattle.column.specs.Moved.{columnBytes, LiesAll}
 use Rattle.column.proofs.Lies.{StringLies, string-wider, string-none, string-chosen, StringsLie, all-wider, column-lies, column-bytes}
 use Rattle.descriptor.specs.Nullable.{Flags, lenient, nullableEnd, inNullable}
 use Rattle.descriptor.specs.Descriptor.{udtEnd, dxEnd, dxStart, optEnd, descriptorEnd, dxPair, optName, optLabel, optPair, describedAt, columnAt}
-use Rattle.descriptor.proofs.Grows.{GroupIs, gone, null, held, group-is, in-gone, in-null, in-held, nullable-grows, udt-grows, dx-grows, start-grows, descriptor-in}
+use Rattle.descriptor.proofs.Flags.{in-missing, in-null, in-held}
+use Rattle.descriptor.proofs.Ends.{nullableEnd-grows, udtEnd-grows, dxEnd-grows, dxStart-grows}
+use Rattle.descriptor.proofs.Cases.{GroupIs, gone, null, held, group-is, descriptor-in}
 use Rattle.descriptor.proofs.Local.{FlagWindow, column-same, descriptor-lenient}
 
 -- ---- strings
@@ -51,7 +53,7 @@ nullable-lies : (v : List ℕ → ℕ → StringRead) (f : List ℕ → ℕ → 
 nullable-lies v f s l p = go (group-is lenient f s p)
   where
     go : GroupIs lenient f s p → StringLies p (nullableEnd lenient f s p) (inNullable (noString 0) v s p)
-    go (gone x e) = rw (in-gone (noString 0) v s p x) (string-none p _ 0)
+    go (gone x e) = rw (in-missing (noString 0) v s p x) (string-none p _ 0)
     go (null x y e) = rw (in-null (noString 0) v s p x y) (string-none p _ 0)
     go (held x y e) = rw (in-held (noString 0) v s p x y, e) (string-wider (p + 1) _ _ _ _ (omega arith) (le-refl _) (l (p + 1)))
 
@@ -69,20 +71,20 @@ dx-lies c x s =
 
 opt-pair-lies : (c : ℕ) → c ≤ 7 → (s : List ℕ) (p : ℕ) → StringLies p (optEnd lenient s p) (optPair c s p)
 unfolding optPair optEnd
-opt-pair-lies c x s p = string-wider _ _ _ _ _ (start-grows lenient s p) (le-refl _) (dx-lies c x s (dxStart lenient s p))
+opt-pair-lies c x s p = string-wider _ _ _ _ _ (dxStart-grows lenient s p) (le-refl _) (dx-lies c x s (dxStart lenient s p))
 
 -- the strings before the extension
 opt-strings : (c : ℕ) → c ≤ 6 → (s : List ℕ) (p : ℕ) → stringsEnd c s (p + 2) ≤ dxStart lenient s p
 unfolding dxStart stringsEnd
 opt-strings c x s p =
-    le-trans (stringsEnd-within c 0 6 (omega arith) s (p + 2)) (nullable-grows lenient udtEnd udt-grows s (stringsEnd 6 s (p + 2)))
+    le-trans (stringsEnd-within c 0 6 (omega arith) s (p + 2)) (nullableEnd-grows lenient udtEnd s (udtEnd-grows s) (stringsEnd 6 s (p + 2)))
 
 opt-string-lies : (c : ℕ) → c ≤ 4 → (s : List ℕ) (p : ℕ) → StringLies p (optEnd lenient s p) (pairAt s (stringsEnd c s (p + 2)))
 unfolding optEnd
 opt-string-lies c x s p =
     string-wider _ (stringsEnd 2 s (stringsEnd c s (p + 2))) _ _ _
     (omega (arith, stringsEnd-grows c s (p + 2)))
-    (omega (arith, stringsEnd-within c 2 6 (omega arith) s (p + 2), opt-strings 6 (omega arith) s p, nullable-grows lenient dxEnd dx-grows s (dxStart lenient s p)))
+    (omega (arith, stringsEnd-within c 2 6 (omega arith) s (p + 2), opt-strings 6 (omega arith) s p, nullableEnd-grows lenient dxEnd s (dxEnd-grows s) (dxStart lenient s p)))
     (pair-lies s (stringsEnd c s (p + 2)))
 
 name-lies : (s : List ℕ) (p : ℕ) → StringLies p (optEnd lenient s p) (optName s p)

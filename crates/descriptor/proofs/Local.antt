@@ -19,7 +19,10 @@ use Rattle.column.specs.Moved.{moveText, moveColumn}
 use Rattle.column.proofs.Moved.{Alike, alike-none, alike-moved, alike-chosen, alike-name}
 use Rattle.descriptor.specs.Nullable.{Flags, lenient, strict, missing, nullableEnd, inNullable}
 use Rattle.descriptor.specs.Descriptor.{udtEnd, dxEnd, dxStart, optEnd, descriptorEnd, dxPair, optName, optLabel, optPair, describedAt, columnAt}
-use Rattle.descriptor.proofs.Grows.{GroupIs, gone, null, held, group-is, end-gone, end-null, end-held, in-gone, in-null, in-held, nullable-grows, udt-grows, dx-grows, opt-grows, descriptor-in, descriptor-is}
+use Rattle.descriptor.proofs.Flags.{end-missing, end-null, end-held, in-missing, in-null, in-held}
+use Rattle.descriptor.proofs.Ends.{nullableEnd-grows, udtEnd-grows, dxEnd-grows, optEnd-grows}
+use Rattle.descriptor.proofs.Cases.{GroupIs, gone, null, held, group-is, descriptor-in}
+use Rattle.descriptor.proofs.Steps.{end-known}
 
 -- a window, and where a flag that is due is missing in s, it is missing in s′, and missing is allowed
 pub record FlagWindow (flags : Flags) (s : List ℕ) (a : ℕ) (s′ : List ℕ) (b n : ℕ) : Type 0 where
@@ -41,7 +44,7 @@ module _ (flags : Flags) (s : List ℕ) (a : ℕ) (s′ : List ℕ) (b n : ℕ) 
       go : GroupIs flags f s p → Same a b (nullableEnd flags f s p) (nullableEnd lenient f′ s′ q)
       go (gone x e) =
           let t = w .seam p q h x (rw e at k) in
-          rw (e, t .1, end-gone lenient f′ s′ q (t .0)) h
+          rw (e, t .1, end-missing lenient f′ s′ q (t .0)) h
       go (null x y e) =
           let e′ : nullableEnd lenient f′ s′ q ≡ q + 1 =
           end-null lenient f′ s′ q (omega (arith, w .window .inside′)) (sym (byte p q h (omega arith)) ∙ y) in
@@ -66,27 +69,27 @@ module _ (flags : Flags) (s : List ℕ) (a : ℕ) (s′ : List ℕ) (b n : ℕ) 
   pub start-local : (p q : ℕ) → Same a b p q → dxStart flags s p ≤ a + n → Same a b (dxStart flags s p) (dxStart lenient s′ q)
   unfolding dxStart
   start-local p q h k =
-      nullable-local udtEnd udtEnd udt-local udt-grows _ _
-      (strings 6 (p + 2) (q + 2) (same-plus a b 2 p q h) (le-trans (nullable-grows flags udtEnd udt-grows s (stringsEnd 6 s (p + 2))) k))
+      nullable-local udtEnd udtEnd udt-local udtEnd-grows _ _
+      (strings 6 (p + 2) (q + 2) (same-plus a b 2 p q h) (le-trans (nullableEnd-grows flags udtEnd s (udtEnd-grows s) (stringsEnd 6 s (p + 2))) k))
       k
 
   opt-local : (p q : ℕ) → Same a b p q → optEnd flags s p ≤ a + n → Same a b (optEnd flags s p) (optEnd lenient s′ q)
   unfolding optEnd
   opt-local p q h k =
-      nullable-local dxEnd dxEnd dx-local dx-grows _ _
-      (start-local p q h (le-trans (nullable-grows flags dxEnd dx-grows s (dxStart flags s p)) k))
+      nullable-local dxEnd dxEnd dx-local dxEnd-grows _ _
+      (start-local p q h (le-trans (nullableEnd-grows flags dxEnd s (dxEnd-grows s) (dxStart flags s p)) k))
       k
 
   pub descriptor-local : (order : ByteOrder) (p q : ℕ) → Same a b p q → descriptorEnd flags order s p ≤ a + n
       → Same a b (descriptorEnd flags order s p) (descriptorEnd lenient order s′ q)
   descriptor-local order p q h k =
       let i = descriptor-in flags order s p (le-trans k (w .window .inside)) in
-      let g = nullable-grows flags (optEnd flags) (opt-grows flags) s (p + 16) in
+      let g = nullableEnd-grows flags (optEnd flags) s (optEnd-grows flags s) (p + 16) in
       let e = number-same s a s′ b n (w .window) order 2 (p + 12) (q + 12) (same-plus a b 12 p q h) (omega arith) in
       let e′ : descriptorEnd lenient order s′ q ≡ nullableEnd lenient (optEnd lenient) s′ (q + 16) =
-      descriptor-is lenient order s′ q (omega (arith, w .window .inside′)) (sym (ap isKnown e) ∙ i .1) in
+      end-known lenient order s′ q (omega (arith, w .window .inside′)) (sym (ap isKnown e) ∙ i .1) in
       rw (i .2, e′)
-      (nullable-local (optEnd flags) (optEnd lenient) opt-local (opt-grows flags) (p + 16) (q + 16) (same-plus a b 16 p q h) (rw (i .2) at k))
+      (nullable-local (optEnd flags) (optEnd lenient) opt-local (optEnd-grows flags) (p + 16) (q + 16) (same-plus a b 16 p q h) (rw (i .2) at k))
 
 -- ---- a reply read strictly is read the same leniently: a reply is a window of itself
 
@@ -134,7 +137,7 @@ module _ (page : Page) (flags : Flags) (s : List ℕ) (a : ℕ) (s′ : List ℕ
       go : GroupIs flags f s p → As (inNullable (noString 0) v s p) (inNullable (noString 0) v s′ q)
       go (gone x e) =
           let t = w .seam p q h x (rw e at k) in
-          rw (in-gone (noString 0) v s p x, in-gone (noString 0) v s′ q (t .0)) none
+          rw (in-missing (noString 0) v s p x, in-missing (noString 0) v s′ q (t .0)) none
       go (null x y e) =
           rw
           (in-null (noString 0) v s p x y, in-null (noString 0) v s′ q (omega (arith, w .window .inside′)) (sym (w .window .bytes p q h (omega arith)) ∙ y))
@@ -156,13 +159,13 @@ module _ (page : Page) (flags : Flags) (s : List ℕ) (a : ℕ) (s′ : List ℕ
   dx-alike : (c : ℕ) → c ≤ 7 → (p q : ℕ) → Same a b p q → nullableEnd flags dxEnd s p ≤ a + n → As (dxPair c s p) (dxPair c s′ q)
   unfolding dxPair dxEnd
   dx-alike c x =
-      nullable-alike _ dxEnd dx-grows
+      nullable-alike _ dxEnd dxEnd-grows
       (λ p q h k. pair-alike c (p + 8) (q + 8) (same-plus a b 8 p q h) (le-trans (stringsEnd-within c 2 9 (omega arith) s (p + 8)) k))
 
   opt-pair-alike : (c : ℕ) → c ≤ 7 → (p q : ℕ) → Same a b p q → optEnd flags s p ≤ a + n → As (optPair c s p) (optPair c s′ q)
   unfolding optPair optEnd
   opt-pair-alike c x p q h k =
-      let l : dxStart flags s p ≤ a + n = le-trans (nullable-grows flags dxEnd dx-grows s (dxStart flags s p)) k in
+      let l : dxStart flags s p ≤ a + n = le-trans (nullableEnd-grows flags dxEnd s (dxEnd-grows s) (dxStart flags s p)) k in
       let e : dxStart lenient s p ≡ dxStart flags s p = start-lenient flags s p (le-trans l (w .window .inside)) in
       rw e (dx-alike c x (dxStart flags s p) (dxStart lenient s′ q) (start-local flags s a s′ b n w p q h l) k)
 
@@ -173,7 +176,7 @@ module _ (page : Page) (flags : Flags) (s : List ℕ) (a : ℕ) (s′ : List ℕ
   opt-string-alike c x p q h k =
       pair-alike c (p + 2) (q + 2) (same-plus a b 2 p q h)
       (le-trans (stringsEnd-within c 2 6 (omega arith) s (p + 2))
-      (le-trans (nullable-grows flags udtEnd udt-grows s (stringsEnd 6 s (p + 2))) (le-trans (nullable-grows flags dxEnd dx-grows s _) k)))
+      (le-trans (nullableEnd-grows flags udtEnd s (udtEnd-grows s) (stringsEnd 6 s (p + 2))) (le-trans (nullableEnd-grows flags dxEnd s (dxEnd-grows s) _) k)))
 
   name-alike : (p q : ℕ) → Same a b p q → optEnd flags s p ≤ a + n → As (optName s p) (optName s′ q)
   unfolding optName optPair stringsEnd
@@ -189,13 +192,13 @@ module _ (page : Page) (flags : Flags) (s : List ℕ) (a : ℕ) (s′ : List ℕ
   unfolding columnAt columnWith describedAt moveColumn
   column-same order i p q h k =
       let d = descriptor-in flags order s p (le-trans k (w .window .inside)) in
-      let g = nullable-grows flags (optEnd flags) (opt-grows flags) s (p + 16) in
+      let g = nullableEnd-grows flags (optEnd flags) s (optEnd-grows flags s) (p + 16) in
       let l : nullableEnd flags (optEnd flags) s (p + 16) ≤ a + n = rw (d .2) at k in
       let num : (c v : ℕ) → c + v ≤ 16 → number order v s′ (q + c) ≡ number order v s (p + c) =
       λ c v x. sym (number-same s a s′ b n (w .window) order v (p + c) (q + c) (same-plus a b c p q h) (omega arith)) in
       let text : (v : List ℕ → ℕ → StringRead) → ((p q : ℕ) → Same a b p q → optEnd flags s p ≤ a + n → As (v s p) (v s′ q))
       → As (inNullable (noString 0) v s (p + 16)) (inNullable (noString 0) v s′ (q + 16)) =
-      λ v m. nullable-alike v (optEnd flags) (opt-grows flags) m (p + 16) (q + 16) (same-plus a b 16 p q h) l in
+      λ v m. nullable-alike v (optEnd flags) (optEnd-grows flags) m (p + 16) (q + 16) (same-plus a b 16 p q h) l in
       let precision = sym (number-same s a s′ b n (w .window) order 2 p q h (omega arith)) in
       let scale = num 2 2 (omega arith) in
       let raw = num 4 8 (omega arith) in

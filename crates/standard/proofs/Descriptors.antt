@@ -10,7 +10,7 @@ use Rattle.field.specs.declared.ByteOrder.{ByteOrder}
 use Rattle.field.proofs.Windows.{Same, same-here}
 use Rattle.descriptor.specs.Nullable.{Flags, lenient}
 use Rattle.descriptor.specs.Descriptor.{descriptorEnd}
-use Rattle.descriptor.proofs.Grows.{descriptor-grows}
+use Rattle.descriptor.proofs.Ends.{descriptorEnd-grows}
 use Rattle.descriptor.proofs.Local.{FlagWindow, descriptor-local}
 use Rattle.standard.specs.Reading.{descriptorsEnd, views}
 
@@ -25,7 +25,8 @@ module _ (order : ByteOrder) where
   pub ends-grow : (k : ℕ) (s : List ℕ) (p : ℕ) → p ≤ descriptorsEnd order k s p
   unfolding descriptorsEnd
   ends-grow zero s p = le-refl p
-  ends-grow (suc k) s p = le-trans (descriptor-grows lenient order s p) (ends-grow k s (descriptorEnd lenient order s p))
+  ends-grow (suc k) s p =
+      omega (arith, descriptorEnd-grows lenient order s p, ends-grow k s (descriptorEnd lenient order s p))
 
   pub ends-next : (k : ℕ) (s : List ℕ) (p : ℕ) → descriptorsEnd order (suc k) s p ≡ descriptorEnd lenient order s (descriptorsEnd order k s p)
   unfolding descriptorsEnd

@@ -18,7 +18,7 @@ use Rattle.column.proofs.Moved.{move-none}
 use Rattle.types.specs.declared.ColumnMetadata.{ColumnMetadata}
 use Rattle.descriptor.specs.Nullable.{lenient, strict}
 use Rattle.descriptor.specs.Descriptor.{descriptorEnd, columnAt, Complete}
-use Rattle.descriptor.proofs.Grows.{descriptor-long}
+use Rattle.descriptor.proofs.Ends.{descriptorEnd-grows}
 use Rattle.descriptor.proofs.Local.{FlagWindow, descriptor-local, column-same}
 use Rattle.standard.specs.Reading.{countAt, countIn, descriptorsEnd, startOf, gives, views, overColumns, standard}
 use Rattle.standard.specs.Exchange.{splice, withColumn, exchange}
@@ -158,7 +158,7 @@ place page order s k h =
       gives = g;
       under = i .1;
       own = own;
-      long = rw own at (descriptor-long lenient order s (descriptorsEnd order k s (countAt s + 2)) (rw (ends-next order k s (countAt s + 2)) at y));
+      long = rw own at (descriptorEnd-grows lenient order s (descriptorsEnd order k s (countAt s + 2)));
       inside = y;
       after = ends-grow order k s (countAt s + 2);
     }
