@@ -8,7 +8,7 @@ use native.Mathlib.Nat.{le-refl}
 use native.Mathlib.Omega.{arith}
 use lib.Dec.{leb, eqb}
 use lib.ListN.{length, getD}
-use borrow.Author.Tests.{leb-true, leb-false, lt-leb}
+use borrow.Author.Tests.{le-leb, lt-leb}
 use Rattle.search.specs.Search.{pick}
 use Rattle.field.specs.declared.ByteOrder.{ByteOrder}
 use Rattle.field.specs.Numbers.{number}
@@ -35,6 +35,16 @@ count-past s = go (leb (length s) (groupEnd s))
     go : (b : Bool) → groupEnd s ≤ pick b (groupEnd s) (sqldhgrpEnd s (groupEnd s))
     go true = le-refl (groupEnd s)
     go false = omega (arith, dh-grows s (groupEnd s))
+
+-- where it stands, by the group's end g
+module _ (s : List ℕ) (g : ℕ) where
+  pub count-at-end : g ≡ groupEnd s → length s ≤ g → g ≡ countAt s
+  unfolding countAt
+  count-at-end e h = rw (← e, le-leb (length s) g h) refl
+
+  pub count-at-past : (p : ℕ) → g ≡ groupEnd s → g < length s → p ≡ sqldhgrpEnd s g → p ≡ countAt s
+  unfolding countAt
+  count-at-past p e h f = rw (← e, lt-leb (length s) g h) f
 
 module _ (s s′ : List ℕ) (n : ℕ) (w : Window s 0 s′ 0 n) where
   dh-same : (p : ℕ) → sqldhgrpEnd s p ≤ n → sqldhgrpEnd s′ p ≡ sqldhgrpEnd s p

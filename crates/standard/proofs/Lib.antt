@@ -3,3 +3,4 @@ pub mod Descriptors
 pub mod Splice
 pub mod Exchange
 pub mod Kept
+pub mod Runs
