@@ -1,0 +1,15 @@
+-- The new run where its score is strictly greater, else the one in hand.
+-- Assumes nothing.
+use borrow.Author.Needs.{needs}
+use Rattle.scan.proofs.Scans.{keep-new, keep-old}
+use Rattle.scan.proofs.better_of.Statement.{statement}
+use Rattle.scan.proofs.better_of.Tie as tie
+
+returns : tie.Need-returns
+returns c = (keep-new _ _ _ (c .before .is-better .ensures) (c .if1 .taken), c .before .before .pre .1)
+
+returns-2 : tie.Need-returns-2
+returns-2 c = (keep-old _ _ _ (c .before .is-better .ensures) (c .if1 .left), c .before .before .pre .0)
+
+pub better-of-spec : {M : Type 1} → statement M
+better-of-spec = tie.close (tie.spec (search needs) returns returns-2)
