@@ -12,36 +12,36 @@ use Rattle.descriptor.specs.Nullable.{Flags, missing, nullableEnd, inNul
 
 -- what is past it
 module _ (flags : Flags) (f : List ℕ → ℕ → ℕ) (s : List ℕ) (p : ℕ) where
-  pub end-missing : length s ≤ p → nullableEnd flags f s p ≡ missing flags p
+  pub nullableEnd-missing : length s ≤ p → nullableEnd flags f s p ≡ missing flags p
   unfolding nullableEnd
-  end-missing h = rw (le-leb (length s) p h) refl
+  nullableEnd-missing h = rw (le-leb (length s) p h) refl
 
-  pub end-null : p < length s → getD s p 0 ≡ 0xFF → nullableEnd flags f s p ≡ p + 1
+  pub nullableEnd-null : p < length s → getD s p 0 ≡ 0xFF → nullableEnd flags f s p ≡ p + 1
   unfolding nullableEnd
-  end-null h e = rw (lt-leb (length s) p h, eq-eqb (getD s p 0) 0xFF e) refl
+  nullableEnd-null h e = rw (lt-leb (length s) p h, eq-eqb (getD s p 0) 0xFF e) refl
 
-  pub end-held : p < length s → (getD s p 0 ≡ 0xFF → ⊥) → nullableEnd flags f s p ≡ f s (p + 1)
+  pub nullableEnd-held : p < length s → (getD s p 0 ≡ 0xFF → ⊥) → nullableEnd flags f s p ≡ f s (p + 1)
   unfolding nullableEnd
-  end-held h e = rw (lt-leb (length s) p h, ne-eqb (getD s p 0) 0xFF e) refl
+  nullableEnd-held h e = rw (lt-leb (length s) p h, ne-eqb (getD s p 0) 0xFF e) refl
 
 -- what it holds
 module _ {A : Type 0} (none : A) (v : List ℕ → ℕ → A) (s : List ℕ) (p : ℕ) where
-  pub in-missing : length s ≤ p → inNullable none v s p ≡ none
+  pub inNullable-missing : length s ≤ p → inNullable none v s p ≡ none
   unfolding inNullable
-  in-missing h = rw (le-leb (length s) p h) refl
+  inNullable-missing h = rw (le-leb (length s) p h) refl
 
-  pub in-null : p < length s → getD s p 0 ≡ 0xFF → inNullable none v s p ≡ none
+  pub inNullable-null : p < length s → getD s p 0 ≡ 0xFF → inNullable none v s p ≡ none
   unfolding inNullable
-  in-null h e = rw (lt-leb (length s) p h, eq-eqb (getD s p 0) 0xFF e) refl
+  inNullable-null h e = rw (lt-leb (length s) p h, eq-eqb (getD s p 0) 0xFF e) refl
 
-  pub in-held : p < length s → (getD s p 0 ≡ 0xFF → ⊥) → inNullable none v s p ≡ v s (p + 1)
+  pub inNullable-held : p < length s → (getD s p 0 ≡ 0xFF → ⊥) → inNullable none v s p ≡ v s (p + 1)
   unfolding inNullable
-  in-held h e = rw (lt-leb (length s) p h, ne-eqb (getD s p 0) 0xFF e) refl
+  inNullable-held h e = rw (lt-leb (length s) p h, ne-eqb (getD s p 0) 0xFF e) refl
 
   -- what holds of what the group holds, and of none, holds in every case
-  pub in-all : (P : A → Type 0) → P none → P (v s (p + 1)) → P (inNullable none v s p)
+  pub inNullable-all : (P : A → Type 0) → P none → P (v s (p + 1)) → P (inNullable none v s p)
   unfolding inNullable
-  in-all P n h = go (leb (length s) p) (eqb (getD s p 0) 0xFF)
+  inNullable-all P n h = go (leb (length s) p) (eqb (getD s p 0) 0xFF)
     where
       go : (a b : Bool) → P (pick a none (pick b none (v s (p + 1))))
       go true b = n

@@ -1,7 +1,7 @@
 -- The groups of a descriptor: for each way out of their readers a law, from what the callees promise to what the reader does.
 -- Assumes nothing.
 use mathlib.Core.List.{List}
-use mathlib.Core.Path.{_≡_, refl, sym, ap, _∙_}
+use mathlib.Core.Path.{_≡_, sym, ap, _∙_}
 use Prim.Native.Nat.{ℕ, _+_, _≤_, _<_}
 use native.Mathlib.Omega.{arith}
 use lib.ListN.{length, getD}
@@ -13,7 +13,7 @@ use Rattle.descriptor.specs.declared.Sqldoptgrp.{Sqldoptgrp}
 use Rattle.descriptor.specs.Nullable.{lenient, nullableEnd, inNullable}
 use Rattle.descriptor.specs.Descriptor.{udtEnd, dxEnd, dxStart, optEnd, dxPair, optName, optLabel, optPair}
 use Rattle.descriptor.specs.Groups.{noSqldxgrp, sqldxgrpAt, noSqldoptgrp, sqldoptgrpAt}
-use Rattle.descriptor.proofs.Flags.{end-missing, end-null, end-held, in-missing, in-null, in-held, in-all}
+use Rattle.descriptor.proofs.Flags.{nullableEnd-missing, nullableEnd-null, nullableEnd-held, inNullable-missing, inNullable-null, inNullable-held, inNullable-all}
 
 -- past a pair that was read
 past-pair : (s : List ℕ) (p : ℕ) (r : StringRead) → r ≡ pairAt s p → r .next ≡ stringsEnd 2 s p
@@ -24,25 +24,25 @@ module _ (s : List ℕ) (p : ℕ) where
 
   pub udt-held : (r : ℕ) → p < length s → (getD s p 0 ≡ 0xFF → ⊥) → r ≡ stringsEnd 5 s (p + 1 + 4) → r ≡ nullableEnd lenient udtEnd s p
   unfolding udtEnd
-  udt-held r h f e = e ∙ sym (end-held lenient udtEnd s p h f)
+  udt-held r h f e = e ∙ sym (nullableEnd-held lenient udtEnd s p h f)
 
   -- ---- SQLDXGRP
 
   pub dx-missing : (r : Sqldxgrp) → r ≡ noSqldxgrp p → length s ≤ p → r ≡ sqldxgrpAt s p
   unfolding dxPair
   dx-missing r e h =
-      let t : (k : ℕ) → noString 0 ≡ dxPair k s p = λ k. sym (in-missing (noString 0) _ s p h) in
-      e ∙ (λ i. record { «base_table_name» = t 3 i; «schema_name» = t 5 i; name = t 7 i; next = sym (end-missing lenient dxEnd s p h) i })
+      let t : (k : ℕ) → noString 0 ≡ dxPair k s p = λ k. sym (inNullable-missing (noString 0) _ s p h) in
+      e ∙ (λ i. record { «base_table_name» = t 3 i; «schema_name» = t 5 i; name = t 7 i; next = sym (nullableEnd-missing lenient dxEnd s p h) i })
 
   pub dx-null : (r : Sqldxgrp) → r ≡ noSqldxgrp (p + 1) → p < length s → getD s p 0 ≡ 0xFF → r ≡ sqldxgrpAt s p
   unfolding dxPair
   dx-null r e h f =
-      let t : (k : ℕ) → noString 0 ≡ dxPair k s p = λ k. sym (in-null (noString 0) _ s p h f) in
-      e ∙ (λ i. record { «base_table_name» = t 3 i; «schema_name» = t 5 i; name = t 7 i; next = sym (end-null lenient dxEnd s p h f) i })
+      let t : (k : ℕ) → noString 0 ≡ dxPair k s p = λ k. sym (inNullable-null (noString 0) _ s p h f) in
+      e ∙ (λ i. record { «base_table_name» = t 3 i; «schema_name» = t 5 i; name = t 7 i; next = sym (nullableEnd-null lenient dxEnd s p h f) i })
 
   dxPair-held : (k : ℕ) → p < length s → (getD s p 0 ≡ 0xFF → ⊥) → dxPair k s p ≡ pairAt s (stringsEnd k s (p + 1 + 8))
   unfolding dxPair
-  dxPair-held k h f = in-held (noString 0) (λ s p. pairAt s (stringsEnd k s (p + 8))) s p h f
+  dxPair-held k h f = inNullable-held (noString 0) (λ s p. pairAt s (stringsEnd k s (p + 8))) s p h f
 
   pub dx-held : (q : ℕ) (b c n : StringRead) → p < length s → (getD s p 0 ≡ 0xFF → ⊥) → q ≡ stringsEnd 3 s (p + 1 + 8)
       → b ≡ pairAt s q → c ≡ pairAt s (b .next) → n ≡ pairAt s (c .next)
@@ -52,30 +52,30 @@ module _ (s : List ℕ) (p : ℕ) where
       let x′ = past-pair s q b x in
       let y′ = past-pair s (b .next) c y in
       let z′ = past-pair s (c .next) n z in
-      cc (dxPair-held 3 h f, dxPair-held 5 h f, dxPair-held 7 h f, end-held lenient dxEnd s p h f)
+      cc (dxPair-held 3 h f, dxPair-held 5 h f, dxPair-held 7 h f, nullableEnd-held lenient dxEnd s p h f)
 
   -- ---- SQLDOPTGRP
 
   pub opt-missing : (r : Sqldoptgrp) → r ≡ noSqldoptgrp p → length s ≤ p → r ≡ sqldoptgrpAt s p
   opt-missing r e h =
-      let t : (v : List ℕ → ℕ → StringRead) → noString 0 ≡ inNullable (noString 0) v s p = λ v. sym (in-missing (noString 0) v s p h) in
+      let t : (v : List ℕ → ℕ → StringRead) → noString 0 ≡ inNullable (noString 0) v s p = λ v. sym (inNullable-missing (noString 0) v s p h) in
       e ∙ (λ i. record {
         name = t optName i;
         label = t optLabel i;
         «base_table_name» = t (optPair 3) i;
         «schema_name» = t (optPair 5) i;
-        next = sym (end-missing lenient (optEnd lenient) s p h) i;
+        next = sym (nullableEnd-missing lenient (optEnd lenient) s p h) i;
       })
 
   pub opt-null : (r : Sqldoptgrp) → r ≡ noSqldoptgrp (p + 1) → p < length s → getD s p 0 ≡ 0xFF → r ≡ sqldoptgrpAt s p
   opt-null r e h f =
-      let t : (v : List ℕ → ℕ → StringRead) → noString 0 ≡ inNullable (noString 0) v s p = λ v. sym (in-null (noString 0) v s p h f) in
+      let t : (v : List ℕ → ℕ → StringRead) → noString 0 ≡ inNullable (noString 0) v s p = λ v. sym (inNullable-null (noString 0) v s p h f) in
       e ∙ (λ i. record {
         name = t optName i;
         label = t optLabel i;
         «base_table_name» = t (optPair 3) i;
         «schema_name» = t (optPair 5) i;
-        next = sym (end-null lenient (optEnd lenient) s p h f) i;
+        next = sym (nullableEnd-null lenient (optEnd lenient) s p h f) i;
       })
 
   pub opt-held : (q u : ℕ) (m l n : StringRead) (x : Sqldxgrp) → p < length s → (getD s p 0 ≡ 0xFF → ⊥)
@@ -87,7 +87,7 @@ module _ (s : List ℕ) (p : ℕ) where
       let a′ = past-pair s (p + 1 + 2) m a in
       let b′ = past-pair s (m .next) l b in
       cc
-      (in-held (noString 0) optName s p h f, in-held (noString 0) optLabel s p h f, in-held (noString 0) (optPair 3) s p h f, in-held (noString 0) (optPair 5) s p h f, end-held lenient (optEnd lenient) s p h f)
+      (inNullable-held (noString 0) optName s p h f, inNullable-held (noString 0) optLabel s p h f, inNullable-held (noString 0) (optPair 3) s p h f, inNullable-held (noString 0) (optPair 5) s p h f, nullableEnd-held lenient (optEnd lenient) s p h f)
 
 -- ---- the strings lie in the reply
 
@@ -102,18 +102,18 @@ module _ (s : List ℕ) where
   pub dxPair-inside : (k p : ℕ) → Inside s (dxPair k s p)
   unfolding dxPair
   dxPair-inside k p =
-      in-all (noString 0) (λ s p. pairAt s (stringsEnd k s (p + 8))) s p (Inside s) none-inside (pair-inside s (stringsEnd k s (p + 1 + 8)))
+      inNullable-all (noString 0) (λ s p. pairAt s (stringsEnd k s (p + 8))) s p (Inside s) none-inside (pair-inside s (stringsEnd k s (p + 1 + 8)))
 
   pub name-inside : (p : ℕ) → Inside s (inNullable (noString 0) optName s p)
   unfolding optName
   name-inside p =
-      in-all (noString 0) optName s p (Inside s) none-inside
+      inNullable-all (noString 0) optName s p (Inside s) none-inside
       (chosen-inside (pairAt s (p + 1 + 2)) (dxPair 7 s (dxStart lenient s (p + 1))) (length s) (pair-inside s (p + 1 + 2)) (dxPair-inside 7 (dxStart lenient s (p + 1))))
 
   pub label-inside : (p : ℕ) → Inside s (inNullable (noString 0) optLabel s p)
   unfolding optLabel
-  label-inside p = in-all (noString 0) optLabel s p (Inside s) none-inside (pair-inside s (stringsEnd 2 s (p + 1 + 2)))
+  label-inside p = inNullable-all (noString 0) optLabel s p (Inside s) none-inside (pair-inside s (stringsEnd 2 s (p + 1 + 2)))
 
   pub optPair-inside : (k p : ℕ) → Inside s (inNullable (noString 0) (optPair k) s p)
   unfolding optPair
-  optPair-inside k p = in-all (noString 0) (optPair k) s p (Inside s) none-inside (dxPair-inside k (dxStart lenient s (p + 1)))
+  optPair-inside k p = inNullable-all (noString 0) (optPair k) s p (Inside s) none-inside (dxPair-inside k (dxStart lenient s (p + 1)))

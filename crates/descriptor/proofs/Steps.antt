@@ -5,12 +5,11 @@ use mathlib.Core.List.{List}
 use mathlib.Core.Path.{_≡_, refl, sym, ap, subst, _∙_}
 use Prim.Native.Nat.{ℕ, suc, _+_, _≤_, _<_}
 use native.Mathlib.Omega.{arith}
-use lib.Dec.{ltb, leb}
+use lib.Dec.{leb}
 use lib.ListN.{length}
-use borrow.Author.Tests.{lt-ltb, le-ltb, lt-leb, le-leb, ltb-true, ltb-false}
+use borrow.Author.Tests.{lt-ltb, le-ltb, lt-leb, le-leb}
 use Rattle.search.specs.Search.{pick}
 use Rattle.field.specs.declared.ByteOrder.{ByteOrder}
-use Rattle.field.specs.declared.StringRead.{StringRead}
 use Rattle.field.specs.Numbers.{number}
 use Rattle.field.specs.Strings.{noString}
 use Rattle.types.specs.Types.{isKnown}
@@ -28,33 +27,33 @@ use Rattle.descriptor.proofs.Ends.{descriptorEnd-grows}
 -- ---- what is past a descriptor
 
 module _ (flags : Flags) (order : ByteOrder) (s : List ℕ) (p : ℕ) where
-  pub end-short : length s < p + 16 → descriptorEnd flags order s p ≡ p + 16
+  pub descriptorEnd-short : length s < p + 16 → descriptorEnd flags order s p ≡ p + 16
   unfolding descriptorEnd
-  end-short h = rw (lt-ltb (length s) (p + 16) h) refl
+  descriptorEnd-short h = rw (lt-ltb (length s) (p + 16) h) refl
 
-  pub end-unknown : p + 16 ≤ length s → isKnown (number order 2 s (p + 12)) ≡ false → descriptorEnd flags order s p ≡ suc (length s)
+  pub descriptorEnd-unknown : p + 16 ≤ length s → isKnown (number order 2 s (p + 12)) ≡ false → descriptorEnd flags order s p ≡ suc (length s)
   unfolding descriptorEnd
-  end-unknown h e = rw (le-ltb (length s) (p + 16) h, e) refl
+  descriptorEnd-unknown h e = rw (le-ltb (length s) (p + 16) h, e) refl
 
-  pub end-known : p + 16 ≤ length s → isKnown (number order 2 s (p + 12)) ≡ true
+  pub descriptorEnd-known : p + 16 ≤ length s → isKnown (number order 2 s (p + 12)) ≡ true
       → descriptorEnd flags order s p ≡ nullableEnd flags (optEnd flags) s (p + 16)
   unfolding descriptorEnd
-  end-known h e = rw (le-ltb (length s) (p + 16) h, e) refl
+  descriptorEnd-known h e = rw (le-ltb (length s) (p + 16) h, e) refl
 
   -- a descriptor that can be read has its 16 bytes, and a known type
   module _ (h : descriptorEnd flags order s p ≤ length s) where
-    pub end-room : p + 16 ≤ length s
-    end-room = omega (arith, descriptorEnd-grows flags order s p)
+    pub descriptor-room : p + 16 ≤ length s
+    descriptor-room = omega (arith, descriptorEnd-grows flags order s p)
 
-    pub end-type : isKnown (number order 2 s (p + 12)) ≡ true
-    end-type = go (isKnown (number order 2 s (p + 12))) refl
+    pub descriptor-type : isKnown (number order 2 s (p + 12)) ≡ true
+    descriptor-type = go (isKnown (number order 2 s (p + 12))) refl
       where
         go : (b : Bool) → isKnown (number order 2 s (p + 12)) ≡ b → b ≡ true
         go true e = refl
-        go false e = absurd (omega (arith, end-unknown end-room e))
+        go false e = absurd (omega (arith, descriptorEnd-unknown descriptor-room e))
 
-    pub end-inside : descriptorEnd flags order s p ≡ nullableEnd flags (optEnd flags) s (p + 16)
-    end-inside = end-known end-room end-type
+    pub descriptorEnd-inside : descriptorEnd flags order s p ≡ nullableEnd flags (optEnd flags) s (p + 16)
+    descriptorEnd-inside = descriptorEnd-known descriptor-room descriptor-type
 
 -- ---- for counting
 
@@ -77,7 +76,7 @@ module _ (order : ByteOrder) (s : List ℕ) (p : ℕ) where
       (e ∙ ap noStep f ∙ sym (ap stepBy u), (omega (arith, descriptorEnd-grows lenient order s p), rw z (omega arith)))
 
   pub step-short : (r : Step) → r ≡ noStep (p + 16) → length s < p + 16 → Stepped order s p r
-  step-short r e h = none-stepped (p + 16) r e (sym (end-short lenient order s p h)) h
+  step-short r e h = none-stepped (p + 16) r e (sym (descriptorEnd-short lenient order s p h)) h
 
   module _ (h : p + 16 ≤ length s) (t : ℕ) (e : t ≡ number order 2 s (p + 12)) (k : Bool) (f : k ≡ isKnown t) where
     known-is : isKnown (number order 2 s (p + 12)) ≡ k
@@ -85,11 +84,11 @@ module _ (order : ByteOrder) (s : List ℕ) (p : ℕ) where
 
     pub step-unknown : (r : Step) → k ≡ false → r ≡ noStep (length s + 1) → Stepped order s p r
     step-unknown r g x =
-        none-stepped (length s + 1) r x (sym (end-unknown lenient order s p h (known-is ∙ g) ∙ omega arith)) (omega arith)
+        none-stepped (length s + 1) r x (sym (descriptorEnd-unknown lenient order s p h (known-is ∙ g) ∙ omega arith)) (omega arith)
 
     module _ (g : k ≡ true) (o : Sqldoptgrp) (x : o ≡ sqldoptgrpAt s (p + 16)) where
       past-group : o .next ≡ descriptorEnd lenient order s p
-      past-group = ap (λ (o : Sqldoptgrp). o .next) x ∙ sym (end-known lenient order s p h (known-is ∙ g))
+      past-group = ap (λ (o : Sqldoptgrp). o .next) x ∙ sym (descriptorEnd-known lenient order s p h (known-is ∙ g))
 
       pub step-cut : (r : Step) → r ≡ noStep (o .next) → length s < o .next → Stepped order s p r
       step-cut r y l = none-stepped (o .next) r y past-group l
@@ -136,6 +135,6 @@ module _ (order : ByteOrder) (s : List ℕ) (p : ℕ) where
       → (describedBy g o (o .next) ≡ describedAt order s p) × StringsInside s (describedBy g o (o .next))
   unfolding describedAt
   described-read g o h e f =
-      let next : o .next ≡ descriptorEnd lenient order s p = ap (λ (o : Sqldoptgrp). o .next) f ∙ sym (end-inside lenient order s p h) in
+      let next : o .next ≡ descriptorEnd lenient order s p = ap (λ (o : Sqldoptgrp). o .next) f ∙ sym (descriptorEnd-inside lenient order s p h) in
       let read : describedBy g o (o .next) ≡ describedAt order s p = λ i. describedBy (e i) (f i) (next i) in
       (read, subst (StringsInside s) (sym read) described-inside)

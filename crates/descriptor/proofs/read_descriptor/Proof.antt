@@ -3,16 +3,16 @@
 use native.Mathlib.Omega.{arith}
 use borrow.Author.Needs.{needs}
 use Rattle.descriptor.specs.Nullable.{lenient}
-use Rattle.descriptor.proofs.Steps.{end-room, described-read}
+use Rattle.descriptor.proofs.Steps.{descriptor-room, described-read}
 use Rattle.descriptor.proofs.read_descriptor.Statement.{statement}
 use Rattle.descriptor.proofs.read_descriptor.Tie as tie
 
 read-sqldagrp-requires : tie.Need-read-sqldagrp-requires
-read-sqldagrp-requires c κs = end-room lenient _ _ _ (c .before .pre)
+read-sqldagrp-requires c κs = descriptor-room lenient _ _ _ (c .before .pre)
 
 add-read-sqldoptgrp : tie.Need-add-read-sqldoptgrp
 add-read-sqldoptgrp c =
-    let start = c .before .before in omega (arith, end-room lenient (start .args .order) (start .args .reply .now) (start .args .offset) (start .pre))
+    let start = c .before .before in omega (arith, descriptor-room lenient (start .args .order) (start .args .reply .now) (start .args .offset) (start .pre))
 
 returns : tie.Need-returns
 returns c =
