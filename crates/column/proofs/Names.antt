@@ -27,8 +27,8 @@ module _ (page : Page) (s : List ℕ) (r : StringRead) where
   unfolding isGeneratedText
   named-none e = ap (λ (t : Text). not (isGeneratedText page s t)) (name-none e)
 
-  pub named-some : 0 < page .alphabet → (r .length ≡ 0 → ⊥) → (b : Bool) → b ≡ isGenerated (textChars page s (textOf page s (r .place) (r .length)))
-      → not b ≡ not (isGeneratedText page s (nameText page s r))
+  pub named-some : 0 < page .alphabet → (r .length ≡ 0 → ⊥) → (b : Bool)
+      → b ≡ isGenerated (textChars page s (textOf page s (r .place) (r .length))) → not b ≡ not (isGeneratedText page s (nameText page s r))
   unfolding isGeneratedText stringText
   named-some h n b e =
       let t : textOf page s (r .place) (r .length) ≡ nameText page s r = name-some n (textOf page s (r .place) (r .length)) refl in

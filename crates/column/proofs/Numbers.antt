@@ -19,7 +19,8 @@ order-back BigEndian = refl
 order-back LittleEndian = refl
 
 -- the one undoes the other
-pub column-back : (page : Page) (s : List ℕ) (i : ℕ) (d : Described) (rest : List ℕ) → columnOf (numbersOf page s i d ++ rest) ≡ columnWith page s i d
+pub column-back : (page : Page) (s : List ℕ) (i : ℕ) (d : Described) (rest : List ℕ)
+    → columnOf (numbersOf page s i d ++ rest) ≡ columnWith page s i d
 unfolding numbersOf columnOf columnWith
 column-back page s i d rest = rw (order-back (d .«byte_order»)) refl
 

@@ -4,8 +4,8 @@
 use Prim.Native.Nat.{ℕ, zero, suc, _+_, _-_, _≤_, _<_}
 use native.Mathlib.Omega.{arith}
 use mathlib.Core.Path.{_≡_, refl, sym, ap, subst, _∙_}
-use mathlib.Core.List.{List, [], _∷_, map}
-use mathlib.Core.Bool.{Bool, true, false, _&&_, _||_, true≢false}
+use mathlib.Core.List.{List, [], _∷_}
+use mathlib.Core.Bool.{Bool, true, false, _&&_, _||_, or-false, true≢false}
 use lib.ListN.{length, getD, take, drop, length-map, length-drop}
 use lib.Seq.{getD-take, getD-drop, drop-drop, take-take, length-take-le}
 use lib.Dec.{T, eqb, ltb, leb, eqb→eq, leb→le, ltb→lt}
@@ -25,7 +25,7 @@ use Rattle.text.proofs.Decode.{lent, lent-length, some-kept, decode-non
 use Rattle.text.proofs.Generated.{SpellsColAsIn037, charOf-other, letter}
 
 -- what does not hold is false
-pub not-so : (b : Bool) → (b ≡ true → ⊥) → false ≡ b
+not-so : (b : Bool) → (b ≡ true → ⊥) → false ≡ b
 not-so true h = absurd (h refl)
 not-so false h = refl
 
@@ -33,49 +33,45 @@ holds-true : (b : Bool) → T b → b ≡ true
 holds-true true t = refl
 holds-true false t = absurd t
 
-or-false : (b : Bool) → (b || false) ≡ b
-or-false true = refl
-or-false false = refl
-
 -- ---- what a generated text says of its bytes
 
 module _ (page : Page) (a : ℕ) (bs : List ℕ) (g : isGenerated (chars page a bs) ≡ true) where
-  holds : T (ltb 3 (length (chars page a bs)) && startsCol (chars page a bs) && each isDigit (drop 3 (chars page a bs)))
+  abbrev cs : List ℕ
+  cs = chars page a bs
+
+  holds : T (ltb 3 (length cs) && startsCol cs && each isDigit (drop 3 cs))
   unfolding isGenerated
   holds = subst T (sym g) tt
 
-  front : T (ltb 3 (length (chars page a bs)) && startsCol (chars page a bs))
-  front = and-left (ltb 3 (length (chars page a bs)) && startsCol (chars page a bs)) (each isDigit (drop 3 (chars page a bs))) holds
+  digits : T (each isDigit (drop 3 cs))
+  digits = and-right (ltb 3 (length cs) && startsCol cs) (each isDigit (drop 3 cs)) holds
 
-  starts : T (startsCol (chars page a bs))
-  starts = and-right (ltb 3 (length (chars page a bs))) (startsCol (chars page a bs)) front
+  front : T (ltb 3 (length cs) && startsCol cs)
+  front = and-left (ltb 3 (length cs) && startsCol cs) (each isDigit (drop 3 cs)) holds
 
-  digits : T (each isDigit (drop 3 (chars page a bs)))
-  digits = and-right (ltb 3 (length (chars page a bs)) && startsCol (chars page a bs)) (each isDigit (drop 3 (chars page a bs))) holds
+  long : 3 < length bs
+  long = omega (arith, ltb→lt 3 (length cs) (and-left (ltb 3 (length cs)) (startsCol cs) front), length-map bs (charOf page a))
 
-  pub long : 3 < length bs
-  long = omega (arith, ltb→lt 3 (length (chars page a bs)) (and-left (ltb 3 (length (chars page a bs))) (startsCol (chars page a bs)) front), length-map bs (charOf page a))
+  told : (k b : ℕ) → k < 3 → T (eqb (getD cs k 0) b) → charOf page a (getD bs k 0) ≡ b
+  told k b h t = sym (getD-map (charOf page a) bs k 0 0 (omega (arith, long))) ∙ eqb→eq (getD cs k 0) b t
 
-  -- its three letters
   letters : (charOf page a (getD bs 0 0) ≡ 0x43) × ((charOf page a (getD bs 1 0) ≡ 0x4F) × (charOf page a (getD bs 2 0) ≡ 0x4C))
   letters =
-      let c = chars page a bs in
-      let p = and-left (eqb (getD c 0 0) 0x43 && eqb (getD c 1 0) 0x4F) (eqb (getD c 2 0) 0x4C) starts in (
-        sym (getD-map (charOf page a) bs 0 0 0 (omega (arith, long))) ∙ eqb→eq (getD c 0 0) 0x43 (and-left (eqb (getD c 0 0) 0x43) (eqb (getD c 1 0) 0x4F) p),
-        (
-          sym (getD-map (charOf page a) bs 1 0 0 (omega (arith, long))) ∙ eqb→eq (getD c 1 0) 0x4F (and-right (eqb (getD c 0 0) 0x43) (eqb (getD c 1 0) 0x4F) p),
-          sym (getD-map (charOf page a) bs 2 0 0 (omega (arith, long))) ∙ eqb→eq (getD c 2 0) 0x4C (and-right (eqb (getD c 0 0) 0x43 && eqb (getD c 1 0) 0x4F) (eqb (getD c 2 0) 0x4C) starts),
-        ),
-      )
+      let c = eqb (getD cs 0 0) 0x43 in
+      let o = eqb (getD cs 1 0) 0x4F in
+      let l = eqb (getD cs 2 0) 0x4C in
+      let t : T (c && o && l) = and-right (ltb 3 (length cs)) (startsCol cs) front in
+      let u = and-left (c && o) l t in
+      (told 0 0x43 (omega arith) (and-left c o u), (told 1 0x4F (omega arith) (and-right c o u), told 2 0x4C (omega arith) (and-right (c && o) l t)))
 
-digits-ascii : (page : Page) (a : ℕ) → (a ≡ page .alphabet → ⊥) → (ws : List ℕ) → T (each isDigit (map (charOf page a) ws)) → isAscii ws ≡ true
+digits-ascii : (page : Page) (a : ℕ) → (a ≡ page .alphabet → ⊥) → (ws : List ℕ) → T (each isDigit (chars page a ws)) → isAscii ws ≡ true
 unfolding isAscii
 digits-ascii page a n [] t = refl
 digits-ascii page a n (w ∷ ws) t =
     let c = charOf page a w in
-    let d = and-left (isDigit c) (each isDigit (map (charOf page a) ws)) t in
+    let d = and-left (isDigit c) (each isDigit (chars page a ws)) t in
     let k : w < 0x80 = omega (arith, charOf-other page a w n, leb→le c 0x39 (and-right (leb 0x30 c) (leb c 0x39) d)) in
-    rw (lt-ltb w 0x80 k) (digits-ascii page a n ws (and-right (isDigit c) (each isDigit (map (charOf page a) ws)) t))
+    rw (lt-ltb w 0x80 k) (digits-ascii page a n ws (and-right (isDigit c) (each isDigit (chars page a ws)) t))
 
 -- one that is not of the page is ASCII
 generated-ascii : (page : Page) (a : ℕ) → (a ≡ page .alphabet → ⊥) → (bs : List ℕ) → isGenerated (chars page a bs) ≡ true → isAscii bs ≡ true

@@ -28,34 +28,38 @@ returns-2 c =
 
 sub-is-generated : tie.Need-sub-is-generated
 sub-is-generated c =
-    let l = c .before .before .before .before .leading-blanks in
+    let f = c .before .before .before .before in
+    let l = f .leading-blanks in
     let b =
-    trimmed-bounds page037 rearranged-037 blanks-037 spells-037 (c .before .before .before .before .before .before .args .bytes .now) (l .result) (l .ensures)
-    (c .kept-bytes .result) (c .kept-bytes .ensures) (c .before .before .before .if1 .left) (c .before .if2 .left) in
+    trimmed-bounds page037 rearranged-037 blanks-037 spells-037 (f .before .before .args .bytes .now) (l .result) (l .ensures) (c .kept-bytes .result)
+    (c .kept-bytes .ensures) (c .before .before .before .if1 .left) (c .before .if2 .left) in
     omega (arith, b .0)
 
 part-is-generated-start : tie.Need-part-is-generated-start
 part-is-generated-start c =
-    let l = c .before .before .before .before .leading-blanks in
+    let f = c .before .before .before .before in
+    let l = f .leading-blanks in
     let b =
-    trimmed-bounds page037 rearranged-037 blanks-037 spells-037 (c .before .before .before .before .before .before .args .bytes .now) (l .result) (l .ensures)
-    (c .kept-bytes .result) (c .kept-bytes .ensures) (c .before .before .before .if1 .left) (c .before .if2 .left) in
+    trimmed-bounds page037 rearranged-037 blanks-037 spells-037 (f .before .before .args .bytes .now) (l .result) (l .ensures) (c .kept-bytes .result)
+    (c .kept-bytes .ensures) (c .before .before .before .if1 .left) (c .before .if2 .left) in
     search (needs, b .0, b .1)
 
 part-is-generated-end : tie.Need-part-is-generated-end
 part-is-generated-end c =
-    let l = c .before .before .before .before .leading-blanks in
+    let f = c .before .before .before .before in
+    let l = f .leading-blanks in
     let b =
-    trimmed-bounds page037 rearranged-037 blanks-037 spells-037 (c .before .before .before .before .before .before .args .bytes .now) (l .result) (l .ensures)
-    (c .kept-bytes .result) (c .kept-bytes .ensures) (c .before .before .before .if1 .left) (c .before .if2 .left) in
+    trimmed-bounds page037 rearranged-037 blanks-037 spells-037 (f .before .before .args .bytes .now) (l .result) (l .ensures) (c .kept-bytes .result)
+    (c .kept-bytes .ensures) (c .before .before .before .if1 .left) (c .before .if2 .left) in
     search (needs, b .1)
 
 returns-3 : tie.Need-returns-3
 returns-3 c =
-    let l = c .before .before .before .before .before .before .leading-blanks in
+    let f = c .before .before .before .before .before .before in
+    let l = f .leading-blanks in
     let k = c .before .before .kept-bytes in
-    trimmed-text page037 rearranged-037 blanks-037 spells-037 (c .before .before .before .before .before .before .before .before .args .bytes .now) (l .result) (l .ensures)
-    (k .result) (k .ensures) (c .is-generated .result) (c .is-generated .ensures)
+    trimmed-text page037 rearranged-037 blanks-037 spells-037 (f .before .before .args .bytes .now) (l .result) (l .ensures) (k .result) (k .ensures)
+    (c .is-generated .result) (c .is-generated .ensures)
 
 pub is-generated-trimmed-spec : {M : Type 1} → statement M
 is-generated-trimmed-spec =
