@@ -12,8 +12,8 @@ use Rattle.field.specs.Numbers.{number}
 use Rattle.types.specs.Types.{isKnown}
 use Rattle.descriptor.specs.Nullable.{Flags, missing, nullableEnd}
 use Rattle.descriptor.specs.Descriptor.{optEnd, descriptorEnd}
-use Rattle.descriptor.proofs.Flags.{end-missing, end-null, end-held}
-use Rattle.descriptor.proofs.Steps.{end-room, end-type, end-inside}
+use Rattle.descriptor.proofs.Flags.{nullableEnd-missing, nullableEnd-null, nullableEnd-held}
+use Rattle.descriptor.proofs.Steps.{descriptor-room, descriptor-type, descriptorEnd-inside}
 
 -- ---- a nullable group: its flag is missing, is FF, or heads what the group holds
 
@@ -26,18 +26,18 @@ pub group-is : (flags : Flags) (f : List ℕ → ℕ → ℕ) (s : List ℕ) (p 
 group-is flags f s p = go (leb (length s) p) refl (eqb (getD s p 0) 0xFF) refl
   where
     go : (t : Bool) → leb (length s) p ≡ t → (u : Bool) → eqb (getD s p 0) 0xFF ≡ u → GroupIs flags f s p
-    go true e u e′ = let h = leb-true (length s) p e in gone h (end-missing flags f s p h)
+    go true e u e′ = let h = leb-true (length s) p e in gone h (nullableEnd-missing flags f s p h)
     go false e true e′ =
         let h = leb-false (length s) p e in
         let k = eqb-true (getD s p 0) 0xFF e′ in
-        null h k (end-null flags f s p h k)
+        null h k (nullableEnd-null flags f s p h k)
     go false e false e′ =
         let h = leb-false (length s) p e in
         let k = eqb-false (getD s p 0) 0xFF e′ in
-        held h k (end-held flags f s p h k)
+        held h k (nullableEnd-held flags f s p h k)
 
 -- ---- a descriptor that can be read: 16 bytes with a known type, and the optional group behind them
 
 pub descriptor-in : (flags : Flags) (order : ByteOrder) (s : List ℕ) (p : ℕ) → descriptorEnd flags order s p ≤ length s
     → (p + 16 ≤ length s) × (isKnown (number order 2 s (p + 12)) ≡ true) × (descriptorEnd flags order s p ≡ nullableEnd flags (optEnd flags) s (p + 16))
-descriptor-in flags order s p h = (end-room flags order s p h, end-type flags order s p h, end-inside flags order s p h)
+descriptor-in flags order s p h = (descriptor-room flags order s p h, descriptor-type flags order s p h, descriptorEnd-inside flags order s p h)

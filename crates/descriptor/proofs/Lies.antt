@@ -22,7 +22,7 @@ use Rattle.column.specs.Moved.{columnBytes, LiesAll}
 use Rattle.column.proofs.Lies.{StringLies, string-wider, string-none, string-chosen, StringsLie, all-wider, column-lies, column-bytes}
 use Rattle.descriptor.specs.Nullable.{Flags, lenient, nullableEnd, inNullable}
 use Rattle.descriptor.specs.Descriptor.{udtEnd, dxEnd, dxStart, optEnd, descriptorEnd, dxPair, optName, optLabel, optPair, describedAt, columnAt}
-use Rattle.descriptor.proofs.Flags.{in-missing, in-null, in-held}
+use Rattle.descriptor.proofs.Flags.{inNullable-missing, inNullable-null, inNullable-held}
 use Rattle.descriptor.proofs.Ends.{nullableEnd-grows, udtEnd-grows, dxEnd-grows, dxStart-grows}
 use Rattle.descriptor.proofs.Cases.{GroupIs, gone, null, held, group-is, descriptor-in}
 use Rattle.descriptor.proofs.Local.{FlagWindow, column-same, descriptor-lenient}
@@ -53,9 +53,9 @@ nullable-lies : (v : List ℕ → ℕ → StringRead) (f : List ℕ → ℕ → 
 nullable-lies v f s l p = go (group-is lenient f s p)
   where
     go : GroupIs lenient f s p → StringLies p (nullableEnd lenient f s p) (inNullable (noString 0) v s p)
-    go (gone x e) = rw (in-missing (noString 0) v s p x) (string-none p _ 0)
-    go (null x y e) = rw (in-null (noString 0) v s p x y) (string-none p _ 0)
-    go (held x y e) = rw (in-held (noString 0) v s p x y, e) (string-wider (p + 1) _ _ _ _ (omega arith) (le-refl _) (l (p + 1)))
+    go (gone x e) = rw (inNullable-missing (noString 0) v s p x) (string-none p _ 0)
+    go (null x y e) = rw (inNullable-null (noString 0) v s p x y) (string-none p _ 0)
+    go (held x y e) = rw (inNullable-held (noString 0) v s p x y, e) (string-wider (p + 1) _ _ _ _ (omega arith) (le-refl _) (l (p + 1)))
 
 -- ---- in the groups
 

@@ -19,10 +19,10 @@ use Rattle.column.specs.Moved.{moveText, moveColumn}
 use Rattle.column.proofs.Moved.{Alike, alike-none, alike-moved, alike-chosen, alike-name}
 use Rattle.descriptor.specs.Nullable.{Flags, lenient, strict, missing, nullableEnd, inNullable}
 use Rattle.descriptor.specs.Descriptor.{udtEnd, dxEnd, dxStart, optEnd, descriptorEnd, dxPair, optName, optLabel, optPair, describedAt, columnAt}
-use Rattle.descriptor.proofs.Flags.{end-missing, end-null, end-held, in-missing, in-null, in-held}
+use Rattle.descriptor.proofs.Flags.{nullableEnd-missing, nullableEnd-null, nullableEnd-held, inNullable-missing, inNullable-null, inNullable-held}
 use Rattle.descriptor.proofs.Ends.{nullableEnd-grows, udtEnd-grows, dxEnd-grows, optEnd-grows}
 use Rattle.descriptor.proofs.Cases.{GroupIs, gone, null, held, group-is, descriptor-in}
-use Rattle.descriptor.proofs.Steps.{end-known}
+use Rattle.descriptor.proofs.Steps.{descriptorEnd-known}
 
 -- a window, and where a flag that is due is missing in s, it is missing in s′, and missing is allowed
 pub record FlagWindow (flags : Flags) (s : List ℕ) (a : ℕ) (s′ : List ℕ) (b n : ℕ) : Type 0 where
@@ -44,15 +44,15 @@ module _ (flags : Flags) (s : List ℕ) (a : ℕ) (s′ : List ℕ) (b n : ℕ) 
       go : GroupIs flags f s p → Same a b (nullableEnd flags f s p) (nullableEnd lenient f′ s′ q)
       go (gone x e) =
           let t = w .seam p q h x (rw e at k) in
-          rw (e, t .1, end-missing lenient f′ s′ q (t .0)) h
+          rw (e, t .1, nullableEnd-missing lenient f′ s′ q (t .0)) h
       go (null x y e) =
           let e′ : nullableEnd lenient f′ s′ q ≡ q + 1 =
-          end-null lenient f′ s′ q (omega (arith, w .window .inside′)) (sym (byte p q h (omega arith)) ∙ y) in
+          nullableEnd-null lenient f′ s′ q (omega (arith, w .window .inside′)) (sym (byte p q h (omega arith)) ∙ y) in
           rw (e, e′) (same-plus a b 1 p q h)
       go (held x y e) =
           let i = g s (p + 1) in
           let e′ : nullableEnd lenient f′ s′ q ≡ f′ s′ (q + 1) =
-          end-held lenient f′ s′ q (omega (arith, w .window .inside′)) (λ z. y (byte p q h (omega arith) ∙ z)) in
+          nullableEnd-held lenient f′ s′ q (omega (arith, w .window .inside′)) (λ z. y (byte p q h (omega arith) ∙ z)) in
           rw (e, e′) (l (p + 1) (q + 1) (same-plus a b 1 p q h) (rw e at k))
 
   strings : (c p q : ℕ) → Same a b p q → stringsEnd c s p ≤ a + n → Same a b (stringsEnd c s p) (stringsEnd c s′ q)
@@ -87,7 +87,7 @@ module _ (flags : Flags) (s : List ℕ) (a : ℕ) (s′ : List ℕ) (b n : ℕ) 
       let g = nullableEnd-grows flags (optEnd flags) s (optEnd-grows flags s) (p + 16) in
       let e = number-same s a s′ b n (w .window) order 2 (p + 12) (q + 12) (same-plus a b 12 p q h) (omega arith) in
       let e′ : descriptorEnd lenient order s′ q ≡ nullableEnd lenient (optEnd lenient) s′ (q + 16) =
-      end-known lenient order s′ q (omega (arith, w .window .inside′)) (sym (ap isKnown e) ∙ i .1) in
+      descriptorEnd-known lenient order s′ q (omega (arith, w .window .inside′)) (sym (ap isKnown e) ∙ i .1) in
       rw (i .2, e′)
       (nullable-local (optEnd flags) (optEnd lenient) opt-local (optEnd-grows flags) (p + 16) (q + 16) (same-plus a b 16 p q h) (rw (i .2) at k))
 
@@ -137,15 +137,15 @@ module _ (page : Page) (flags : Flags) (s : List ℕ) (a : ℕ) (s′ : List ℕ
       go : GroupIs flags f s p → As (inNullable (noString 0) v s p) (inNullable (noString 0) v s′ q)
       go (gone x e) =
           let t = w .seam p q h x (rw e at k) in
-          rw (in-missing (noString 0) v s p x, in-missing (noString 0) v s′ q (t .0)) none
+          rw (inNullable-missing (noString 0) v s p x, inNullable-missing (noString 0) v s′ q (t .0)) none
       go (null x y e) =
           rw
-          (in-null (noString 0) v s p x y, in-null (noString 0) v s′ q (omega (arith, w .window .inside′)) (sym (w .window .bytes p q h (omega arith)) ∙ y))
+          (inNullable-null (noString 0) v s p x y, inNullable-null (noString 0) v s′ q (omega (arith, w .window .inside′)) (sym (w .window .bytes p q h (omega arith)) ∙ y))
           none
       go (held x y e) =
           let i = g s (p + 1) in
           rw
-          (in-held (noString 0) v s p x y, in-held (noString 0) v s′ q (omega (arith, w .window .inside′)) (λ z. y (w .window .bytes p q h (omega arith) ∙ z)))
+          (inNullable-held (noString 0) v s p x y, inNullable-held (noString 0) v s′ q (omega (arith, w .window .inside′)) (λ z. y (w .window .bytes p q h (omega arith) ∙ z)))
           (l (p + 1) (q + 1) (same-plus a b 1 p q h) (rw e at k))
 
   -- the pair that follows c strings
