@@ -1,5 +1,0 @@
-// stub
-pub enum Ends {
-    Compact,
-    Last,
-}

@@ -1,5 +1,0 @@
-// stub
-pub struct Table {
-    pub start: usize,
-    pub count: usize,
-}
