@@ -82,6 +82,10 @@ module _ (s : List ℕ) (p : ℕ) where
 
 -- ---- no next
 
+-- at first a next may come
+pub ended-first : (s : List ℕ) (p : ℕ) → Ended s p true
+ended-first s p e = absurd (let z : _≡_ {A = ℕ} 0 1 = cc in omega arith)
+
 pub ended-by : (s : List ℕ) (p q : ℕ) → q ≡ nextCompact s p → Ended s p (leb q (length s))
 ended-by s p q e f = let z = leb-false q (length s) f in omega arith
 

@@ -1,63 +1,52 @@
+-- The loop's invariant: the answer is that from i on, and where nothing more may come, there is no next from i on.
+-- Assumes nothing.
+use Prim.Native.Nat.{_+_, _≤_, _-_}
+use native.Mathlib.Omega.{arith}
+use mathlib.Core.Path.{_≡_, refl, sym, _∙_}
+use borrow.Author.Needs.{needs}
+use Rattle.search.specs.Walks.{first}
+use Rattle.search.proofs.Index.{first-more, first-found, first-done}
+use Rattle.compact_table.specs.Table.{tableHere, tableAt, Ended}
+use Rattle.compact_table.proofs.Laws.{ended-first, ended-later, table-short, table-none, table-is, count-small}
 use Rattle.compact_table.proofs.find_compact_descriptor_table.Statement.{statement}
 use Rattle.compact_table.proofs.find_compact_descriptor_table.Tie as tie
-use Rattle.compact_table.proofs.find_compact_descriptor_table.Reads as reads
-use Rattle.compact_table.proofs.find_compact_descriptor_table.Lts as lts
-use Rattle.compact_table.proofs.table_here.Reads as table-here-reads
-use Rattle.field.proofs.u16_at.Reads as u16-at-reads
 
 abbrev Inv-loop : tie.InvT-loop
-Inv-loop reply end more₀ i₀ more i = ?
+Inv-loop reply end more₀ i₀ more i = (i ≤ end) × (tableAt reply ≡ first (tableHere reply) i end) × Ended reply (i + 2) more
 
 abbrev μ-loop : tie.MeasureT-loop
-μ-loop reply end more₀ i₀ more i = ?
+μ-loop reply end more₀ i₀ more i = end - i
 
--- src/lib.rt:113:9
 returns : tie.Need-returns Inv-loop μ-loop
-returns c = ?
+returns c = (table-short _ (c .if1 .taken), (search needs, search needs))
 
--- src/lib.rt:115:15
-sub-end : tie.Need-sub-end Inv-loop μ-loop
-sub-end c = ?
-
--- src/lib.rt:118:5
 loop-holds : tie.Need-loop-holds Inv-loop μ-loop
-loop-holds c = ?
+unfolding tableAt
+loop-holds c = (search needs, refl, ended-first _ _)
 
--- src/lib.rt:119:13
 table-here-requires : tie.Need-table-here-requires Inv-loop μ-loop
-table-here-requires c κs = ?
+table-here-requires c κs = (search needs, c .before .loop .inv .2)
 
--- src/lib.rt:121:25
-u16-at-requires : tie.Need-u16-at-requires Inv-loop μ-loop
-u16-at-requires c κs = ?
-
--- src/lib.rt:121:25
-cast-count : tie.Need-cast-count Inv-loop μ-loop
-cast-count c = ?
-
--- src/lib.rt:122:35
-add-t12 : tie.Need-add-t12 Inv-loop μ-loop
-add-t12 c = ?
-
--- src/lib.rt:122:13
 returns-2 : tie.Need-returns-2 Inv-loop μ-loop
-returns-2 c = ?
+returns-2 c =
+    let test = c .before .before in
+    let turn = test .before in
+    let here = sym (test .table-here .ensures .0) ∙ c .before .if2 .taken in (
+      table-is _ _ (first-found _ _ _ _ (turn .before .loop .inv .1) (turn .loop-test .taken) here) _ (turn .loop-test .taken) (c .u16-at .ensures),
+      (search needs, count-small _ _ _ (c .u16-at .ensures) here),
+    )
 
--- src/lib.rt:125:9
-add-i : tie.Need-add-i Inv-loop μ-loop
-add-i c = ?
-
--- src/lib.rt:118:5
-loop-less : tie.Need-loop-less Inv-loop μ-loop
-loop-less c = ?
-
--- src/lib.rt:118:5
 loop-again : tie.Need-loop-again Inv-loop μ-loop
-loop-again c = ?
+loop-again c =
+    let test = c .before in
+    let turn = test .before in (
+      search needs,
+      first-more _ _ _ _ (turn .before .loop .inv .1) (turn .loop-test .taken) (sym (test .table-here .ensures .0) ∙ c .if2 .left),
+      ended-later _ _ _ _ (omega arith) (test .table-here .ensures .1),
+    )
 
--- src/lib.rt:108:1
 returns-3 : tie.Need-returns-3 Inv-loop μ-loop
-returns-3 c = ?
+returns-3 c = (table-none _ _ (first-done _ _ _ _ (c .before .loop .inv .1) (c .loop-test .left)) (c .loop-test .left), (search needs, search needs))
 
 pub find-compact-descriptor-table-spec : {M : Type 1} → statement M
 find-compact-descriptor-table-spec =
@@ -66,14 +55,14 @@ find-compact-descriptor-table-spec =
     Inv-loop
     μ-loop
     returns
-    sub-end
+    (search needs)
     loop-holds
     table-here-requires
-    u16-at-requires
-    cast-count
-    add-t12
+    (search needs)
+    (search needs)
+    (search needs)
     returns-2
-    add-i
-    loop-less
+    (search needs)
+    (search needs)
     loop-again
     returns-3)

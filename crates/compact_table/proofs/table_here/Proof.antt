@@ -1,70 +1,70 @@
+-- No count of a table, or no such 16 bytes behind it; else the count is 1, or there is a next. None is looked for where none can come.
+-- Assumes nothing.
+use mathlib.Core.Path.{sym, _∙_}
 use borrow.Author.Needs.{needs}
+use borrow.Author.Tests.{not-true, not-false}
+use Rattle.compact_table.proofs.Laws.{here-no-count, here-other, here-one, here-next, here-ended, ended-by}
 use Rattle.compact_table.proofs.table_here.Statement.{statement}
 use Rattle.compact_table.proofs.table_here.Tie as tie
-use Rattle.compact_table.proofs.table_here.Reads as reads
-use Rattle.compact_table.proofs.table_here.Lts as lts
-use Rattle.compact_table.proofs.is_count.Reads as is-count-reads
-use Rattle.compact_table.proofs.looks_like_compact_descriptor_start.Reads as looks-like-compact-descriptor-start-reads
-use Rattle.compact_table.proofs.next_compact_descriptor_offset.Reads as next-compact-descriptor-offset-reads
-use Rattle.field.proofs.u16_at.Reads as u16-at-reads
 
--- src/lib.rt:90:9
-u16-at-requires : tie.Need-u16-at-requires
-u16-at-requires c κs = search needs
-
--- src/lib.rt:91:9
-is-count-requires : tie.Need-is-count-requires
-is-count-requires c κs = search needs
-
--- src/lib.rt:92:9
 returns : tie.Need-returns
-returns c = ?
+returns c =
+    let count = c .before .before in
+    (here-no-count _ _ _ (count .u16-at .ensures) (sym (c .before .is-count .ensures) ∙ not-true _ (c .if1 .taken)), count .before .before .pre .1)
 
--- src/lib.rt:94:52
-add-looks-like-compact-descriptor-start : tie.Need-add-looks-like-compact-descriptor-start
-add-looks-like-compact-descriptor-start c = search needs
-
--- src/lib.rt:94:9
-looks-like-compact-descriptor-start-requires :
-    tie.Need-looks-like-compact-descriptor-start-requires
-looks-like-compact-descriptor-start-requires c κs = search needs
-
--- src/lib.rt:95:9
 returns-2 : tie.Need-returns-2
-returns-2 c = ?
+returns-2 c =
+    let test = c .before .before .before in
+    let count = test .before in (
+      here-other _ _ _ (count .u16-at .ensures) (sym (test .is-count .ensures) ∙ not-false _ (c .before .before .if1 .left))
+          (sym (c .before .looks-like-compact-descriptor-start .ensures) ∙ not-true _ (c .if2 .taken)),
+      count .before .before .pre .1,
+    )
 
--- src/lib.rt:98:9
 returns-3 : tie.Need-returns-3
-returns-3 c = ?
+returns-3 c =
+    let looks = c .before .before in
+    let test = looks .before .before in
+    let count = test .before in (
+      here-one _ _ _ (count .u16-at .ensures) (sym (test .is-count .ensures) ∙ not-false _ (looks .before .if1 .left))
+          (sym (looks .looks-like-compact-descriptor-start .ensures) ∙ not-false _ (c .before .if2 .left)) (c .if3 .taken),
+      count .before .before .pre .1,
+    )
 
--- src/lib.rt:101:9
 returns-4 : tie.Need-returns-4
-returns-4 c = ?
+returns-4 c =
+    let looks = c .before .before .before in
+    let test = looks .before .before in
+    let count = test .before in (
+      here-ended _ _ _ (count .u16-at .ensures) (sym (test .is-count .ensures) ∙ not-false _ (looks .before .if1 .left))
+          (sym (looks .looks-like-compact-descriptor-start .ensures) ∙ not-false _ (c .before .before .if2 .left)) (c .before .if3 .left)
+          _ (count .before .before .pre .1) (not-true _ (c .if4 .taken)),
+      count .before .before .pre .1,
+    )
 
--- src/lib.rt:103:54
-add-next-compact-descriptor-offset : tie.Need-add-next-compact-descriptor-offset
-add-next-compact-descriptor-offset c = search needs
-
--- src/lib.rt:103:9
-next-compact-descriptor-offset-requires : tie.Need-next-compact-descriptor-offset-requires
-next-compact-descriptor-offset-requires c κs = search needs
-
--- src/lib.rt:84:1
 returns-5 : tie.Need-returns-5
-returns-5 c = ?
+returns-5 c =
+    let looks = c .before .before .before .before in
+    let test = looks .before .before in
+    let count = test .before in (
+      here-next _ _ _ (count .u16-at .ensures) (sym (test .is-count .ensures) ∙ not-false _ (looks .before .if1 .left))
+          (sym (looks .looks-like-compact-descriptor-start .ensures) ∙ not-false _ (c .before .before .before .if2 .left)) (c .before .before .if3 .left)
+          _ (c .next-compact-descriptor-offset .ensures),
+      ended-by _ _ _ (c .next-compact-descriptor-offset .ensures),
+    )
 
 pub table-here-spec : {M : Type 1} → statement M
 table-here-spec =
     tie.close
     (tie.spec
-    u16-at-requires
-    is-count-requires
+    (search needs)
+    (search needs)
     returns
-    add-looks-like-compact-descriptor-start
-    looks-like-compact-descriptor-start-requires
+    (search needs)
+    (search needs)
     returns-2
     returns-3
     returns-4
-    add-next-compact-descriptor-offset
-    next-compact-descriptor-offset-requires
+    (search needs)
+    (search needs)
     returns-5)
