@@ -61,24 +61,28 @@ name-none s p e q f h = rw (← f, le-ltb q e h) refl
 -- ---- a name that counts, 1, or 0
 
 module _ (page : Page) (s : List ℕ) (r : StringRead) where
-  pub named-missing : r .length ≡ 0 → 0 ≡ pick (isAsciiNamed page s r) 1 0
+  pub named-missing : r .length ≡ 0 → _≡_ {A = ℕ} 0 (pick (isAsciiNamed page s r) 1 0)
   unfolding isAsciiNamed
   named-missing h = rw (eq-eqb (r .length) 0 h) refl
 
   -- g: whether the bytes, as the code lends them, are a generated name
   module _ (h : r .length ≡ 0 → ⊥) (g : Bool)
       (e : g ≡ isGenerated (chars page 1 (take (r .place + r .length - r .place) (drop (r .place) s)))) where
-    counted : pick (not g) 1 0 ≡ pick (isAsciiNamed page s r) 1 0
+    counted : _≡_ {A = ℕ} (pick (not g) 1 0) (pick (isAsciiNamed page s r) 1 0)
     unfolding isAsciiNamed
     counted =
         rw (ne-eqb (r .length) 0 h)
-        (ap (λ (b : Bool). pick (not b) 1 0) (e ∙ ap (λ (bs : List ℕ). isGenerated (chars page 1 bs)) (lent s (r .place) (r .length))))
+        (ap (λ (b : Bool). pick {A = ℕ} (not b) 1 0) (e ∙ ap (λ (bs : List ℕ). isGenerated (chars page 1 bs)) (lent s (r .place) (r .length))))
 
-    pub named-generated : g ≡ true → 0 ≡ pick (isAsciiNamed page s r) 1 0
-    named-generated f = ap (λ (b : Bool). pick (not b) 1 0) (sym f) ∙ counted
+    pub named-generated : g ≡ true → _≡_ {A = ℕ} 0 (pick (isAsciiNamed page s r) 1 0)
+    named-generated f = ap (λ (b : Bool). pick {A = ℕ} (not b) 1 0) (sym f) ∙ counted
 
-    pub named-other : g ≡ false → 1 ≡ pick (isAsciiNamed page s r) 1 0
-    named-other f = ap (λ (b : Bool). pick (not b) 1 0) (sym f) ∙ counted
+    pub named-other : g ≡ false → _≡_ {A = ℕ} 1 (pick (isAsciiNamed page s r) 1 0)
+    named-other f = ap (λ (b : Bool). pick {A = ℕ} (not b) 1 0) (sym f) ∙ counted
+
+pub at-most-one : (b : Bool) (x : ℕ) → x ≡ pick b 1 0 → x ≤ 1
+at-most-one true x e = omega arith
+at-most-one false x e = omega arith
 
 -- ---- ends
 

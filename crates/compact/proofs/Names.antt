@@ -109,3 +109,17 @@ module _ (s : List ℕ) (p e : ℕ) (r : p + 16 ≤ e) (l : e ≤ length s) wher
   pub column-named : (page : Page) (i : ℕ) → isNamed page s (compactColumn page i s p e) ≡ isAsciiNamed page s (compactName s p e)
   unfolding isNamed compactColumn columnWith compactAt
   column-named page i = name-counts page s (compactName s p e) name-spelled
+
+  -- it lies in the reply
+  pub name-inside : (n : StringRead) → n ≡ compactName s p e → n .place + n .length ≤ length s
+  name-inside n f =
+      let a = ap (λ (x : StringRead). x .place) f in
+      let b = ap (λ (x : StringRead). x .length) f in
+      omega (arith, name-spelled .inside)
+
+-- so does a string without bytes
+pub none-inside : (s : List ℕ) (n : StringRead) → n ≡ noString 0 → n .place + n .length ≤ length s
+none-inside s n f =
+    let a = ap (λ (x : StringRead). x .place) f in
+    let b = ap (λ (x : StringRead). x .length) f in
+    omega arith

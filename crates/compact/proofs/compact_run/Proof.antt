@@ -1,76 +1,62 @@
+-- The loop's invariant: i descriptors are read, `named` of them with names, and the next one starts at `start`.
+-- Assumes nothing.
+use Prim.Native.Nat.{_≤_, _-_}
+use native.Mathlib.Omega.{arith}
+use lib.ListN.{length}
+use borrow.Author.Needs.{needs}
+use Rattle.search.proofs.Walks.{Walking, walking-none}
+use Rattle.codepage.specs.Page.{page037}
+use Rattle.column.specs.Column.{isNamed}
+use Rattle.compact.specs.Compact.{compactWalk}
+use Rattle.compact.proofs.Laws.{at-most-one}
+use Rattle.compact.proofs.Names.{name-inside}
+use Rattle.compact.proofs.Runs.{run-more, run-stop, run-short, run-done}
 use Rattle.compact.proofs.compact_run.Statement.{statement}
 use Rattle.compact.proofs.compact_run.Tie as tie
-use Rattle.compact.proofs.compact_run.Reads as reads
-use Rattle.compact.proofs.compact_run.Lts as lts
-use Rattle.compact.proofs.compact_end.Reads as compact-end-reads
-use Rattle.compact.proofs.extract_column_name.Reads as extract-column-name-reads
-use Rattle.compact.proofs.one_if_named.Reads as one-if-named-reads
 
 abbrev Inv-loop : tie.InvT-loop
-Inv-loop ends reply count offset start₀ i₀ named₀ start i named = ?
+Inv-loop ends reply count offset start₀ i₀ named₀ start i named =
+    (start ≤ length reply) × Walking (compactWalk page037 ends reply) (isNamed page037 reply) count offset i named start
 
 abbrev μ-loop : tie.MeasureT-loop
-μ-loop ends reply count offset start₀ i₀ named₀ start i named = ?
+μ-loop ends reply count offset start₀ i₀ named₀ start i named = count - i
 
--- src/lib.rt:171:5
 loop-holds : tie.Need-loop-holds Inv-loop μ-loop
-loop-holds c = ?
+loop-holds c = (search needs, walking-none _ _ _ _)
 
--- src/lib.rt:172:12
-sub-if1 : tie.Need-sub-if1 Inv-loop μ-loop
-sub-if1 c = ?
-
--- src/lib.rt:173:13
 returns : tie.Need-returns Inv-loop μ-loop
-returns c = ?
+returns c =
+    let walk = c .before .before .loop .inv .1 in
+    (run-short page037 _ _ _ _ _ _ _ walk (c .before .loop-test .taken) (omega arith), (walk .few, walk .below))
 
--- src/lib.rt:175:46
-add-compact-end : tie.Need-add-compact-end Inv-loop μ-loop
-add-compact-end c = ?
-
--- src/lib.rt:175:37
-sub-compact-end : tie.Need-sub-compact-end Inv-loop μ-loop
-sub-compact-end c = ?
-
--- src/lib.rt:175:13
-compact-end-requires : tie.Need-compact-end-requires Inv-loop μ-loop
-compact-end-requires c κs = ?
-
--- src/lib.rt:176:18
-add-if2 : tie.Need-add-if2 Inv-loop μ-loop
-add-if2 c = ?
-
--- src/lib.rt:177:13
 returns-2 : tie.Need-returns-2 Inv-loop μ-loop
-returns-2 c = ?
+returns-2 c =
+    let turn = c .before .before .before in
+    let walk = turn .before .loop .inv .1 in
+    (run-stop page037 _ _ _ _ _ _ _ walk _ (turn .loop-test .taken) (c .before .compact-end .ensures .0) (c .if2 .taken), (walk .few, walk .below))
 
--- src/lib.rt:179:13
-extract-column-name-requires : tie.Need-extract-column-name-requires Inv-loop μ-loop
-extract-column-name-requires c κs = ?
-
--- src/lib.rt:180:18
 one-if-named-requires : tie.Need-one-if-named-requires Inv-loop μ-loop
-one-if-named-requires c κs = ?
+one-if-named-requires c κs =
+    name-inside _ _ _ (c .before .if2 .left) (c .before .before .compact-end .ensures .1) _ (c .extract-column-name .ensures)
 
--- src/lib.rt:180:9
 add-named : tie.Need-add-named Inv-loop μ-loop
-add-named c = ?
+add-named c =
+    omega (arith, c .before .before .before .before .before .before .loop .inv .1 .few, at-most-one _ _ (c .one-if-named .ensures))
 
--- src/lib.rt:182:9
-add-i : tie.Need-add-i Inv-loop μ-loop
-add-i c = ?
-
--- src/lib.rt:171:5
-loop-less : tie.Need-loop-less Inv-loop μ-loop
-loop-less c = ?
-
--- src/lib.rt:171:5
 loop-again : tie.Need-loop-again Inv-loop μ-loop
-loop-again c = ?
+loop-again c =
+    let name = c .before in
+    let end = name .before .before in
+    let turn = end .before .before in (
+      search needs,
+      run-more page037 _ _ _ _ _ _ _ (turn .before .loop .inv .1) _ _ _ (turn .loop-test .taken) (end .compact-end .ensures .0) (name .before .if2 .left)
+          (end .compact-end .ensures .1) (name .extract-column-name .ensures) (c .one-if-named .ensures),
+    )
 
--- src/lib.rt:163:1
 returns-3 : tie.Need-returns-3 Inv-loop μ-loop
-returns-3 c = ?
+returns-3 c =
+    let walk = c .before .loop .inv .1 in
+    (run-done page037 _ _ _ _ _ _ _ walk (c .loop-test .left), (walk .few, walk .below))
 
 pub compact-run-spec : {M : Type 1} → statement M
 compact-run-spec =
@@ -79,17 +65,17 @@ compact-run-spec =
     Inv-loop
     μ-loop
     loop-holds
-    sub-if1
+    (search needs)
     returns
-    add-compact-end
-    sub-compact-end
-    compact-end-requires
-    add-if2
+    (search needs)
+    (search needs)
+    (search needs)
+    (search needs)
     returns-2
-    extract-column-name-requires
+    (search needs)
     one-if-named-requires
     add-named
-    add-i
-    loop-less
+    (search needs)
+    (search needs)
     loop-again
     returns-3)
