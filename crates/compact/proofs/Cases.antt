@@ -4,7 +4,7 @@ use mathlib.Core.Path.{_≡_, refl}
 use mathlib.Core.List.{List, [], _∷_, _++_}
 use lib.ListN.{replicate}
 use Rattle.field.specs.Numbers.{number}
-use Rattle.compact.specs.Compact.{ccsidOf, nameAt, compactName, compactAt}
+use Rattle.compact.specs.Compact.{ccsidOf, compactAt}
 
 pub case-K-9472 : compactAt (replicate 14 0 ++ (0x25 ∷ 0x00 ∷ [])) 0 16 .ccsid ≡ 9472
 unfolding compactAt ccsidOf number

@@ -1,13 +1,13 @@
 -- CCSID, names and ends by their cases: for each way out of a function one law.
 -- Assumes nothing.
-use Prim.Native.Nat.{ℕ, suc, _+_, _-_, _≤_, _<_}
+use Prim.Native.Nat.{ℕ, _+_, _-_, _≤_, _<_}
 use native.Mathlib.Omega.{arith}
 use mathlib.Core.Path.{_≡_, refl, sym, ap, _∙_}
 use mathlib.Core.List.{List}
-use mathlib.Core.Bool.{Bool, true, false, not, _&&_, _||_}
+use mathlib.Core.Bool.{Bool, true, false, not, _&&_}
 use lib.ListN.{length, getD, take, drop}
 use lib.Dec.{leb, eqb, ltb}
-use borrow.Author.Tests.{eq-eqb, ne-eqb, lt-ltb, le-ltb, le-leb, lt-leb, ltb-true, leb-true}
+use borrow.Author.Tests.{eq-eqb, ne-eqb, lt-ltb, le-ltb, le-leb, lt-leb, ltb-true, leb-true, leb-false}
 use Rattle.search.specs.Search.{pick, each}
 use Rattle.search.specs.Walks.{first}
 use Rattle.search.proofs.Index.{first-done}
@@ -151,4 +151,4 @@ end-room ends k s p h = go (leb (p + 16) (length s)) refl
   where
     go : (b : Bool) → leb (p + 16) (length s) ≡ b → p + 16 ≤ length s
     go true e = leb-true (p + 16) (length s) e
-    go false e = absurd (let z = end-short ends k s p (borrow.Author.Tests.leb-false (p + 16) (length s) e) in omega arith)
+    go false e = absurd (let z = end-short ends k s p (leb-false (p + 16) (length s) e) in omega arith)

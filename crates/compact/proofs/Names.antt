@@ -1,19 +1,19 @@
 -- A name of a compact descriptor is all name characters, so its text is its own bytes in ASCII.
 -- Assumes nothing.
-use Prim.Native.Nat.{ℕ, _+_, _≤_, _<_}
+use Prim.Native.Nat.{ℕ, _+_, _≤_}
 use native.Mathlib.Omega.{arith}
 use mathlib.Core.Path.{_≡_, refl, sym, ap, _∙_}
 use mathlib.Core.List.{List, [], _∷_}
-use mathlib.Core.Bool.{Bool, true, false, not, _&&_, _||_}
+use mathlib.Core.Bool.{Bool, true, false, not, _&&_, false≢true, and-false, and-eq-true-iff}
 use lib.ListN.{length, getD, take, drop}
 use lib.Dec.{leb, eqb, ltb}
-use borrow.Author.Tests.{ne-eqb, lt-leb, le-ltb, lt-ltb, ltb-true, ltb-false, leb-true, eqb-false}
+use borrow.Author.Tests.{ne-eqb, lt-leb, ltb-true, ltb-false, leb-true}
 use Rattle.search.specs.Search.{pick, each}
 use Rattle.search.proofs.Index.{Found, first-is}
 use Rattle.codepage.specs.Page.{Page}
 use Rattle.text.specs.declared.Text.{Text}
 use Rattle.text.specs.Chars.{isAscii, isNameChar}
-use Rattle.text.specs.Text.{textIs, placed, textOn, textOf}
+use Rattle.text.specs.Text.{textIs, placed, textOn}
 use Rattle.text.specs.Generated.{isGeneratedText}
 use Rattle.text.proofs.Decode.{lent-length}
 use Rattle.field.specs.declared.StringRead.{StringRead}
@@ -21,17 +21,22 @@ use Rattle.field.specs.Strings.{noString}
 use Rattle.column.specs.Column.{stringText, nameText, columnWith, isNamed}
 use Rattle.compact.specs.Compact.{nameHere, nameAt, compactName, compactAt, compactColumn, isAsciiNamed}
 
-and-false : (b : Bool) → (b && false) ≡ false
-and-false true = refl
-and-false false = refl
-
 -- ---- name characters are ASCII
 
 not-name : (c : ℕ) → 0x80 ≤ c → isNameChar c ≡ false
 not-name c h =
-    rw (lt-leb c 0x5A (omega arith), lt-leb c 0x7A (omega arith), lt-leb c 0x39 (omega arith), ne-eqb c 0x5F (λ z. omega arith),
-      ne-eqb c 0x24 (λ z. omega arith), ne-eqb c 0x23 (λ z. omega arith), ne-eqb c 0x40 (λ z. omega arith), and-false (leb 0x41 c),
-      and-false (leb 0x61 c), and-false (leb 0x30 c))
+    rw (
+      lt-leb c 0x5A (omega arith),
+      lt-leb c 0x7A (omega arith),
+      lt-leb c 0x39 (omega arith),
+      ne-eqb c 0x5F (λ z. omega arith),
+      ne-eqb c 0x24 (λ z. omega arith),
+      ne-eqb c 0x23 (λ z. omega arith),
+      ne-eqb c 0x40 (λ z. omega arith),
+      and-false (leb 0x41 c),
+      and-false (leb 0x61 c),
+      and-false (leb 0x30 c),
+    )
     refl
 
 name-ascii : (c : ℕ) → isNameChar c ≡ true → ltb c 0x80 ≡ true
@@ -49,7 +54,7 @@ names-ascii (c ∷ cs) e = go (isNameChar c) refl e (names-ascii cs)
     go : (b : Bool) → isNameChar c ≡ b → (b && each isNameChar cs) ≡ true → (each isNameChar cs ≡ true → each (λ x. ltb x 0x80) cs ≡ true)
         → (ltb c 0x80 && each (λ x. ltb x 0x80) cs) ≡ true
     go true f g k = rw (name-ascii c f) (k g)
-    go false f g k = absurd (let z : _≡_ {A = ℕ} 0 1 = cc in omega arith)
+    go false f g k = absurd (false≢true g)
 
 -- ---- what is known of a name: it lies in the reply and is all name characters; so does one that is missing
 
@@ -66,7 +71,7 @@ name-text page s r h e =
 -- whether it counts as a name: one that is missing does not
 counts-none : (page : Page) (s : List ℕ) (r : StringRead) → eqb (r .length) 0 ≡ true → not (isGeneratedText page s (nameText page s r)) ≡ isAsciiNamed page s r
 unfolding nameText isGeneratedText isAsciiNamed
-counts-none page s r e = rw (e) refl
+counts-none page s r e = rw e refl
 
 counts-some : (page : Page) (s : List ℕ) (r : StringRead) → Spelled s r → eqb (r .length) 0 ≡ false
     → not (isGeneratedText page s (nameText page s r)) ≡ isAsciiNamed page s r
@@ -85,13 +90,9 @@ name-counts page s r h = go (eqb (r .length) 0) refl
 letters-here : (s : List ℕ) (e q : ℕ) → nameHere s e q ≡ true → (q + 1 + getD s q 0 ≤ e) × (each isNameChar (take (getD s q 0) (drop (q + 1) s)) ≡ true)
 unfolding nameHere
 letters-here s e q h =
-    go (leb 1 (getD s q 0) && leb (getD s q 0) 64) (leb (q + 1 + getD s q 0) e) (each isNameChar (take (getD s q 0) (drop (q + 1) s))) refl refl h
-  where
-    go : (x y z : Bool) → leb (q + 1 + getD s q 0) e ≡ y → each isNameChar (take (getD s q 0) (drop (q + 1) s)) ≡ z → (x && (y && z)) ≡ true
-        → (q + 1 + getD s q 0 ≤ e) × (z ≡ true)
-    go true true z f g k = (leb-true (q + 1 + getD s q 0) e f, k)
-    go true false z f g k = absurd (let z : _≡_ {A = ℕ} 0 1 = cc in omega arith)
-    go false y z f g k = absurd (let z : _≡_ {A = ℕ} 0 1 = cc in omega arith)
+    let rest = and-eq-true-iff (leb 1 (getD s q 0) && leb (getD s q 0) 64) _ .0 h .1 in
+    let both = and-eq-true-iff (leb (q + 1 + getD s q 0) e) (each isNameChar (take (getD s q 0) (drop (q + 1) s))) .0 rest in
+    (leb-true (q + 1 + getD s q 0) e (both .0), both .1)
 
 module _ (s : List ℕ) (p e : ℕ) (r : p + 16 ≤ e) (l : e ≤ length s) where
   pub name-spelled : Spelled s (compactName s p e)

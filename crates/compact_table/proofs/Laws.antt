@@ -1,21 +1,19 @@
 -- The table by its cases: for each way out of a function one law.
 -- Assumes nothing.
-use Prim.Native.Nat.{ℕ, suc, _+_, _-_, _%_, _≤_, _<_}
+use Prim.Native.Nat.{ℕ, _+_, _-_, _≤_, _<_}
 use native.Mathlib.Omega.{arith}
-use mathlib.Core.Path.{_≡_, refl, sym, ap, _∙_}
+use mathlib.Core.Path.{_≡_, refl, sym, _∙_}
 use mathlib.Core.List.{List}
-use mathlib.Core.Bool.{Bool, true, false, _&&_, _||_}
+use mathlib.Core.Bool.{Bool, true, false, _&&_, _||_, false≢true, and-false, and-eq-true-iff}
 use lib.ListN.{length, getD}
 use lib.Dec.{ltb, leb, eqb}
 use borrow.Author.Tests.{eq-eqb, ne-eqb, le-leb, lt-leb, lt-ltb, le-ltb, leb-true, leb-false}
-use Rattle.search.specs.Search.{pick}
 use Rattle.search.specs.Walks.{first}
 use Rattle.search.proofs.Index.{first-none}
 use Rattle.field.specs.declared.ByteOrder.the-variants.{LittleEndian}
 use Rattle.field.specs.Numbers.{number}
 use Rattle.types.specs.Types.{isKnown}
 use Rattle.types.proofs.Range.{known-outside}
-use Rattle.compact_table.specs.declared.Table.{Table}
 use Rattle.compact_table.specs.Table.{inBounds, looksCompact, nextHere, nextCompact, isCount, tableHere, tableAt, noTable, tableOf, Ended}
 
 -- ---- 16 bytes at p
@@ -28,11 +26,9 @@ module _ (s : List ℕ) (p : ℕ) where
   module _ (t : ℕ) (h : p + 16 ≤ length s) (e : t ≡ number LittleEndian 2 s (p + 12)) where
     pub looks-outside : (ltb t 384 || ltb 2437 t) ≡ true → false ≡ looksCompact s p
     unfolding looksCompact
-    looks-outside o = rw (le-leb (p + 16) (length s) h, ← e, known-outside t o) (sym (and-false (inBounds t (number LittleEndian 2 s p) (number LittleEndian 2 s (p + 2)) (number LittleEndian 8 s (p + 4)))))
-      where
-        and-false : (b : Bool) → (b && false) ≡ false
-        and-false true = refl
-        and-false false = refl
+    looks-outside o =
+        let bounds = inBounds t (number LittleEndian 2 s p) (number LittleEndian 2 s (p + 2)) (number LittleEndian 8 s (p + 4)) in
+        rw (le-leb (p + 16) (length s) h, ← e, known-outside t o) (sym (and-false bounds))
 
     module _ (a b c : ℕ) (x : a ≡ number LittleEndian 2 s p) (y : b ≡ number LittleEndian 2 s (p + 2)) (z : c ≡ number LittleEndian 8 s (p + 4)) where
       pub looks-large : inBounds t a b c ≡ false → false ≡ looksCompact s p
@@ -84,7 +80,7 @@ module _ (s : List ℕ) (p : ℕ) where
 
 -- at first a next may come
 pub ended-first : (s : List ℕ) (p : ℕ) → Ended s p true
-ended-first s p e = absurd (let z : _≡_ {A = ℕ} 0 1 = cc in omega arith)
+ended-first s p e = absurd (false≢true (sym e))
 
 pub ended-by : (s : List ℕ) (p q : ℕ) → q ≡ nextCompact s p → Ended s p (leb q (length s))
 ended-by s p q e f = let z = leb-false q (length s) f in omega arith
@@ -115,12 +111,6 @@ table-short s h = table-none s (tableAt s) refl (omega arith)
 pub count-small : (s : List ℕ) (q n : ℕ) → n ≡ number LittleEndian 2 s q → tableHere s q ≡ true → n ≤ 512
 unfolding tableHere
 count-small s q n e h =
-    rw e (leb-true (number LittleEndian 2 s q) 512
-    (right (leb 1 (number LittleEndian 2 s q)) (leb (number LittleEndian 2 s q) 512) (left (isCount (number LittleEndian 2 s q)) _ h)))
-  where
-    left : (a b : Bool) → (a && b) ≡ true → a ≡ true
-    left true b h = refl
-    left false b h = h
-    right : (a b : Bool) → (a && b) ≡ true → b ≡ true
-    right true b h = h
-    right false b h = absurd (let z : _≡_ {A = ℕ} 0 1 = cc in omega arith)
+    let counts = and-eq-true-iff (isCount (number LittleEndian 2 s q)) _ .0 h .0 in
+    let small = and-eq-true-iff (leb 1 (number LittleEndian 2 s q)) (leb (number LittleEndian 2 s q) 512) .0 counts .1 in
+    rw e (leb-true (number LittleEndian 2 s q) 512 small)

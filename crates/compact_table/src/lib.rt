@@ -119,7 +119,10 @@ pub fn find_compact_descriptor_table(reply: &[u8]) -> Table
         let test = table_here(reply, i, more);
         if test.found {
             let count = field::u16_at(reply, i, ByteOrder::LittleEndian) as usize;
-            return Table { start: i + 2, count };
+            return Table {
+                start: i + 2,
+                count,
+            };
         }
         more = test.more;
         i += 1;

@@ -4,7 +4,7 @@ use Prim.Native.Nat.{ℕ, zero, suc, _+_, _-_, _≤_, _<_}
 use native.Mathlib.Numerals.{add-one}
 use native.Mathlib.Omega.{arith}
 use mathlib.Core.Path.{_≡_, refl, sym, ap, _∙_, subst}
-use mathlib.Core.Bool.{Bool, true, false}
+use mathlib.Core.Bool.{Bool, true, false, false≢true}
 use lib.Dec.{eqb, ltb, leb}
 use borrow.Author.Tests.{eqb-true, eqb-false, ltb-true, ltb-false, leb-true, leb-false}
 use Rattle.search.specs.Search.{pick}
@@ -81,6 +81,3 @@ first-none f i j n h g = go (leb j n) refl
             let w = ltb-true (first f j n) n v in
             let x = a .before (first f j n) (omega (arith, b .from)) (omega arith) in
             absurd (false≢true (sym x ∙ b .passes w))
-          where
-            false≢true : false ≡ true → ⊥
-            false≢true e = let z : _≡_ {A = ℕ} 0 1 = ap (λ (b : Bool). pick b 1 0) e in omega arith

@@ -1,13 +1,13 @@
 -- The known base types lie from 384 to 2436: a quick test before the table is searched.
 -- Assumes nothing.
-use mathlib.Core.Path.{_≡_, refl, sym, ap, _∙_, subst}
-use mathlib.Core.Bool.{Bool, true, false, _&&_, _||_}
+use mathlib.Core.Path.{_≡_, refl, ap}
+use mathlib.Core.Bool.{Bool, true, false, _&&_, _||_, false≢true}
 use mathlib.Core.List.{List, [], _∷_}
-use Prim.Native.Nat.{ℕ, _-_, _%_, _<_, _≤_}
+use Prim.Native.Nat.{ℕ, _≤_}
 use native.Mathlib.Omega.{arith}
 use lib.Dec.{T, eqb, ltb, leb, leb→le}
-use borrow.Author.Tests.{eqb-true, ltb-true, ltb-false}
-use Rattle.search.specs.Search.{pick, each, firstIn}
+use borrow.Author.Tests.{eqb-true, ltb-true}
+use Rattle.search.specs.Search.{each, firstIn}
 use Rattle.search.proofs.Tests.{and-left, and-right}
 use Rattle.types.specs.Rows.{typeRows, unknownRow, lookup}
 use Rattle.types.specs.Types.{baseOf, isKnown}
@@ -47,4 +47,4 @@ known-outside t h = ap (λ (r : TypeRow). ltb 0 (r .base)) (lookup-none (baseOf 
     go : (x y : Bool) → ltb t 384 ≡ x → ltb 2437 t ≡ y → (x || y) ≡ true → 384 ≤ baseOf t → baseOf t ≤ 2436 → ⊥
     go true y e f g l u = let z = ltb-true t 384 e in omega arith
     go false true e f g l u = let z = ltb-true 2437 t f in omega arith
-    go false false e f g l u = absurd (let z : _≡_ {A = ℕ} 0 1 = cc in omega arith)
+    go false false e f g l u = false≢true g

@@ -7,7 +7,7 @@ use borrow.Author.Needs.{needs}
 use Rattle.search.proofs.Walks.{Walking, walking-none}
 use Rattle.codepage.specs.Page.{page037}
 use Rattle.column.specs.Column.{isNamed}
-use Rattle.compact.specs.Compact.{compactWalk}
+use Rattle.compact.specs.Compact.{isAsciiNamed, compactWalk}
 use Rattle.compact.proofs.Laws.{at-most-one}
 use Rattle.compact.proofs.Names.{name-inside}
 use Rattle.compact.proofs.Runs.{run-more, run-stop, run-short, run-done}
@@ -41,7 +41,9 @@ one-if-named-requires c κs =
 
 add-named : tie.Need-add-named Inv-loop μ-loop
 add-named c =
-    omega (arith, c .before .before .before .before .before .before .loop .inv .1 .few, at-most-one _ _ (c .one-if-named .ensures))
+    let loop = c .before .before .before .before .before .before in
+    let named = isAsciiNamed page037 (loop .before .before .args .reply .now) (c .before .extract-column-name .result) in
+    omega (arith, loop .loop .inv .1 .few, at-most-one named (c .one-if-named .result) (c .one-if-named .ensures))
 
 loop-again : tie.Need-loop-again Inv-loop μ-loop
 loop-again c =
