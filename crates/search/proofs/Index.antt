@@ -4,9 +4,9 @@ use Prim.Native.Nat.{ℕ, zero, suc, _+_, _-_, _≤_, _<_}
 use native.Mathlib.Numerals.{add-one}
 use native.Mathlib.Omega.{arith}
 use mathlib.Core.Path.{_≡_, refl, sym, ap, _∙_, subst}
-use mathlib.Core.Bool.{Bool, true, false}
-use lib.Dec.{eqb}
-use borrow.Author.Tests.{eqb-true, eqb-false}
+use mathlib.Core.Bool.{Bool, true, false, false≢true}
+use lib.Dec.{eqb, ltb, leb}
+use borrow.Author.Tests.{eqb-true, eqb-false, ltb-true, ltb-false, leb-true, leb-false}
 use Rattle.search.specs.Search.{pick}
 use Rattle.search.specs.Walks.{firstOf, first}
 
@@ -62,3 +62,22 @@ unfolding first
 first-is f i n h =
     let e : i + (n - i) ≡ n = omega arith in
     subst (λ (m : ℕ). Found f i m (firstOf f (n - i) i)) e (firstOf-is f (n - i) i)
+
+-- where none from i on passes, none from j on does
+pub first-none : (f : ℕ → Bool) (i j n : ℕ) → i ≤ j → n ≤ first f i n → n ≤ first f j n
+first-none f i j n h g = go (leb j n) refl
+  where
+    go : (b : Bool) → leb j n ≡ b → n ≤ first f j n
+    go false e = let u = leb-false j n e in let d = first-done f n j (first f j n) refl (omega arith) in omega arith
+    go true e =
+        let u = leb-true j n e in
+        let a = first-is f i n (omega arith) in
+        let b = first-is f j n u in
+        at (ltb (first f j n) n) refl a b
+      where
+        at : (c : Bool) → ltb (first f j n) n ≡ c → Found f i n (first f i n) → Found f j n (first f j n) → n ≤ first f j n
+        at false v a b = ltb-false (first f j n) n v
+        at true v a b =
+            let w = ltb-true (first f j n) n v in
+            let x = a .before (first f j n) (omega (arith, b .from)) (omega arith) in
+            absurd (false≢true (sym x ∙ b .passes w))

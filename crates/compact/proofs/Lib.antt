@@ -1,0 +1,4 @@
+pub mod Laws
+pub mod Names
+pub mod Runs
+pub mod Cases

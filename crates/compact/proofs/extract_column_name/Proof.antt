@@ -1,0 +1,62 @@
+-- The loop's invariant: the answer is that from i on.
+-- Assumes nothing.
+use Prim.Native.Nat.{_≤_, _-_}
+use native.Mathlib.Omega.{arith}
+use mathlib.Core.Path.{_≡_, refl, sym, _∙_}
+use borrow.Author.Needs.{needs}
+use Rattle.search.specs.Walks.{first}
+use Rattle.search.proofs.Index.{first-more, first-found, first-done}
+use Rattle.compact.specs.Compact.{nameHere, nameAt}
+use Rattle.compact.proofs.Laws.{name-found, name-none}
+use Rattle.compact.proofs.extract_column_name.Statement.{statement}
+use Rattle.compact.proofs.extract_column_name.Tie as tie
+
+abbrev Inv-loop : tie.InvT-loop
+Inv-loop reply offset end i₀ i = (i ≤ end) × (nameAt reply offset end ≡ first (nameHere reply end) i end)
+
+abbrev μ-loop : tie.MeasureT-loop
+μ-loop reply offset end i₀ i = end - i
+
+loop-holds : tie.Need-loop-holds Inv-loop μ-loop
+unfolding nameAt
+loop-holds c = (search needs, refl)
+
+cast-length : tie.Need-cast-length Inv-loop μ-loop
+cast-length c = omega (arith, c .shared-slice-known2 .given (c .before .before .before .before .loop .i))
+
+returns : tie.Need-returns Inv-loop μ-loop
+returns c =
+    let test = c .before .before in
+    let turn = test .before in
+    let found = first-found _ _ _ _ (turn .before .loop .inv .1) (turn .loop-test .taken) (sym (test .name-here .ensures) ∙ c .before .if1 .taken) in
+    name-found _ _ _ _ found (turn .loop-test .taken)
+
+loop-again : tie.Need-loop-again Inv-loop μ-loop
+loop-again c =
+    let turn = c .before .before in (
+      search needs,
+      first-more _ _ _ _ (turn .before .loop .inv .1) (turn .loop-test .taken) (sym (c .before .name-here .ensures) ∙ c .if1 .left),
+    )
+
+returns-2 : tie.Need-returns-2 Inv-loop μ-loop
+returns-2 c =
+    c .no-string .ensures ∙ name-none _ _ _ _ (first-done _ _ _ _ (c .before .before .loop .inv .1) (c .before .loop-test .left)) (c .before .loop-test .left)
+
+pub extract-column-name-spec : {M : Type 1} → statement M
+extract-column-name-spec =
+    tie.close
+    (tie.spec
+    Inv-loop
+    μ-loop
+    (search needs)
+    loop-holds
+    (search needs)
+    (search needs)
+    cast-length
+    (search needs)
+    returns
+    (search needs)
+    (search needs)
+    loop-again
+    (search needs)
+    returns-2)

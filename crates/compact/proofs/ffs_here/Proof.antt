@@ -1,0 +1,14 @@
+-- The three bytes as the definition has them.
+-- Assumes nothing.
+use mathlib.Core.Path.{refl}
+use borrow.Author.Needs.{needs}
+use Rattle.compact.specs.Compact.{ffsHere}
+use Rattle.compact.proofs.ffs_here.Statement.{statement}
+use Rattle.compact.proofs.ffs_here.Tie as tie
+
+returns : tie.Need-returns
+unfolding ffsHere
+returns c = refl
+
+pub ffs-here-spec : {M : Type 1} → statement M
+ffs-here-spec = tie.close (tie.spec (search needs) (search needs) (search needs) (search needs) (search needs) returns)
