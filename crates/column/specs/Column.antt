@@ -91,10 +91,3 @@ hasNames page s l = leb 1 (namedIn page s l)
 -- how many columns a list has, and how many of them have names (01, Choice: columns, named)
 abbrev pub runIs : Page → List ℕ → List ColumnMetadata → Run
 runIs page s l = record { count = lib.ListN.length l; named = namedIn page s l }
-
--- the strings that a descriptor names lie in the reply s (01, Answers: place, length)
-pub record StringsInside (s : List ℕ) (d : Described) : Type 0 where
-  pub name : d .name .place + d .name .length ≤ lib.ListN.length s
-  pub label : d .label .place + d .label .length ≤ lib.ListN.length s
-  pub base : d .«base_table_name» .place + d .«base_table_name» .length ≤ lib.ListN.length s
-  pub schema : d .«schema_name» .place + d .«schema_name» .length ≤ lib.ListN.length s

@@ -13,7 +13,7 @@ use Rattle.search.proofs.Index.{first-none}
 use Rattle.field.specs.declared.ByteOrder.the-variants.{LittleEndian}
 use Rattle.field.specs.Numbers.{number}
 use Rattle.types.specs.Types.{isKnown}
-use Rattle.types.proofs.Range.{known-outside}
+use Rattle.types.proofs.Laws.{outside-unknown}
 use Rattle.compact_table.specs.Table.{inBounds, looksCompact, nextHere, nextCompact, isCount, tableHere, tableAt, noTable, tableOf, Ended}
 
 -- ---- 16 bytes at p
@@ -28,7 +28,7 @@ module _ (s : List ℕ) (p : ℕ) where
     unfolding looksCompact
     looks-outside o =
         let bounds = inBounds t (number LittleEndian 2 s p) (number LittleEndian 2 s (p + 2)) (number LittleEndian 8 s (p + 4)) in
-        rw (le-leb (p + 16) (length s) h, ← e, known-outside t o) (sym (and-false bounds))
+        rw (le-leb (p + 16) (length s) h, ← e, outside-unknown t o) (sym (and-false bounds))
 
     module _ (a b c : ℕ) (x : a ≡ number LittleEndian 2 s p) (y : b ≡ number LittleEndian 2 s (p + 2)) (z : c ≡ number LittleEndian 8 s (p + 4)) where
       pub looks-large : inBounds t a b c ≡ false → false ≡ looksCompact s p

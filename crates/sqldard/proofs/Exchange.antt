@@ -113,12 +113,11 @@ module _ (page : Page) (order : ByteOrder) (s : List ℕ) (k : ℕ) (d : List �
         exchanged = ap (λ (m : List ColumnMetadata). getElem? m k) e ∙ exchange-at k _ _ (standard page order s) h;
         earlier = λ j i. ap (λ (m : List ColumnMetadata). getElem? m j) e ∙ exchange-before k j _ _ (standard page order s) i;
         later = λ j c i f.
-            let t = column-lies-at page order s j c f in
-            (
+            let t = column-lies-at page order s j c f in (
               ap (λ (m : List ColumnMetadata). getElem? m j) e ∙ exchange-after k j _ _ (standard page order s) c i f,
               moved-column (startOf order s k) (startOf order s (suc k)) (length d) (length s) c
-              (starts-within order s k (suc k) (omega arith))
-              (all-wider _ _ _ _ c (starts-within order s (suc k) j (omega arith)) (t .1) (t .0))
+                  (starts-within order s k (suc k) (omega arith))
+                  (all-wider _ _ _ _ c (starts-within order s (suc k) j (omega arith)) (t .1) (t .0)),
             );
         bytes = ap (map _) is ∙ bytes-exchanged page order s k d h full;
         inside = λ j c f.

@@ -26,16 +26,17 @@ returns c =
     let order = ordered .order-number in
     let all = c .before .before .put-values in
     let rest = drop 19 (a .numbers .now) in
-    let known = ordered .before .before .before .before .struct-known .given in
-    (put-is page037 (a .reply .now) (a .number) d (order .result) (name .result) (label .result) (base .result) (schema .result) rest
-    (all .last .1 .0) (all .ensures) (order .ensures) (name .ensures) (label .ensures) (base .ensures) (schema .ensures),
-    put-fits page037 (a .reply .now) (a .number) d (order .result) (name .result) (label .result) (base .result) (schema .result) rest
-    (all .last .1 .0) (all .ensures) (start .fits .number .fits) (known .0 .fits) (known .1 .1 .0 .fits) (known .1 .1 .1 .0 .fits)
-    (known .1 .1 .1 .1 .0 .fits)
-    (c .before .before .before .before .before .before .before .before .struct-known5 .given .1 .1 .0 .fits)
-    (c .before .before .before .before .before .before .before .struct-known6 .given .1 .1 .0 .fits)
-    (c .before .before .before .before .before .before .struct-known7 .given .1 .1 .0 .fits)
-    (c .before .before .before .before .before .struct-known8 .given .1 .1 .0 .fits))
+    let known = ordered .before .before .before .before .struct-known .given in (
+      put-is page037 (a .reply .now) (a .number) d (order .result) (name .result) (label .result) (base .result) (schema .result) rest
+          (all .last .1 .0) (all .ensures) (order .ensures) (name .ensures) (label .ensures) (base .ensures) (schema .ensures),
+      put-fits page037 (a .reply .now) (a .number) d (order .result) (name .result) (label .result) (base .result) (schema .result) rest
+          (all .last .1 .0) (all .ensures) (start .fits .number .fits) (known .0 .fits) (known .1 .1 .0 .fits) (known .1 .1 .1 .0 .fits)
+          (known .1 .1 .1 .1 .0 .fits)
+          (c .before .before .before .before .before .before .before .before .struct-known5 .given .1 .1 .0 .fits)
+          (c .before .before .before .before .before .before .before .struct-known6 .given .1 .1 .0 .fits)
+          (c .before .before .before .before .before .before .struct-known7 .given .1 .1 .0 .fits)
+          (c .before .before .before .before .before .struct-known8 .given .1 .1 .0 .fits),
+    )
 
 pub put-column-spec : {M : Type 1} → statement M
 put-column-spec =

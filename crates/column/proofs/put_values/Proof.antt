@@ -27,9 +27,10 @@ loop-again c =
     let v = a .values .now in
     let i = l .i in
     let h = c .before .loop-test .taken in
-    let put = over-next v (a .numbers .now) i 0 h (omega (arith, c .before .before .before .pre)) in
-    (omega arith,
-    (length-set (l .numbers) i (getD v i 0) ∙ l .inv .1 .0, ap (λ (n : List ℕ). set n i (getD v i 0)) (l .inv .1 .1) ∙ put))
+    let put = over-next v (a .numbers .now) i 0 h (omega (arith, c .before .before .before .pre)) in (
+      omega arith,
+      (length-set (l .numbers) i (getD v i 0) ∙ l .inv .1 .0, ap (λ (n : List ℕ). set n i (getD v i 0)) (l .inv .1 .1) ∙ put),
+    )
 
 returns : tie.Need-returns Inv-loop μ-loop
 returns c =

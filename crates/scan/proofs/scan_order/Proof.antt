@@ -31,8 +31,7 @@ better-of-requires c κs = (c .before .before .loop .inv .1, c .run-from .ensure
 
 loop-again : tie.Need-loop-again Inv-loop μ-loop
 loop-again c =
-    let loop = c .before .before .before .loop in
-    (
+    let loop = c .before .before .before .loop in (
       search needs,
       c .better-of .ensures .1,
       best-more _ _ _ _ _ _ (loop .inv .2) _ _ (c .before .before .loop-test .taken) (c .before .run-from .ensures .0) (c .better-of .ensures .0),

@@ -36,12 +36,11 @@ add-named c =
 loop-again : tie.Need-loop-again Inv-loop μ-loop
 loop-again c =
     let step = c .before .before in
-    let turn = step .before in
-    (
+    let turn = step .before in (
       c .before .if1 .left,
       run-more page037 _ _ _ _ _ _ _ (turn .before .loop .inv .1) _ _ _ (turn .loop-test .taken) (step .descriptor-step .ensures .0) (c .before .if1 .left)
-      (c .one-if-named .ensures .0)
-      refl,
+          (c .one-if-named .ensures .0)
+          refl,
     )
 
 returns-2 : tie.Need-returns-2 Inv-loop μ-loop
