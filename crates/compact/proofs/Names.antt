@@ -94,10 +94,10 @@ letters-here s e q h =
     let both = and-eq-true-iff (leb (q + 1 + getD s q 0) e) (each isNameChar (take (getD s q 0) (drop (q + 1) s))) .0 rest in
     (leb-true (q + 1 + getD s q 0) e (both .0), both .1)
 
-module _ (s : List ℕ) (p e : ℕ) (r : p + 16 ≤ e) (l : e ≤ length s) where
+module _ (s : List ℕ) (p e : ℕ) (room : p + 16 ≤ e) (l : e ≤ length s) where
   pub name-spelled : Spelled s (compactName s p e)
   unfolding compactName nameAt
-  name-spelled = go (ltb (nameAt s p e) e) refl (first-is (nameHere s e) (p + 16) e r)
+  name-spelled = go (ltb (nameAt s p e) e) refl (first-is (nameHere s e) (p + 16) e room)
     where
       go : (b : Bool) → ltb (nameAt s p e) e ≡ b → Found (nameHere s e) (p + 16) e (nameAt s p e)
           → Spelled s (pick b (record { place = nameAt s p e + 1; length = getD s (nameAt s p e) 0; next = e }) (noString e))

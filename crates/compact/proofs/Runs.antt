@@ -10,7 +10,6 @@ use Rattle.search.specs.Walks.{chain}
 use Rattle.search.proofs.Walks.{Walking, walking-more, walking-stop, walking-done}
 use Rattle.codepage.specs.Page.{Page}
 use Rattle.field.specs.declared.StringRead.{StringRead}
-use Rattle.column.specs.declared.Run.{Run}
 use Rattle.column.specs.Column.{isNamed}
 use Rattle.compact.specs.declared.Ends.{Ends}
 use Rattle.compact.specs.Compact.{compactName, isAsciiNamed, endBy, compactWalk, compactRun}

@@ -19,7 +19,7 @@ pub enum Ends {
     Last,
 }
 
-// Big-endian, unless only the little-endian number is at most 10,000. Both are 0 or neither is.
+// Big-endian, unless only the little-endian number is at most 10,000. The Rust's test for 0 changes nothing: both are 0 or neither is.
 fn decode_ccsid(reply: &[u8], offset: usize) -> u16
     requires { ⌜ offset + 2 ≤ length (now reply) ⌝ }
     ensures { λ r. ⌜ r ≡ ccsidOf (number BigEndian 2 (now (reply .entry)) offset) (number LittleEndian 2 (now (reply .entry)) offset) ⌝ }
