@@ -1,6 +1,7 @@
 -- The plan: which reading wins, from where and how many columns, so that who fills the list cannot fail (01, Choice).
 use mathlib.Core.Bool.{Bool, true, false}
 use mathlib.Core.List.{List, [], _∷_}
+use mathlib.Core.Path.{_≡_}
 use Prim.Native.Nat.{ℕ, _+_}
 use lib.Dec.{ltb, leb, eqb}
 use lib.ListN.{length}
@@ -14,7 +15,8 @@ use Rattle.outcome.specs.declared.Outcome.{Outcome}
 use Rattle.outcome.specs.declared.Outcome.the-variants.{Accepted, EmptyReply, BufferTooShort}
 use Rattle.outcome.specs.Refusal.{refusalOf}
 use Rattle.types.specs.declared.ColumnMetadata.{ColumnMetadata}
-use Rattle.column.specs.Column.{hasNames, namedIn}
+use Rattle.column.specs.declared.Run.{Run}
+use Rattle.column.specs.Column.{hasNames, namedIn, runIs}
 use Rattle.standard.specs.Reading.{countAt, countIn, gives}
 use Rattle.standard.specs.Run.{standardWalk}
 use Rattle.compact_table.specs.Table.{tableOf}
@@ -49,6 +51,15 @@ abbrev pub planned : Layout → ByteOrder → Bool → ℕ → ℕ → Plan
 planned layout order alone p n =
     record { layout = layout; order = order; alone = alone; start = p; limit = n; count = 0; named = 0; outcome = Accepted }
 
+-- the same, with how many columns it has and how many of them are named, as a run of descriptors says (01, Choice)
+abbrev pub planWith : Layout → ByteOrder → Bool → ℕ → ℕ → Run → Plan
+planWith layout order alone p n run =
+    record { layout = layout; order = order; alone = alone; start = p; limit = n; count = run .count; named = run .named; outcome = Accepted }
+
+-- a standard reading that gives no columns (01, Choice)
+abbrev pub noColumns : ByteOrder → Plan
+noColumns order = planned Standard order false 0 0
+
 -- a plan that reads nothing (01, Numbers of refusal: description)
 abbrev pub emptyPlan : Outcome → Plan
 emptyPlan outcome =
@@ -56,16 +67,12 @@ emptyPlan outcome =
 
 -- counted: with how many columns it stands for, and how many of them have names (01, Choice)
 unfoldable pub counted : Page → List ℕ → Plan → Plan
-counted page s p = record {
-  layout = p .layout;
-  order = p .order;
-  alone = p .alone;
-  start = p .start;
-  limit = p .limit;
-  count = length (columnsOf page s p);
-  named = namedIn page s (columnsOf page s p);
-  outcome = p .outcome;
-}
+counted page s p = planWith (p .layout) (p .order) (p .alone) (p .start) (p .limit) (runIs page s (columnsOf page s p))
+
+-- a plan says how many columns it stands for, and how many of them have names (01, Choice)
+pub record Counted (page : Page) (s : List ℕ) (p : Plan) : Type 0 where
+  pub count : p .count ≡ length (columnsOf page s p)
+  pub named : p .named ≡ namedIn page s (columnsOf page s p)
 
 -- the standard reading: all its descriptors, or nothing (01, Choice: standard BE, standard LE)
 unfoldable pub standardPlan : Page → ByteOrder → List ℕ → Plan

@@ -1,6 +1,17 @@
 // Which reading of a reply wins, from where, and how many columns it has: decided before anything is written.
+ghost use mathlib.Core.Path.{_≡_};
+ghost use Prim.Native.Nat.{_+_, _≤_};
+ghost use lib.ListN.{length};
+ghost use Rattle.codepage.specs.Page.{page037};
+ghost use Rattle.standard.specs.Reading.{countAt};
+ghost use Rattle.scan.specs.Scan.{limitOf};
+ghost use Rattle.plan.specs.Choice.{lastCountAt};
+ghost use Rattle.plan.specs.Plan.{planWith, noColumns, emptyPlan, standardPlan, compactPlan, scanPlan, lastPlan, planOf, Counted};
+use column::Run;
+use compact::Ends;
 use field::ByteOrder;
 use outcome::Outcome;
+use scan::Best;
 
 // How the descriptors lie.
 pub enum Layout {
@@ -20,4 +31,168 @@ pub struct Plan {
     pub count: usize,
     pub named: usize,
     pub outcome: Outcome,
+}
+
+fn plan_with(layout: Layout, order: ByteOrder, alone: bool, start: usize, limit: usize, run: Run) -> Plan
+    ensures { λ r. ⌜ r ≡ planWith layout order alone start limit run ⌝ }
+{
+    Plan {
+        layout,
+        order,
+        alone,
+        start,
+        limit,
+        count: run.count,
+        named: run.named,
+        outcome: Outcome::Accepted,
+    }
+}
+
+fn no_columns(order: ByteOrder) -> Plan
+    ensures { λ r. ⌜ r ≡ noColumns order ⌝ }
+{
+    plan_with(Layout::Standard, order, false, 0, 0, Run { count: 0, named: 0 })
+}
+
+// All descriptors that the count announces, or nothing.
+fn standard_plan(reply: &[u8], order: ByteOrder, offset: usize) -> Plan
+    requires { ⌜ offset ≡ countAt (now reply) ⌝ }
+    ensures { λ r. ⌜ r ≡ standardPlan page037 order (now (reply .entry)) ⌝ }
+{
+    let end = reply.len();
+    if end < offset {
+        return no_columns(order);
+    }
+    if end - offset < 2 {
+        return no_columns(order);
+    }
+    let count = field::u16_at(reply, offset, order) as usize;
+    if count == 0 {
+        return no_columns(order);
+    }
+    if 512 < count {
+        return no_columns(order);
+    }
+    let run = standard::standard_run(reply, order, count, offset + 2);
+    if run.count == count {
+        return plan_with(Layout::Standard, order, false, offset + 2, count, run);
+    }
+    no_columns(order)
+}
+
+fn compact_plan(reply: &[u8]) -> Plan
+    ensures { λ r. ⌜ r ≡ compactPlan page037 (now (reply .entry)) ⌝ }
+{
+    let table = compact_table::find_compact_descriptor_table(reply);
+    let run = compact::compact_run(Ends::Compact, reply, table.count, table.start);
+    plan_with(Layout::Compact, ByteOrder::LittleEndian, true, table.start, table.count, run)
+}
+
+fn limit_of(best: Best) -> usize
+    ensures { λ r. ⌜ r ≡ limitOf best ⌝ }
+{
+    if 1 <= best.count { 512 } else { 0 }
+}
+
+fn scan_plan(reply: &[u8]) -> Plan
+    ensures { λ r. ⌜ r ≡ scanPlan page037 (now (reply .entry)) ⌝ }
+{
+    let best = scan::scan_standard_sqldagroups(reply);
+    let order = best.order;
+    let run = Run {
+        count: best.count,
+        named: best.named,
+    };
+    plan_with(Layout::Standard, order, true, best.start, limit_of(best), run)
+}
+
+// A byte FF that was not counted with the groups before stands before the last reader's count.
+fn last_count_offset(reply: &[u8], offset: usize) -> usize
+    requires { ⌜ (offset ≡ countAt (now reply)) × (offset + 2 ≤ length (now reply)) ⌝ }
+    ensures { λ r. ⌜ (r ≡ lastCountAt (now (reply .entry))) × (r + 2 ≤ length (now (reply .entry))) ⌝ }
+{
+    let count = field::u16_at(reply, offset, ByteOrder::LittleEndian);
+    if count <= 256 {
+        return offset;
+    }
+    if reply.len() - offset < 3 {
+        return offset;
+    }
+    if reply[offset] == 0xFF {
+        return offset + 1;
+    }
+    offset
+}
+
+fn empty_plan(outcome: Outcome) -> Plan
+    ensures { λ r. ⌜ r ≡ emptyPlan outcome ⌝ }
+{
+    Plan {
+        layout: Layout::Last,
+        order: ByteOrder::LittleEndian,
+        alone: false,
+        start: 0,
+        limit: 0,
+        count: 0,
+        named: 0,
+        outcome,
+    }
+}
+
+// The only plan that may be a refusal: it is asked where all four readings gave no column.
+fn last_plan(reply: &[u8], offset: usize) -> Plan
+    requires { ⌜ offset ≡ countAt (now reply) ⌝ }
+    ensures { λ r. ⌜ r ≡ lastPlan page037 (now (reply .entry)) ⌝ }
+{
+    let end = reply.len();
+    if end == 0 {
+        return empty_plan(Outcome::EmptyReply);
+    }
+    if end < offset {
+        return empty_plan(Outcome::BufferTooShort(offset, end));
+    }
+    if end - offset < 2 {
+        return empty_plan(Outcome::Accepted);
+    }
+    let count_offset = last_count_offset(reply, offset);
+    let count = field::u16_at(reply, count_offset, ByteOrder::LittleEndian) as usize;
+    let run = compact::compact_run(Ends::Last, reply, count, count_offset + 2);
+    plan_with(Layout::Last, ByteOrder::LittleEndian, false, count_offset + 2, count, run)
+}
+
+// The first reading with a name that is not generated, else the first that has columns, else the last reader's.
+pub fn plan_reply(reply: &[u8]) -> Plan
+    requires { ⌜ length (now reply) ≤ 65536 ⌝ }
+    ensures { λ r. ⌜ (r ≡ planOf page037 (now (reply .entry))) × Counted page037 (now (reply .entry)) r ⌝ }
+{
+    let offset = standard::count_offset(reply);
+    let big = standard_plan(reply, ByteOrder::BigEndian, offset);
+    if 1 <= big.named {
+        return big;
+    }
+    let compact = compact_plan(reply);
+    if 1 <= compact.named {
+        return compact;
+    }
+    let little = standard_plan(reply, ByteOrder::LittleEndian, offset);
+    if 1 <= little.named {
+        return little;
+    }
+    let scan = scan_plan(reply);
+    if 1 <= scan.named {
+        return scan;
+    }
+    if 1 <= big.count {
+        return big;
+    }
+    if 1 <= compact.count {
+        return compact;
+    }
+    if 1 <= little.count {
+        return little;
+    }
+    if 1 <= scan.count {
+        return scan;
+    }
+    last_plan(reply, offset)
 }
