@@ -264,5 +264,5 @@ module _ (page : Page) (s : List ℕ) where
       ∙ (λ i. firstIn F′ (reads-plans i) (firstIn G′ (reads-plans i) (reads-last i)))
 
   -- a plan that is the chosen one says what it stands for
-  pub planned-is : (r : Plan) → r ≡ planOf page s → (r ≡ planOf page s) × Counted page s r
-  planned-is r e = (e, subst (Counted page s) (sym e) counted-plan)
+  pub planned-is : (r : Plan) → r ≡ planOf page s → r .limit ≤ 65535 → (r ≡ planOf page s) × (Counted page s r × (r .limit ≤ 65535))
+  planned-is r e h = (e, (subst (Counted page s) (sym e) counted-plan, h))

@@ -15,6 +15,7 @@ use Rattle.codepage.specs.Page.{Page}
 use Rattle.field.specs.declared.ByteOrder.{ByteOrder}
 use Rattle.field.specs.declared.ByteOrder.the-variants.{BigEndian, LittleEndian}
 use Rattle.field.specs.Numbers.{number}
+use Rattle.outcome.specs.declared.Outcome.{Outcome}
 use Rattle.outcome.specs.declared.Outcome.the-variants.{Accepted, EmptyReply, BufferTooShort}
 use Rattle.types.specs.declared.ColumnMetadata.{ColumnMetadata}
 use Rattle.column.specs.declared.Run.{Run}
@@ -31,10 +32,22 @@ use Rattle.compact.specs.Compact.{compactRun}
 use Rattle.scan.specs.declared.Best.{Best}
 use Rattle.scan.specs.Scan.{better, noRun, runFrom, scanOrder, scanBest, limitOf}
 use Rattle.plan.specs.declared.Plan.{Plan}
+use Rattle.plan.specs.declared.Layout.{Layout}
 use Rattle.plan.specs.declared.Layout.the-variants.{Standard, Compact, Last}
 use Rattle.plan.specs.Choice.{lastCountAt}
 use Rattle.plan.specs.Plan.{walkOf, columnsOf, planned, planWith, noColumns, emptyPlan, counted, standardPlan, compactPlan, scanPlan, lastPlan}
 use Rattle.plan.proofs.Standards.{chain-views, chain-full, gives-not}
+
+-- the limit of a plan is the one that it was made with
+pub limit-le : (r : Plan) (layout : Layout) (order : ByteOrder) (alone : Bool) (p n : ℕ) (x : Run) → r ≡ planWith layout order alone p n x → n ≤ 65535
+    → r .limit ≤ 65535
+limit-le r layout order alone p n x e h = let f = ap (λ (y : Plan). y .limit) e in omega arith
+
+pub limit-none : (r : Plan) (order : ByteOrder) → r ≡ noColumns order → r .limit ≤ 65535
+limit-none r order e = let f = ap (λ (y : Plan). y .limit) e in omega arith
+
+pub limit-empty : (r : Plan) (o : Outcome) → r ≡ emptyPlan o → r .limit ≤ 65535
+limit-empty r o e = let f = ap (λ (y : Plan). y .limit) e in omega arith
 
 -- ---- standard
 
@@ -122,11 +135,11 @@ counts-scan page s =
     (best-all (Counts page s) better (runFrom page BigEndian s) 0 (length s - 17) noRun (counts-none page s) (counts-run page BigEndian s))
     (counts-run page LittleEndian s)
 
-pub limit-all : (x : Best) → 1 ≤ x .count → 512 ≡ limitOf x
-limit-all x h = sym (ap (λ (b : Bool). pick b 512 0) (le-leb 1 (x .count) h))
+pub full-limit : (x : Best) → 1 ≤ x .count → 512 ≡ limitOf x
+full-limit x h = sym (ap (λ (b : Bool). pick b 512 0) (le-leb 1 (x .count) h))
 
-pub limit-none : (x : Best) → x .count < 1 → 0 ≡ limitOf x
-limit-none x h = sym (ap (λ (b : Bool). pick b 512 0) (lt-leb 1 (x .count) h))
+pub no-limit : (x : Best) → x .count < 1 → 0 ≡ limitOf x
+no-limit x h = sym (ap (λ (b : Bool). pick b 512 0) (lt-leb 1 (x .count) h))
 
 scan-counted : (page : Page) (s : List ℕ) (b : Best) (n : ℕ) → n ≡ limitOf b → Counts page s b
     → planWith Standard (b .order) true (b .start) n (record { count = b .count; named = b .named })

@@ -57,7 +57,7 @@ fn no_columns(order: ByteOrder) -> Plan
 // All descriptors that the count announces, or nothing.
 fn standard_plan(reply: &[u8], order: ByteOrder, offset: usize) -> Plan
     requires { ⌜ offset ≡ countAt (now reply) ⌝ }
-    ensures { λ r. ⌜ r ≡ standardPlan page037 order (now (reply .entry)) ⌝ }
+    ensures { λ r. ⌜ (r ≡ standardPlan page037 order (now (reply .entry))) × (r .limit ≤ 65535) ⌝ }
 {
     let end = reply.len();
     if end < offset {
@@ -81,7 +81,7 @@ fn standard_plan(reply: &[u8], order: ByteOrder, offset: usize) -> Plan
 }
 
 fn compact_plan(reply: &[u8]) -> Plan
-    ensures { λ r. ⌜ r ≡ compactPlan page037 (now (reply .entry)) ⌝ }
+    ensures { λ r. ⌜ (r ≡ compactPlan page037 (now (reply .entry))) × (r .limit ≤ 65535) ⌝ }
 {
     let table = compact_table::find_compact_descriptor_table(reply);
     let run = compact::compact_run(Ends::Compact, reply, table.count, table.start);
@@ -89,13 +89,13 @@ fn compact_plan(reply: &[u8]) -> Plan
 }
 
 fn limit_of(best: Best) -> usize
-    ensures { λ r. ⌜ r ≡ limitOf best ⌝ }
+    ensures { λ r. ⌜ (r ≡ limitOf best) × (r ≤ 512) ⌝ }
 {
     if 1 <= best.count { 512 } else { 0 }
 }
 
 fn scan_plan(reply: &[u8]) -> Plan
-    ensures { λ r. ⌜ r ≡ scanPlan page037 (now (reply .entry)) ⌝ }
+    ensures { λ r. ⌜ (r ≡ scanPlan page037 (now (reply .entry))) × (r .limit ≤ 65535) ⌝ }
 {
     let best = scan::scan_standard_sqldagroups(reply);
     let order = best.order;
@@ -142,7 +142,7 @@ fn empty_plan(outcome: Outcome) -> Plan
 // The only plan that may be a refusal: it is asked where all four readings gave no column.
 fn last_plan(reply: &[u8], offset: usize) -> Plan
     requires { ⌜ offset ≡ countAt (now reply) ⌝ }
-    ensures { λ r. ⌜ r ≡ lastPlan page037 (now (reply .entry)) ⌝ }
+    ensures { λ r. ⌜ (r ≡ lastPlan page037 (now (reply .entry))) × (r .limit ≤ 65535) ⌝ }
 {
     let end = reply.len();
     if end == 0 {
@@ -163,7 +163,9 @@ fn last_plan(reply: &[u8], offset: usize) -> Plan
 // The first reading with a name that is not generated, else the first that has columns, else the last reader's.
 pub fn plan_reply(reply: &[u8]) -> Plan
     requires { ⌜ length (now reply) ≤ 65536 ⌝ }
-    ensures { λ r. ⌜ (r ≡ planOf page037 (now (reply .entry))) × Counted page037 (now (reply .entry)) r ⌝ }
+    ensures plans { λ r. ⌜ r ≡ planOf page037 (now (reply .entry)) ⌝ }
+    ensures counts { λ r. ⌜ Counted page037 (now (reply .entry)) r ⌝ }
+    ensures bounds { λ r. ⌜ r .limit ≤ 65535 ⌝ }
 {
     let offset = standard::count_offset(reply);
     let big = standard_plan(reply, ByteOrder::BigEndian, offset);
