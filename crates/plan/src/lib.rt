@@ -33,7 +33,14 @@ pub struct Plan {
     pub outcome: Outcome,
 }
 
-fn plan_with(layout: Layout, order: ByteOrder, alone: bool, start: usize, limit: usize, run: Run) -> Plan
+fn plan_with(
+    layout: Layout,
+    order: ByteOrder,
+    alone: bool,
+    start: usize,
+    limit: usize,
+    run: Run,
+) -> Plan
     ensures { λ r. ⌜ r ≡ planWith layout order alone start limit run ⌝ }
 {
     Plan {
@@ -51,7 +58,14 @@ fn plan_with(layout: Layout, order: ByteOrder, alone: bool, start: usize, limit:
 fn no_columns(order: ByteOrder) -> Plan
     ensures { λ r. ⌜ r ≡ noColumns order ⌝ }
 {
-    plan_with(Layout::Standard, order, false, 0, 0, Run { count: 0, named: 0 })
+    plan_with(
+        Layout::Standard,
+        order,
+        false,
+        0,
+        0,
+        Run { count: 0, named: 0 },
+    )
 }
 
 // All descriptors that the count announces, or nothing.
@@ -85,7 +99,14 @@ fn compact_plan(reply: &[u8]) -> Plan
 {
     let table = compact_table::find_compact_descriptor_table(reply);
     let run = compact::compact_run(Ends::Compact, reply, table.count, table.start);
-    plan_with(Layout::Compact, ByteOrder::LittleEndian, true, table.start, table.count, run)
+    plan_with(
+        Layout::Compact,
+        ByteOrder::LittleEndian,
+        true,
+        table.start,
+        table.count,
+        run,
+    )
 }
 
 fn limit_of(best: Best) -> usize
@@ -103,7 +124,14 @@ fn scan_plan(reply: &[u8]) -> Plan
         count: best.count,
         named: best.named,
     };
-    plan_with(Layout::Standard, order, true, best.start, limit_of(best), run)
+    plan_with(
+        Layout::Standard,
+        order,
+        true,
+        best.start,
+        limit_of(best),
+        run,
+    )
 }
 
 // A byte FF that was not counted with the groups before stands before the last reader's count.
@@ -157,7 +185,14 @@ fn last_plan(reply: &[u8], offset: usize) -> Plan
     let count_offset = last_count_offset(reply, offset);
     let count = field::u16_at(reply, count_offset, ByteOrder::LittleEndian) as usize;
     let run = compact::compact_run(Ends::Last, reply, count, count_offset + 2);
-    plan_with(Layout::Last, ByteOrder::LittleEndian, false, count_offset + 2, count, run)
+    plan_with(
+        Layout::Last,
+        ByteOrder::LittleEndian,
+        false,
+        count_offset + 2,
+        count,
+        run,
+    )
 }
 
 // The first reading with a name that is not generated, else the first that has columns, else the last reader's.

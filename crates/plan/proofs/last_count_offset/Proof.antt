@@ -19,8 +19,7 @@ returns-3 : tie.Need-returns-3
 returns-3 c =
     let room = c .before .before in
     let count = room .before .before in
-    let pre = count .before .before .pre in
-    (
+    let pre = count .before .before .pre in (
       last-on _ _ _ (pre .0) (count .u16-at .ensures) (room .before .if1 .left) (omega (arith, room .if2 .left, pre .1)) (c .if3 .taken),
       omega (arith, room .if2 .left, pre .1),
     )

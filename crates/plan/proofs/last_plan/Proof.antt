@@ -12,8 +12,7 @@ returns c = (last-empty page037 _ _ (c .empty-plan .ensures) (c .before .if1 .ta
 
 returns-2 : tie.Need-returns-2
 returns-2 c =
-    let some = c .before .before in
-    (
+    let some = c .before .before in (
       last-early page037 _ _ (some .if1 .left) (some .before .before .pre) _ (c .empty-plan2 .ensures) (c .before .if2 .taken),
       limit-empty _ _ (c .empty-plan2 .ensures),
     )
@@ -21,8 +20,7 @@ returns-2 c =
 returns-3 : tie.Need-returns-3
 returns-3 c =
     let room = c .before .before in
-    let some = room .before in
-    (
+    let some = room .before in (
       last-none page037 _ _ (some .if1 .left) (some .before .before .pre) _ (c .empty-plan3 .ensures) (room .if2 .left) (omega (arith, c .before .if3 .taken)),
       limit-empty _ _ (c .empty-plan3 .ensures),
     )
@@ -38,13 +36,12 @@ returns-4 c =
     let count = run .before in
     let offset = count .before in
     let room = offset .before .before in
-    let some = room .before in
-    (
+    let some = room .before in (
       last-is page037 _ _ (some .if1 .left) (some .before .before .pre) _ _ _ _ (omega (arith, offset .before .if3 .left, room .if2 .left))
-      (offset .last-count-offset .ensures .0)
-      (count .u16-at .ensures)
-      (run .compact-run .ensures .0)
-      (c .plan-with .ensures),
+          (offset .last-count-offset .ensures .0)
+          (count .u16-at .ensures)
+          (run .compact-run .ensures .0)
+          (c .plan-with .ensures),
       limit-le _ _ _ _ _ _ _ (c .plan-with .ensures) (omega (arith, count .u16-at .ok)),
     )
 

@@ -9,8 +9,7 @@ use Rattle.plan.proofs.scan_plan.Tie as tie
 
 returns : tie.Need-returns
 returns c =
-    let best = c .before .before .scan-standard-sqldagroups in
-    (
+    let best = c .before .before .scan-standard-sqldagroups in (
       scan-is page037 _ _ (best .result) _ (best .ensures .0) (c .before .limit-of .ensures .0) (c .plan-with .ensures),
       limit-le _ _ _ _ _ _ _ (c .plan-with .ensures) (omega (arith, c .before .limit-of .ensures .1)),
     )
