@@ -7,3 +7,5 @@ pub mod Index
 pub mod Best
 pub mod Walks
 pub mod Alternatives
+pub mod Writing
+pub mod Filling

@@ -1,1 +1,4 @@
+pub mod ColumnMetadataRow
+pub mod Deciding
 pub mod Exchange
+pub mod Known

@@ -40,8 +40,8 @@ unfoldable pub description : Page → ℕ → List ℕ → Description
 description page room s = pick (ltb 65536 (length s)) (refusedWith (5 ∷ [])) (answerBy page room s (choice page s))
 
 -- the entry with code point: 4 with it if it is not SQLDARD's 0x2411, then as above (01, Numbers of refusal: with code point; DRDA V1: SQLDARD)
-unfoldable pub describedBy : Page → ℕ → ℕ → List ℕ → Description
-describedBy page room point s = pick (eqb point 0x2411) (description page room s) (refusedWith (4 ∷ point ∷ []))
+unfoldable pub withCodePoint : Page → ℕ → ℕ → List ℕ → Description
+withCodePoint page room point s = pick (eqb point 0x2411) (description page room s) (refusedWith (4 ∷ point ∷ []))
 
 -- what a lent list holds then: the columns in front, its entries past the count untouched (01, Answers)
 abbrev pub written : List ColumnMetadata → List ColumnMetadata → List ColumnMetadata

@@ -1,2 +1,4 @@
+pub mod Blank
+pub mod Decision
 pub mod Description
 pub mod Exchanged
