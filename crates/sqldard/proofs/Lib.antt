@@ -1,4 +1,5 @@
 pub mod ColumnMetadataRow
 pub mod Deciding
 pub mod Exchange
+pub mod Cases
 pub mod Known
