@@ -172,14 +172,14 @@ fn last_plan(reply: &[u8], offset: usize) -> Plan
     requires { ⌜ offset ≡ countAt (now reply) ⌝ }
     ensures { λ r. ⌜ (r ≡ lastPlan page037 (now (reply .entry))) × (r .limit ≤ 65535) ⌝ }
 {
-    let end = reply.len();
-    if end == 0 {
+    let size = reply.len();
+    if size == 0 {
         return empty_plan(Outcome::EmptyReply);
     }
-    if end < offset {
-        return empty_plan(Outcome::BufferTooShort(offset, end));
+    if size < offset {
+        return empty_plan(Outcome::BufferTooShort(offset, size));
     }
-    if end - offset < 2 {
+    if size - offset < 2 {
         return empty_plan(Outcome::Accepted);
     }
     let count_offset = last_count_offset(reply, offset);

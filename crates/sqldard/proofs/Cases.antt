@@ -40,17 +40,17 @@ use Rattle.sqldard.specs.Exchanged.{Exchangeable, Exchanged, newColumns}
 use Rattle.sqldard.proofs.Exchange.{exchange-theorem}
 
 -- to unfold this is to unfold the whole entry, for a proof that computes it
-everything : Unit {0}
+unfoldable pub everything : Unit {0}
 unfolding firstOf first keep bestOf best chain number stringEnd stringsEnd stringAt chosen pairAt isAscii charOf placed textOn isGenerated isGeneratedText typeRows lookup searchedBase rowFor capOf sqldaType stringText nameText columnWith isNamed hasNames moveText moveColumn nullableEnd inNullable udtEnd dxEnd dxStart optEnd descriptorEnd dxPair optName optLabel optPair describedAt columnAt aloneRefusal aloneCard groupEnd groupRefusal groupCard sqldhgrpEnd countAt countIn descriptorsEnd startOf gives views overColumns standard standardRun splice withColumn exchange looksCompact nextHere nextCompact tableHere tableAt tableOf ccsidOf nameHere nameAt compactName compactAt compactColumn compactEnd ffsHere lastEnd endBy exactScore score runFrom scanOrder scanBest scanColumns compactColumns lastCountAt lastColumns lastReading hasSome choice answerBy description withCodePoint
 everything = tt
 
 -- A's description: precision and scale 0, a length, a SQLTYPE, CCSID 1208, the name DOOR
-abbrev doorOf : ℕ → ℕ → List ℕ
+abbrev pub doorOf : ℕ → ℕ → List ℕ
 doorOf size low =
     0x00 ∷ 0x00 ∷ 0x00 ∷ 0x00 ∷ 0x00 ∷ 0x00 ∷ 0x00 ∷ 0x00 ∷ 0x00 ∷ 0x00 ∷ 0x00 ∷ size ∷ 0x01 ∷ low ∷ 0x04 ∷ 0xB8 ∷ 0x00 ∷ 0x00 ∷ 0x00 ∷
     0x00 ∷ 0x04 ∷ 0x44 ∷ 0x4F ∷ 0x4F ∷ 0x52 ∷ 0x00 ∷ 0x00 ∷ 0x00 ∷ 0x00 ∷ 0x00 ∷ 0x00 ∷ 0x00 ∷ 0x00 ∷ 0x00 ∷ 0x00 ∷ 0xFF ∷ 0xFF ∷ []
 
-abbrev replyOf : ℕ → ℕ → List ℕ
+abbrev pub replyOf : ℕ → ℕ → List ℕ
 replyOf size low = 0xFF ∷ 0xFF ∷ 0x00 ∷ 0x01 ∷ doorOf size low
 
 abbrev door : ℕ → ℕ → Bool → Text → ColumnMetadata
@@ -71,7 +71,7 @@ door size code nullable name = record {
 }
 
 -- accepted, with the status for success
-abbrev accepted : List ColumnMetadata → Description
+abbrev pub accepted : List ColumnMetadata → Description
 accepted columns = record { refusal = 0 ∷ []; card = successCard; columns = columns }
 
 -- A: DOOR, place 25, Char(4), 0x30, CCSID 1208
@@ -90,7 +90,10 @@ unfolding everything
 case-C = refl
 
 -- D: A's first 20 bytes and FF: COL1, Char(4)
-pub case-D : description page037 1 (take 20 (replyOf 4 0xC4) ++ (0xFF ∷ [])) ≡ accepted (door 4 0x30 false generatedText ∷ [])
+abbrev pub replyD : List ℕ
+replyD = take 20 (replyOf 4 0xC4) ++ (0xFF ∷ [])
+
+pub case-D : description page037 1 replyD ≡ accepted (door 4 0x30 false generatedText ∷ [])
 unfolding everything
 case-D = refl
 
