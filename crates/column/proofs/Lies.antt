@@ -1,9 +1,9 @@
 -- Where texts lie in a reply, and that their bytes are kept where the reply's bytes are.
 -- Assumes nothing.
-use mathlib.Core.Path.{_≡_, refl, sym, ap, _∙_}
+use mathlib.Core.Path.{_≡_, refl, sym}
 use mathlib.Core.Bool.{Bool, true, false}
 use mathlib.Core.List.{List, [], _∷_}
-use Prim.Native.Nat.{ℕ, _+_, _-_, _≤_, _<_, min}
+use Prim.Native.Nat.{ℕ, _+_, _-_, _≤_, min}
 use native.Mathlib.Nat.{le-refl, le-trans}
 use native.Mathlib.Omega.{arith}
 use lib.Dec.{eqb}
@@ -14,10 +14,10 @@ use Rattle.codepage.specs.Page.{Page}
 use Rattle.codepage.specs.Blank.{isBlankIn}
 use Rattle.field.specs.declared.StringRead.{StringRead}
 use Rattle.field.specs.Strings.{chosen, noString}
-use Rattle.field.proofs.Windows.{Same, Window, part-same}
+use Rattle.field.proofs.Windows.{Window, part-same}
 use Rattle.text.specs.declared.Text.{Text}
 use Rattle.text.specs.Chars.{isAscii}
-use Rattle.text.specs.Text.{textIs, emptyText, placed, leading, kept, textOn, textOf}
+use Rattle.text.specs.Text.{textIs, emptyText, placed, leading, kept, textOn}
 use Rattle.text.proofs.Trim.{kept-le}
 use Rattle.types.specs.declared.ColumnMetadata.{ColumnMetadata}
 use Rattle.column.specs.declared.Described.{Described}

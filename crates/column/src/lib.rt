@@ -9,6 +9,7 @@ ghost use mathlib.Core.Bool.{not};
 ghost use mathlib.Core.List.{_++_};
 ghost use Prim.Native.Nat.{_+_, _<_, _≤_};
 ghost use lib.ListN.{length, getD, drop};
+ghost use Rattle.search.specs.Search.{pick};
 ghost use Rattle.codepage.specs.Page.{page037};
 ghost use Rattle.text.specs.Generated.{isGeneratedText};
 ghost use Rattle.column.specs.Column.{stringText, nameText, StringsInside, blankColumn};
@@ -44,6 +45,14 @@ pub fn is_named(reply: &[u8], name: StringRead) -> bool
         return false;
     }
     !text::is_generated_at(reply, name.place, name.length)
+}
+
+// 1 for such a name, else 0: runs of descriptors count with it.
+pub fn one_if_named(reply: &[u8], name: StringRead) -> usize
+    requires { ⌜ name .place + name .length ≤ length (now reply) ⌝ }
+    ensures { λ r. ⌜ (r ≡ pick (not (isGeneratedText page037 (now (reply .entry)) (nameText page037 (now (reply .entry)) name))) 1 0) × (r ≤ 1) ⌝ }
+{
+    if is_named(reply, name) { 1 } else { 0 }
 }
 
 fn string_text(reply: &[u8], string: StringRead) -> Text

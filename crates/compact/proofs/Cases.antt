@@ -11,9 +11,7 @@ use Rattle.text.specs.Chars.{isAscii, charOf}
 use Rattle.text.specs.Text.{placed, textOn}
 use Rattle.text.specs.Generated.{isGenerated, isGeneratedText}
 use Rattle.types.specs.Rows.{typeRows, lookup}
-use Rattle.column.specs.declared.Run.{Run}
 use Rattle.column.specs.Column.{stringText, nameText, columnWith, isNamed}
-use Rattle.compact_table.specs.declared.Table.{Table}
 use Rattle.compact_table.specs.Table.{looksCompact, nextHere, nextCompact, tableHere, tableAt, tableOf}
 use Rattle.compact.specs.declared.Ends.the-variants.{Compact, Last}
 use Rattle.compact.specs.Compact.{ccsidOf, nameHere, nameAt, compactName, compactAt, compactColumn, compactEnd, ffsHere, lastEnd, endBy, compactRun}

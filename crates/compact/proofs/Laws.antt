@@ -4,23 +4,20 @@ use Prim.Native.Nat.{ℕ, _+_, _-_, _≤_, _<_}
 use native.Mathlib.Omega.{arith}
 use mathlib.Core.Path.{_≡_, refl, sym, ap, _∙_}
 use mathlib.Core.List.{List}
-use mathlib.Core.Bool.{Bool, true, false, not, _&&_}
+use mathlib.Core.Bool.{Bool, true, false, _&&_}
 use lib.ListN.{length, getD, take, drop}
 use lib.Dec.{leb, eqb, ltb}
 use borrow.Author.Tests.{eq-eqb, ne-eqb, lt-ltb, le-ltb, le-leb, lt-leb, ltb-true, leb-true, leb-false}
 use Rattle.search.specs.Search.{pick, each}
 use Rattle.search.specs.Walks.{first}
 use Rattle.search.proofs.Index.{first-done}
-use Rattle.field.specs.declared.StringRead.{StringRead}
 use Rattle.field.specs.Strings.{noString}
-use Rattle.codepage.specs.Page.{Page}
-use Rattle.text.specs.Chars.{isNameChar, chars}
-use Rattle.text.specs.Generated.{isGenerated}
+use Rattle.text.specs.Chars.{isNameChar}
 use Rattle.text.proofs.Decode.{lent}
 use Rattle.compact_table.specs.Table.{nextHere, nextCompact}
 use Rattle.compact.specs.declared.Ends.{Ends}
 use Rattle.compact.specs.declared.Ends.the-variants.{Compact, Last}
-use Rattle.compact.specs.Compact.{ccsidOf, nameHere, nameAt, compactName, isAsciiNamed, compactEnd, ffsHere, lastEnd, endBy}
+use Rattle.compact.specs.Compact.{ccsidOf, nameHere, nameAt, compactName, compactEnd, ffsHere, lastEnd, endBy}
 
 -- ---- CCSID
 
@@ -57,32 +54,6 @@ name-found s p e q f h = rw (← f, lt-ltb q e h) refl
 pub name-none : (s : List ℕ) (p e q : ℕ) → q ≡ nameAt s p e → e ≤ q → noString e ≡ compactName s p e
 unfolding compactName
 name-none s p e q f h = rw (← f, le-ltb q e h) refl
-
--- ---- a name that counts, 1, or 0
-
-module _ (page : Page) (s : List ℕ) (r : StringRead) where
-  pub named-missing : r .length ≡ 0 → _≡_ {A = ℕ} 0 (pick (isAsciiNamed page s r) 1 0)
-  unfolding isAsciiNamed
-  named-missing h = rw (eq-eqb (r .length) 0 h) refl
-
-  -- g: whether the bytes, as the code lends them, are a generated name
-  module _ (h : r .length ≡ 0 → ⊥) (g : Bool)
-      (e : g ≡ isGenerated (chars page 1 (take (r .place + r .length - r .place) (drop (r .place) s)))) where
-    counted : _≡_ {A = ℕ} (pick (not g) 1 0) (pick (isAsciiNamed page s r) 1 0)
-    unfolding isAsciiNamed
-    counted =
-        rw (ne-eqb (r .length) 0 h)
-        (ap (λ (b : Bool). pick {A = ℕ} (not b) 1 0) (e ∙ ap (λ (bs : List ℕ). isGenerated (chars page 1 bs)) (lent s (r .place) (r .length))))
-
-    pub named-generated : g ≡ true → _≡_ {A = ℕ} 0 (pick (isAsciiNamed page s r) 1 0)
-    named-generated f = ap (λ (b : Bool). pick {A = ℕ} (not b) 1 0) (sym f) ∙ counted
-
-    pub named-other : g ≡ false → _≡_ {A = ℕ} 1 (pick (isAsciiNamed page s r) 1 0)
-    named-other f = ap (λ (b : Bool). pick {A = ℕ} (not b) 1 0) (sym f) ∙ counted
-
-pub at-most-one : (b : Bool) (x : ℕ) → x ≡ pick b 1 0 → x ≤ 1
-at-most-one true x e = omega arith
-at-most-one false x e = omega arith
 
 -- ---- ends
 

@@ -1,6 +1,6 @@
 -- Descriptors of the compact reading and of the last reader: 16 bytes of LE numbers, and a name somewhere after them (01, Layouts: Compact;
 -- 01, Choice: the last reader, numbers, names and CCSIDs as in compact). They differ in where they end.
-use mathlib.Core.Bool.{Bool, not, _&&_, _||_}
+use mathlib.Core.Bool.{Bool, _&&_}
 use mathlib.Core.List.{List}
 use Prim.Native.Nat.{ℕ, _+_, _-_, _%_}
 use lib.Dec.{ltb, leb, eqb}
@@ -8,8 +8,7 @@ use lib.ListN.{length, getD, take, drop}
 use Rattle.search.specs.Search.{pick, each}
 use Rattle.search.specs.Walks.{first, Walk, chain}
 use Rattle.codepage.specs.Page.{Page}
-use Rattle.text.specs.Chars.{isNameChar, chars}
-use Rattle.text.specs.Generated.{isGenerated}
+use Rattle.text.specs.Chars.{isNameChar}
 use Rattle.field.specs.declared.ByteOrder.the-variants.{BigEndian, LittleEndian}
 use Rattle.field.specs.declared.StringRead.{StringRead}
 use Rattle.field.specs.Numbers.{number}
@@ -60,10 +59,6 @@ compactAt s p e = record {
 -- the column of the descriptor from p to e, under number i (01, Answers)
 unfoldable pub compactColumn : Page → ℕ → List ℕ → ℕ → ℕ → ColumnMetadata
 compactColumn page i s p e = columnWith page s i (compactAt s p e)
-
--- a name of name characters that is not generated (01, Choice: a name that is not generated; 01, Answers: alphabet 1 ASCII)
-unfoldable pub isAsciiNamed : Page → List ℕ → StringRead → Bool
-isAsciiNamed page s r = not (eqb (r .length) 0 || isGenerated (chars page 1 (take (r .length) (drop (r .place) s))))
 
 -- in compact a descriptor ends where the next starts; the last of them, or one without a next, at the reply's end (01, Layouts: Compact)
 unfoldable pub compactEnd : ℕ → List ℕ → ℕ → ℕ

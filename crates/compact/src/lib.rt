@@ -2,12 +2,11 @@
 ghost use mathlib.Core.Path.{_≡_};
 ghost use Prim.Native.Nat.{_+_, _<_, _≤_};
 ghost use lib.ListN.{length};
-ghost use Rattle.search.specs.Search.{pick};
 ghost use Rattle.codepage.specs.Page.{page037};
 ghost use Rattle.field.specs.declared.ByteOrder.the-variants.{BigEndian, LittleEndian};
 ghost use Rattle.field.specs.Numbers.{number};
 ghost use Rattle.column.specs.Column.{StringsInside};
-ghost use Rattle.compact.specs.Compact.{ccsidOf, nameHere, compactName, compactAt, isAsciiNamed, compactEnd, ffsHere, lastEnd, endBy, compactRun};
+ghost use Rattle.compact.specs.Compact.{ccsidOf, nameHere, compactName, compactAt, compactEnd, ffsHere, lastEnd, endBy, compactRun};
 use column::Described;
 use column::Run;
 use field::ByteOrder;
@@ -143,22 +142,6 @@ pub fn compact_end(ends: Ends, left: usize, reply: &[u8], offset: usize) -> usiz
     }
 }
 
-// 1 for a name that is not generated. Name characters are ASCII, so that no text is decoded.
-fn one_if_named(reply: &[u8], name: StringRead) -> usize
-    requires { ⌜ name .place + name .length ≤ lib.ListN.length (now reply) ⌝ }
-    ensures { λ r. ⌜ r ≡ pick (isAsciiNamed page037 (now (reply .entry)) name) 1 0 ⌝ }
-{
-    let length = name.length;
-    if length == 0 {
-        return 0;
-    }
-    let start = name.place;
-    if text::is_generated(&reply[start..start + length], 1) {
-        return 0;
-    }
-    1
-}
-
 // At most `count` descriptors from a position on: how many there are, and how many have names.
 pub fn compact_run(ends: Ends, reply: &[u8], count: usize, offset: usize) -> Run
     requires { ⌜ offset ≤ length (now reply) ⌝ }
@@ -177,7 +160,7 @@ pub fn compact_run(ends: Ends, reply: &[u8], count: usize, offset: usize) -> Run
             return Run { count: i, named };
         }
         let name = extract_column_name(reply, start, end);
-        named += one_if_named(reply, name);
+        named += column::one_if_named(reply, name);
         start = end;
         i += 1;
     }

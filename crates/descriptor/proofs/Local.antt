@@ -4,18 +4,18 @@
 use mathlib.Core.Path.{_≡_, refl, sym, ap, _∙_}
 use mathlib.Core.List.{List}
 use Prim.Native.Nat.{ℕ, _+_, _%_, _≤_, _<_}
-use native.Mathlib.Nat.{le-refl, le-trans}
+use native.Mathlib.Nat.{le-trans}
 use native.Mathlib.Omega.{arith}
 use lib.ListN.{length, getD}
 use Rattle.codepage.specs.Page.{Page}
 use Rattle.field.specs.declared.ByteOrder.{ByteOrder}
 use Rattle.field.specs.declared.StringRead.{StringRead}
 use Rattle.field.specs.Numbers.{number}
-use Rattle.field.specs.Strings.{stringsEnd, noString, chosen, pairAt}
+use Rattle.field.specs.Strings.{stringsEnd, noString, pairAt}
 use Rattle.field.proofs.Windows.{Same, Window, same-plus, stringsEnd-grows, stringsEnd-within, stringsEnd-local, pairAt-same, number-same}
 use Rattle.types.specs.Types.{isKnown, sqldaType}
-use Rattle.column.specs.Column.{stringText, nameText, columnWith}
-use Rattle.column.specs.Moved.{moveText, moveColumn}
+use Rattle.column.specs.Column.{columnWith}
+use Rattle.column.specs.Moved.{moveColumn}
 use Rattle.column.proofs.Moved.{Alike, alike-none, alike-moved, alike-chosen, alike-name}
 use Rattle.descriptor.specs.Nullable.{Flags, lenient, strict, missing, nullableEnd, inNullable}
 use Rattle.descriptor.specs.Descriptor.{udtEnd, dxEnd, dxStart, optEnd, descriptorEnd, dxPair, optName, optLabel, optPair, describedAt, columnAt}

@@ -1,6 +1,5 @@
 -- The standard descriptor, one SQLDAROW, at a position of the reply (DRDA V1: SQLDAGRP, SQLDOPTGRP, SQLUDTGRP, SQLDXGRP; 01, Layouts).
 -- A position past the reply's end says that it cannot be read.
-use mathlib.Core.Bool.{Bool}
 use mathlib.Core.List.{List}
 use mathlib.Core.Path.{_≡_}
 use Prim.Native.Nat.{ℕ, suc, _+_, _%_}

@@ -5,7 +5,7 @@ use mathlib.Core.Bool.{Bool, true, false}
 use mathlib.Core.List.{List, [], _∷_}
 use Prim.Native.Nat.{ℕ, _+_, _-_, _≤_, _<_}
 use native.Mathlib.Omega.{arith}
-use lib.Dec.{ltb, leb, eqb}
+use lib.Dec.{leb}
 use lib.ListN.{length, getD}
 use borrow.Author.Tests.{eq-eqb, ne-eqb, lt-ltb, le-ltb, le-leb, lt-leb}
 use Rattle.search.specs.Search.{pick, count}
@@ -19,7 +19,7 @@ use Rattle.outcome.specs.declared.Outcome.{Outcome}
 use Rattle.outcome.specs.declared.Outcome.the-variants.{Accepted, EmptyReply, BufferTooShort}
 use Rattle.types.specs.declared.ColumnMetadata.{ColumnMetadata}
 use Rattle.column.specs.declared.Run.{Run}
-use Rattle.column.specs.Column.{isNamed, namedIn, runIs}
+use Rattle.column.specs.Column.{namedIn}
 use Rattle.descriptor.specs.Descriptor.{columnAt}
 use Rattle.standard.specs.Reading.{countAt, countIn, descriptorsEnd, startOf, gives}
 use Rattle.standard.specs.Run.{standardWalk, standardRun}

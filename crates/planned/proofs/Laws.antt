@@ -4,9 +4,8 @@ use mathlib.Core.Path.{_≡_, refl, sym, ap, subst, _∙_}
 use mathlib.Core.Bool.{true}
 use mathlib.Core.List.{List, _++_}
 use Prim.Native.Nat.{ℕ, _+_, _-_, _≤_}
-use native.Mathlib.Omega.{arith}
 use lib.Dec.{leb}
-use lib.ListN.{length, drop}
+use lib.ListN.{length}
 use borrow.Author.Tests.{leb-true}
 use Rattle.codepage.specs.Page.{Page}
 use Rattle.field.specs.declared.ByteOrder.{ByteOrder}

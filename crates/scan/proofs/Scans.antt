@@ -3,7 +3,7 @@
 use mathlib.Core.Path.{_≡_, refl}
 use mathlib.Core.Bool.{Bool, true, false}
 use mathlib.Core.List.{List}
-use Prim.Native.Nat.{ℕ, _-_, _≤_, _<_}
+use Prim.Native.Nat.{ℕ, _-_, _<_}
 use native.Mathlib.Omega.{arith}
 use lib.ListN.{length}
 use Rattle.search.specs.Walks.{keep, best}
@@ -13,7 +13,7 @@ use Rattle.field.specs.declared.ByteOrder.{ByteOrder}
 use Rattle.column.specs.declared.Run.{Run}
 use Rattle.standard.specs.Run.{standardRun}
 use Rattle.scan.specs.declared.Best.{Best}
-use Rattle.scan.specs.Scan.{score, better, runFrom, scanOrder, Few}
+use Rattle.scan.specs.Scan.{better, runFrom, scanOrder}
 
 pub keep-new : (x y : Best) (b : Bool) → b ≡ better y x → b ≡ true → y ≡ keep better x y
 unfolding keep

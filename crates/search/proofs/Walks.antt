@@ -5,8 +5,8 @@ use Prim.Native.Nat.{ℕ, zero, suc, _+_, _-_, _≤_, _<_}
 use native.Mathlib.Numerals.{add-one}
 use native.Mathlib.Omega.{arith}
 use native.Mathlib.Nat.{le-refl}
-use mathlib.Core.Path.{_≡_, refl, sym, ap, _∙_}
-use mathlib.Core.List.{List, [], _∷_}
+use mathlib.Core.Path.{_≡_, refl, ap, _∙_}
+use mathlib.Core.List.{[], _∷_}
 use mathlib.Core.Bool.{Bool, true, false}
 use lib.ListN.{length}
 use Rattle.search.specs.Search.{pick, count}

@@ -22,7 +22,7 @@ use Rattle.types.specs.Types.{searchedBase, rowFor, capOf, sqldaType}
 use Rattle.column.specs.Column.{stringText, generatedText, nameText, columnWith, isNamed, hasNames}
 use Rattle.column.specs.Moved.{moveText, moveColumn}
 use Rattle.descriptor.specs.Nullable.{nullableEnd, inNullable}
-use Rattle.descriptor.specs.Descriptor.{udtEnd, dxEnd, dxStart, optEnd, descriptorEnd, dxPair, optName, optLabel, optPair, describedAt, columnAt, Complete}
+use Rattle.descriptor.specs.Descriptor.{udtEnd, dxEnd, dxStart, optEnd, descriptorEnd, dxPair, optName, optLabel, optPair, describedAt, columnAt}
 use Rattle.sqlcard.specs.Card.{successCard}
 use Rattle.sqlcard.specs.Alone.{aloneRefusal, aloneCard}
 use Rattle.sqlcard.specs.Group.{groupEnd, groupRefusal, groupCard}

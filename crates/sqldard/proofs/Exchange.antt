@@ -3,23 +3,18 @@
 use mathlib.Core.Path.{_≡_, refl, sym, ap, _∙_}
 use mathlib.Core.Bool.{Bool, true, false}
 use mathlib.Core.List.{List, [], _∷_, map}
-use mathlib.Core.Option.{Option, none, some}
+use mathlib.Core.Option.{none, some}
 use Prim.Native.Nat.{ℕ, zero, suc, _+_, _-_, _≤_, _<_}
-use native.Mathlib.Nat.{le-trans}
 use native.Mathlib.Omega.{arith}
-use lib.Dec.{ltb, leb, eqb}
-use lib.ListN.{length, getElem?, length-map}
+use lib.Dec.{ltb, eqb}
+use lib.ListN.{length, getElem?}
 use borrow.Author.Tests.{le-ltb, le-leb, eqb-true, eqb-false}
-use Rattle.search.specs.Search.{pick, firstIn}
+use Rattle.search.specs.Search.{pick}
 use Rattle.codepage.specs.Page.{Page}
 use Rattle.field.specs.declared.ByteOrder.{ByteOrder}
 use Rattle.field.specs.declared.ByteOrder.the-variants.{BigEndian}
-use Rattle.field.proofs.Windows.{Window}
 use Rattle.text.specs.declared.Text.{Text}
 use Rattle.text.specs.Text.{textIs}
-use Rattle.outcome.specs.Refusal.{isRefused}
-use Rattle.sqlcard.specs.declared.SqlCard.{SqlCard}
-use Rattle.sqlcard.specs.Card.{successCard}
 use Rattle.sqlcard.specs.Alone.{aloneCard}
 use Rattle.sqlcard.specs.Group.{groupEnd, groupRefusal, groupBytes, groupCard}
 use Rattle.sqlcard.proofs.Groups.{group-end-same, group-bytes-same}
@@ -27,15 +22,15 @@ use Rattle.types.specs.declared.ColumnMetadata.{ColumnMetadata}
 use Rattle.column.specs.Column.{hasNames}
 use Rattle.column.specs.Moved.{moveText, moveColumn, Lies, LiesAll}
 use Rattle.column.proofs.Lies.{all-wider}
-use Rattle.descriptor.specs.Descriptor.{columnAt, Complete}
-use Rattle.standard.specs.Reading.{countAt, startOf, standard}
+use Rattle.descriptor.specs.Descriptor.{Complete}
+use Rattle.standard.specs.Reading.{startOf, standard}
 use Rattle.standard.specs.Exchange.{withColumn, exchange}
 use Rattle.standard.proofs.Front.{count-past}
 use Rattle.standard.proofs.Exchange.{place, front, standard-exchanged}
 use Rattle.standard.proofs.Kept.{bytes-exchanged, column-lies-at, starts-within, texts-inside, length-exchange}
-use Rattle.plan.specs.Choice.{Reading, reads, hasSome, four, lastReading, choice}
-use Rattle.sqldard.specs.Description.{Description, refusedWith, statusOf, answerBy, description}
-use Rattle.sqldard.specs.Exchanged.{oldBytes, Moved, MovedColumn, newColumn, laterColumn, newColumns, Exchangeable, ReadExchanged, Exchanged, attributesOf}
+use Rattle.plan.specs.Choice.{reads, choice}
+use Rattle.sqldard.specs.Description.{Description, answerBy, description}
+use Rattle.sqldard.specs.Exchanged.{Moved, MovedColumn, newColumn, laterColumn, Exchangeable, ReadExchanged, Exchanged, attributesOf}
 
 -- ---- the elements of an exchanged list
 

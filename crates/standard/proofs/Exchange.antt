@@ -15,7 +15,6 @@ use Rattle.field.specs.declared.ByteOrder.{ByteOrder}
 use Rattle.field.proofs.Windows.{Window}
 use Rattle.column.specs.Moved.{moveColumn}
 use Rattle.column.proofs.Moved.{move-none}
-use Rattle.types.specs.declared.ColumnMetadata.{ColumnMetadata}
 use Rattle.descriptor.specs.Nullable.{lenient, strict}
 use Rattle.descriptor.specs.Descriptor.{descriptorEnd, columnAt, Complete}
 use Rattle.descriptor.proofs.Ends.{descriptorEnd-grows}

@@ -1,6 +1,6 @@
 -- The reply up to the count of columns: another reply that begins with the same bytes has its count at the same place.
 -- Assumes nothing.
-use mathlib.Core.Path.{_≡_, refl, sym, ap, _∙_}
+use mathlib.Core.Path.{_≡_, refl, sym}
 use mathlib.Core.Bool.{Bool, true, false}
 use mathlib.Core.List.{List}
 use Prim.Native.Nat.{ℕ, _+_, _≤_, _<_}
@@ -11,9 +11,8 @@ use lib.ListN.{length, getD}
 use borrow.Author.Tests.{le-leb, lt-leb}
 use Rattle.search.specs.Search.{pick}
 use Rattle.field.specs.declared.ByteOrder.{ByteOrder}
-use Rattle.field.specs.Numbers.{number}
 use Rattle.field.specs.Strings.{stringsEnd}
-use Rattle.field.proofs.Windows.{Same, Window, same-here, stringsEnd-grows, stringsEnd-local, number-same}
+use Rattle.field.proofs.Windows.{Window, same-here, stringsEnd-grows, stringsEnd-local, number-same}
 use Rattle.sqlcard.specs.Group.{groupEnd}
 use Rattle.sqlcard.specs.Sqldhgrp.{sqldhgrpEnd}
 use Rattle.sqlcard.proofs.Groups.{group-end-same}

@@ -1,13 +1,13 @@
 -- A run of standard descriptors: a law for each way out of its loop, whose invariant is search's `Walking`.
 -- Assumes nothing.
-use mathlib.Core.Path.{_≡_, refl, sym, ap, _∙_}
+use mathlib.Core.Path.{_≡_, refl, ap, _∙_}
 use mathlib.Core.Bool.{Bool, true, false, not}
 use mathlib.Core.List.{List}
 use Prim.Native.Nat.{ℕ, _+_, _≤_, _<_}
 use native.Mathlib.Omega.{arith}
 use lib.Dec.{leb}
 use lib.ListN.{length}
-use borrow.Author.Tests.{leb-true, leb-false, le-leb, lt-leb}
+use borrow.Author.Tests.{le-leb, lt-leb}
 use Rattle.search.specs.Search.{pick, count}
 use Rattle.search.specs.Walks.{chain}
 use Rattle.search.proofs.Walks.{Walking, walking-more, walking-stop, walking-done}
@@ -15,8 +15,6 @@ use Rattle.codepage.specs.Page.{Page}
 use Rattle.field.specs.declared.ByteOrder.{ByteOrder}
 use Rattle.field.specs.declared.StringRead.{StringRead}
 use Rattle.text.specs.Generated.{isGeneratedText}
-use Rattle.types.specs.declared.ColumnMetadata.{ColumnMetadata}
-use Rattle.column.specs.declared.Run.{Run}
 use Rattle.column.specs.Column.{nameText, columnWith, isNamed}
 use Rattle.descriptor.specs.declared.Step.{Step}
 use Rattle.descriptor.specs.Nullable.{lenient}

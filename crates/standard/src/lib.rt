@@ -1,17 +1,12 @@
 // The standard reading: where the count of columns stands, and runs of standard descriptors.
 ghost use mathlib.Core.Path.{_≡_};
-ghost use mathlib.Core.Bool.{not};
 ghost use Prim.Native.Nat.{_+_, _≤_};
 ghost use lib.ListN.{length};
-ghost use Rattle.search.specs.Search.{pick};
 ghost use Rattle.codepage.specs.Page.{page037};
-ghost use Rattle.text.specs.Generated.{isGeneratedText};
-ghost use Rattle.column.specs.Column.{nameText};
 ghost use Rattle.standard.specs.Reading.{countAt};
 ghost use Rattle.standard.specs.Run.{standardRun};
 use column::Run;
 use field::ByteOrder;
-use field::StringRead;
 
 // Where the count of columns is due: past the SQLCA group and SQLDHGRP. Past the reply's end, it is how many bytes were expected.
 pub fn count_offset(reply: &[u8]) -> usize
@@ -23,14 +18,6 @@ pub fn count_offset(reply: &[u8]) -> usize
         return offset;
     }
     sqlcard::skip_sqldhgrp(reply, offset)
-}
-
-// 1 for a name that is not generated, else 0.
-fn one_if_named(reply: &[u8], name: StringRead) -> usize
-    requires { ⌜ name .place + name .length ≤ length (now reply) ⌝ }
-    ensures { λ r. ⌜ (r ≡ pick (not (isGeneratedText page037 (now (reply .entry)) (nameText page037 (now (reply .entry)) name))) 1 0) × (r ≤ 1) ⌝ }
-{
-    if column::is_named(reply, name) { 1 } else { 0 }
 }
 
 // At most `limit` descriptors from `start` on, as many as can be read, by their places alone.
@@ -47,7 +34,7 @@ pub fn standard_run(reply: &[u8], order: ByteOrder, limit: usize, start: usize) 
         if reply.len() < next {
             return Run { count, named };
         }
-        named += one_if_named(reply, step.name);
+        named += column::one_if_named(reply, step.name);
         offset = next;
         count += 1;
     }

@@ -7,8 +7,7 @@ use borrow.Author.Needs.{needs}
 use Rattle.search.proofs.Walks.{Walking, walking-none}
 use Rattle.codepage.specs.Page.{page037}
 use Rattle.column.specs.Column.{isNamed}
-use Rattle.compact.specs.Compact.{isAsciiNamed, compactWalk}
-use Rattle.compact.proofs.Laws.{at-most-one}
+use Rattle.compact.specs.Compact.{compactWalk}
 use Rattle.compact.proofs.Names.{name-inside}
 use Rattle.compact.proofs.Runs.{run-more, run-stop, run-short, run-done}
 use Rattle.compact.proofs.compact_run.Statement.{statement}
@@ -42,8 +41,7 @@ one-if-named-requires c κs =
 add-named : tie.Need-add-named Inv-loop μ-loop
 add-named c =
     let loop = c .before .before .before .before .before .before in
-    let named = isAsciiNamed page037 (loop .before .before .args .reply .now) (c .before .extract-column-name .result) in
-    omega (arith, loop .loop .inv .1 .few, at-most-one named (c .one-if-named .result) (c .one-if-named .ensures))
+    omega (arith, loop .loop .inv .1 .few, c .one-if-named .ensures .1)
 
 loop-again : tie.Need-loop-again Inv-loop μ-loop
 loop-again c =
@@ -52,7 +50,7 @@ loop-again c =
     let turn = end .before .before in (
       search needs,
       run-more page037 _ _ _ _ _ _ _ (turn .before .loop .inv .1) _ _ _ (turn .loop-test .taken) (end .compact-end .ensures .0) (name .before .if2 .left)
-          (end .compact-end .ensures .1) (name .extract-column-name .ensures) (c .one-if-named .ensures),
+          (name .extract-column-name .ensures) (c .one-if-named .ensures .0),
     )
 
 returns-3 : tie.Need-returns-3 Inv-loop μ-loop

@@ -2,7 +2,6 @@
 -- Assumes nothing.
 use mathlib.Core.Path.{_≡_, refl}
 use Prim.Native.Nat.{_≤_, _-_}
-use lib.ListN.{length}
 use borrow.Author.Needs.{needs}
 use Rattle.search.specs.Walks.{best}
 use Rattle.search.proofs.Best.{best-more, best-done}

@@ -1,6 +1,5 @@
 -- The group's end where the reply ends there, else what is past SQLDHGRP.
 -- Assumes nothing.
-use mathlib.Core.Path.{_≡_, refl, ap, _∙_}
 use borrow.Author.Needs.{needs}
 use Rattle.standard.proofs.Front.{count-at-end, count-at-past}
 use Rattle.standard.proofs.count_offset.Statement.{statement}

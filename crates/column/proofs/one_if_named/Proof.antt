@@ -1,13 +1,13 @@
 -- 1 where the test holds, else 0.
 -- Assumes nothing.
-use mathlib.Core.Path.{refl, sym, ap, _∙_}
+use mathlib.Core.Path.{sym, ap, _∙_}
 use mathlib.Core.Bool.{Bool}
 use Prim.Native.Nat.{ℕ}
 use native.Mathlib.Omega.{arith}
 use borrow.Author.Needs.{needs}
 use Rattle.search.specs.Search.{pick}
-use Rattle.standard.proofs.one_if_named.Statement.{statement}
-use Rattle.standard.proofs.one_if_named.Tie as tie
+use Rattle.column.proofs.one_if_named.Statement.{statement}
+use Rattle.column.proofs.one_if_named.Tie as tie
 
 abbrev one : Bool → ℕ
 one b = pick b 1 0
