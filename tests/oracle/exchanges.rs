@@ -6,9 +6,7 @@
 //! description's length 32, whether the new description has no name 8 (0 or 1), the new
 //! description's length 32 (all BE), the new description, the reply.
 
-use crate::groups::{
-    filler, header_group, number, status, Column, Naming, Options, Order, Range,
-};
+use crate::groups::{filler, header_group, number, status, Column, Naming, Options, Order, Range};
 use crate::random::Random;
 use crate::texts;
 
@@ -63,6 +61,7 @@ fn reply(r: &mut Random) -> (Vec<u8>, Vec<(usize, usize)>) {
         Naming::Named,
         Naming::Any,
         Naming::Any,
+        Naming::Any,
         Naming::Nameless,
         Naming::Generated,
     ]);
@@ -105,6 +104,8 @@ fn description(r: &mut Random) -> Column {
     let naming = r.pick(&[
         Naming::Named,
         Naming::Named,
+        Naming::Named,
+        Naming::Any,
         Naming::Any,
         Naming::Nameless,
         Naming::Generated,

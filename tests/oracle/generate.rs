@@ -12,23 +12,23 @@
 //! Half of the cases of S, s and G are SQLCAs on the edges of their fields (cards.rs). What the
 //! others hold, in 10,000 of each entry:
 //!
-//! | family     | D, d, L, P | S, s |    G |    N | replies                                           |
-//! |------------|-----------:|-----:|-----:|-----:|---------------------------------------------------|
-//! | standard   |       3200 |  400 |  900 |  900 | every group present or absent, BE and LE          |
-//! | compact    |       1500 |  150 |  150 |  300 | compact tables, with and without FF, names to 65  |
-//! | last       |        650 |  150 |  150 |  200 | FF FF FF, unknown types, the FF before the count  |
-//! | scan       |       1450 |  150 |  150 |  600 | runs behind other bytes, equal, negative scores   |
-//! | two        |        550 |   50 |   50 |  100 | a list without names and another reply behind it  |
-//! | counts     |        450 |   46 |   46 |  100 | counts on the edges with few descriptors          |
-//! | many       |         40 |    4 |    4 |   40 | 256 to 514 descriptors                            |
-//! | candidates |        150 |  100 |  100 | 3300 | strings that the name scan takes, and repeats     |
-//! | layouts    |        250 |  100 |  100 | 2400 | layouts of any type, names in m, s and extension  |
-//! | sqlca      |        500 | 7030 | 6530 |  200 | a SQLCA alone, whole or cut, codes and messages   |
-//! | small      |       1175 | 1790 | 1790 | 1837 | every size from 0 to 64                           |
-//! | longest    |          3 |   10 |   10 |    3 | 65,534 to 65,536 bytes (slow in the Rust)         |
-//! | full       |         50 |    - |    - |    - | lists of 511 to 513, by the last reader to 800    |
-//! | filled     |         12 |    - |    - |    - | other families, filled up to 65,535 to 65,537     |
-//! | too long   |         20 |   20 |   20 |   20 | 65,537 to 65,540 bytes, and 70,000                |
+//! | family     | DdLP | S, s |    G |    N | replies                                           |
+//! |------------|-----:|-----:|-----:|-----:|---------------------------------------------------|
+//! | standard   | 3200 |  400 |  900 |  900 | every group present or absent, BE and LE          |
+//! | compact    | 1500 |  150 |  150 |  300 | compact tables, with and without FF, names to 65  |
+//! | last       |  650 |  150 |  150 |  200 | FF FF FF, unknown types, the FF before the count  |
+//! | scan       | 1450 |  150 |  150 |  600 | runs behind other bytes, equal, negative scores   |
+//! | two        |  550 |   50 |   50 |  100 | a list without names and another reply behind it  |
+//! | counts     |  450 |   46 |   46 |  100 | counts on the edges with few descriptors          |
+//! | many       |   40 |    4 |    4 |   40 | 256 to 514 descriptors                            |
+//! | candidates |  150 |  100 |  100 | 3300 | strings that the name scan takes, and repeats     |
+//! | layouts    |  250 |  100 |  100 | 2400 | layouts of any type, names in m, s and extension  |
+//! | sqlca      |  500 | 7030 | 6530 |  200 | a SQLCA alone, whole or cut, codes and messages   |
+//! | small      | 1175 | 1790 | 1790 | 1837 | every size from 0 to 64                           |
+//! | longest    |    3 |   10 |   10 |    3 | 65,534 to 65,536 bytes (slow in the Rust)         |
+//! | full       |   50 |    - |    - |    - | lists of 511 to 513, by the last reader to 800    |
+//! | filled     |   12 |    - |    - |    - | other families, filled up to 65,535 to 65,537     |
+//! | too long   |   20 |   20 |   20 |   20 | 65,537 to 65,540 bytes, and 70,000                |
 //!
 //! Of all but the last five, 35 in 100 are damaged by one to three edits, and so are 15 in 100 of
 //! the SQLCAs on the edges. P has the right code point in 92 of 100. L lends as many records as
@@ -113,11 +113,7 @@ fn reply(r: &mut Random, entry: u8) -> Vec<u8> {
     };
     let family = r.weighted(weights);
     let Some(maker) = MAKERS.get(family) else {
-        let room = if matches!(entry, b'L' | b'P') {
-            2
-        } else {
-            0
-        };
+        let room = if matches!(entry, b'L' | b'P') { 2 } else { 0 };
         return replies::too_long(r, frame::LONGEST - room);
     };
     let mut reply = maker(r);

@@ -20,7 +20,7 @@ use frame::Next;
 use std::io::{self, BufReader};
 use std::process::ExitCode;
 
-const FEATURES: [&str; 56] = [
+const FEATURES: [&str; 58] = [
     "over 65,536 bytes",
     "65,537 bytes",
     "65,536 bytes",
@@ -69,6 +69,8 @@ const FEATURES: [&str; 56] = [
     "name in the extension's s",
     "no name, options there",
     "label in s",
+    "base table in s",
+    "schema in s",
     "UDT group",
     "COL and digits in ASCII",
     "COL and digits in page 037",
@@ -164,10 +166,7 @@ impl Reach {
 
     /// A reading with a name won over those without.
     fn stead(&mut self, big: bool, compact: bool, winner: &str) {
-        self.hit_if(
-            big || compact,
-            "a reading without names loses to one with",
-        );
+        self.hit_if(big || compact, "a reading without names loses to one with");
         if big {
             self.hit(&format!("{winner} in BE's stead"));
         } else if compact {
@@ -321,7 +320,10 @@ impl Reach {
                 }
             }
         }
-        self.hit_if(direct[2].is_empty() && !direct[3].is_empty(), "label in s");
+        let in_s = |texts: &[Vec<u8>], m: usize| texts[m].is_empty() && !texts[m + 1].is_empty();
+        self.hit_if(in_s(&direct, 2), "label in s");
+        self.hit_if(in_s(&extended, 3), "base table in s");
+        self.hit_if(in_s(&extended, 5), "schema in s");
         let names = [
             (&direct[0], "name in m"),
             (&direct[1], "name in s"),
@@ -420,7 +422,9 @@ fn main() -> ExitCode {
         match frame::read(&mut input, &mut payload) {
             Ok(Next::End) => break,
             Ok(Next::Case(b'D' | b'd')) => reach.reply(&payload),
-            Ok(Next::Case(b'P')) if payload.starts_with(&[0x24, 0x11]) => reach.reply(&payload[2..]),
+            Ok(Next::Case(b'P')) if payload.starts_with(&[0x24, 0x11]) => {
+                reach.reply(&payload[2..])
+            }
             Ok(Next::Case(b'P')) => reach.hit("another code point"),
             Ok(Next::Case(b'L')) if payload.len() >= 2 => reach.reply(&payload[2..]),
             _ => {
