@@ -24,13 +24,14 @@
 //! | candidates |  150 |  100 |  100 | 3300 | strings that the name scan takes, and repeats     |
 //! | layouts    |  250 |  100 |  100 | 2400 | layouts of any type, names in m, s and extension  |
 //! | sqlca      |  500 | 7030 | 6530 |  200 | a SQLCA alone, whole or cut, codes and messages   |
-//! | small      | 1175 | 1790 | 1790 | 1837 | every size from 0 to 64                           |
+//! | small      | 1115 | 1790 | 1790 | 1837 | every size from 0 to 64                           |
 //! | longest    |    3 |   10 |   10 |    3 | 65,534 to 65,536 bytes (slow in the Rust)         |
+//! | nearly     |   60 |    - |    - |    - | one name, almost COL and digits, names behind it  |
 //! | full       |   50 |    - |    - |    - | lists of 511 to 513, by the last reader to 800    |
 //! | filled     |   12 |    - |    - |    - | other families, filled up to 65,535 to 65,537     |
 //! | too long   |   20 |   20 |   20 |   20 | 65,537 to 65,540 bytes, and 70,000                |
 //!
-//! Of all but the last five, 35 in 100 are damaged by one to three edits, and so are 15 in 100 of
+//! Of all but the last six, 35 in 100 are damaged by one to three edits, and so are 15 in 100 of
 //! the SQLCAs on the edges. P has the right code point in 92 of 100. L lends as many records as
 //! the count says, one less or one more, a number up to 17 or next to 256, 512 and 4,095, or all
 //! 4,096. `target/oracle/reach` tells how often each reading is reached.
@@ -65,7 +66,7 @@ const USAGE: &str = "usage: generate SEED COUNT [ENTRIES] [--from CASE] [--progr
 type Maker = fn(&mut Random) -> Vec<u8>;
 
 /// The rows of the table above that can be damaged, then the others.
-const MAKERS: [Maker; 14] = [
+const MAKERS: [Maker; 15] = [
     replies::standard,
     replies::compact,
     replies::last,
@@ -78,23 +79,24 @@ const MAKERS: [Maker; 14] = [
     replies::sqlca,
     replies::small,
     replies::longest,
+    replies::nearly_generated,
     replies::full,
     replies::filled,
 ];
 const DAMAGED_MAKERS: usize = 10;
 
 /// The columns of the table above.
-const DESCRIPTION: [usize; 15] = [
-    3200, 1500, 650, 1450, 550, 450, 40, 150, 250, 500, 1175, 3, 50, 12, 20,
+const DESCRIPTION: [usize; 16] = [
+    3200, 1500, 650, 1450, 550, 450, 40, 150, 250, 500, 1115, 3, 60, 50, 12, 20,
 ];
-const STATUS: [usize; 15] = [
-    400, 150, 150, 150, 50, 46, 4, 100, 100, 7030, 1790, 10, 0, 0, 20,
+const STATUS: [usize; 16] = [
+    400, 150, 150, 150, 50, 46, 4, 100, 100, 7030, 1790, 10, 0, 0, 0, 20,
 ];
-const GROUP: [usize; 15] = [
-    900, 150, 150, 150, 50, 46, 4, 100, 100, 6530, 1790, 10, 0, 0, 20,
+const GROUP: [usize; 16] = [
+    900, 150, 150, 150, 50, 46, 4, 100, 100, 6530, 1790, 10, 0, 0, 0, 20,
 ];
-const NAMES: [usize; 15] = [
-    900, 300, 200, 600, 100, 100, 40, 3300, 2400, 200, 1837, 3, 0, 0, 20,
+const NAMES: [usize; 16] = [
+    900, 300, 200, 600, 100, 100, 40, 3300, 2400, 200, 1837, 3, 0, 0, 0, 20,
 ];
 
 fn reply(r: &mut Random, entry: u8) -> Vec<u8> {

@@ -600,10 +600,41 @@ pub fn longest(r: &mut Random) -> Vec<u8> {
     out
 }
 
+/// A list with one name, which is almost COL and digits, and another reply behind it, which must
+/// lose: a reader that takes the name for a generated one goes on to it.
+pub fn nearly_generated(r: &mut Random) -> Vec<u8> {
+    let in_order = order(r);
+    let mut out = vec![0xFF, 0xFF];
+    let count = r.between(1, 3);
+    number(&mut out, count as u64, 2, in_order);
+    let named = r.below(count);
+    for place in 0..count {
+        let naming = r.pick(&[Naming::Nameless, Naming::Generated]);
+        let mut column = Column::new(r, Range::Known, naming);
+        if place == named {
+            let mut options = Options::new(r, Naming::Nameless);
+            let name = texts::near_generated(r);
+            match (&mut options.extension, r.below(2)) {
+                (Some(extension), at) => extension[7 + at] = name,
+                (None, at) => options.texts[at] = name,
+            }
+            column.options = Some(options);
+        }
+        column.put(r, &mut out, in_order);
+    }
+    let mut behind = match r.below(3) {
+        0 => standard(r),
+        1 => compact(r),
+        _ => scan(r),
+    };
+    out.append(&mut behind);
+    out
+}
+
 /// Lists as long as each reading can give, and one less or more; the last reader has no limit.
 pub fn full(r: &mut Random) -> Vec<u8> {
-    let count = r.pick(&[511, 512, 512, 512, 513]);
-    match r.weighted(&[28, 18, 28, 26]) {
+    let count = r.pick(&[511, 512, 512, 513]);
+    match r.weighted(&[34, 22, 26, 18]) {
         0 => {
             let named = r.pick(&[0, count / 2, count - 1, count]); // the last: none
             full_standard(r, count, count, |_, place| place == named)
