@@ -1,5 +1,8 @@
 //! The oracle's driver: reads cases from standard input, asks the unchanged Rust, and writes
-//! one line of docs/ANSWERS.md for each, for the entries D, P, S, s, G, N and M.
+//! one line of docs/ANSWERS.md for each, for the entries D, L, P, S, s, G, N and M.
+//!
+//! Built with the Rust's private functions made public (`--cfg open`), it also speaks B, which is
+//! no entry: the standard big-endian reading alone, with its refusals, printed as D.
 //!
 //! What is not the Rust's but this project's own:
 //! - refusal 5 (over 65,536 bytes), a limit that the Rust does not have;
@@ -23,6 +26,8 @@ mod frame;
 use db2_proto::ddm::DdmObject;
 use db2_proto::fdoca::ByteOrder;
 use db2_proto::replies::sqlcard::{parse_sqlcard_data, SqlCard};
+#[cfg(open)]
+use db2_proto::replies::sqldard::parse_standard_sqldard_data;
 use db2_proto::replies::sqldard::{
     consume_sqlca_group, parse_sqldard, parse_sqldard_data, scan_column_names, SqlDard,
 };
@@ -73,10 +78,24 @@ fn run() -> io::Result<bool> {
 }
 
 /// Writes the answer to one case; false if there is no such entry, or too little in front of the
-/// reply: P's code point, M's three numbers.
+/// reply: P's code point, L's number of records, M's three numbers.
 fn answer(entry: u8, payload: &[u8], line: &mut Vec<u8>) -> bool {
     match entry {
-        b'D' => description(line, payload, || parse_sqldard_data(payload)),
+        b'D' => description(line, payload, RECORDS_LENT, || parse_sqldard_data(payload)),
+        b'L' => {
+            let Some((lent, reply)) = payload.split_first_chunk::<2>() else {
+                return false;
+            };
+            let lent = usize::from(u16::from_be_bytes(*lent));
+            if lent > RECORDS_LENT {
+                return false;
+            }
+            description(line, reply, lent, || parse_sqldard_data(reply));
+        }
+        #[cfg(open)]
+        b'B' => description(line, payload, RECORDS_LENT, || {
+            parse_standard_sqldard_data(payload, ByteOrder::BigEndian)
+        }),
         b'P' => {
             let Some((code_point, reply)) = payload.split_first_chunk::<2>() else {
                 return false;
@@ -87,10 +106,14 @@ fn answer(entry: u8, payload: &[u8], line: &mut Vec<u8>) -> bool {
                 data: reply.to_vec(),
             };
             if code_point == SQLDARD {
-                description(line, reply, || parse_sqldard(&object));
+                description(line, reply, RECORDS_LENT, || parse_sqldard(&object));
             } else {
                 // 4 comes before 5: the length is not looked at.
-                ask(line, || parse_sqldard(&object), put_description);
+                ask(
+                    line,
+                    || parse_sqldard(&object),
+                    |line, dard| put_description(line, dard, RECORDS_LENT),
+                );
             }
         }
         b'S' => limited(line, payload, |line| {
@@ -140,12 +163,16 @@ fn answer(entry: u8, payload: &[u8], line: &mut Vec<u8>) -> bool {
     true
 }
 
+/// The list that `read` gives, or refusal 6 if it is longer than the `lent` records.
 fn description(
     line: &mut Vec<u8>,
     reply: &[u8],
+    lent: usize,
     read: impl FnOnce() -> Result<SqlDard, ProtoError>,
 ) {
-    limited(line, reply, |line| ask(line, read, put_description));
+    limited(line, reply, |line| {
+        ask(line, read, |line, dard| put_description(line, dard, lent))
+    });
 }
 
 /// The project's own limit, which the Rust does not have.
@@ -321,8 +348,8 @@ fn put_refusal(line: &mut Vec<u8>, error: &ProtoError) {
     put(line, &text);
 }
 
-fn put_description(line: &mut Vec<u8>, dard: SqlDard) {
-    if dard.columns.len() > RECORDS_LENT {
+fn put_description(line: &mut Vec<u8>, dard: SqlDard, lent: usize) {
+    if dard.columns.len() > lent {
         return put(line, &format!("E6 {}", dard.columns.len()));
     }
     put(line, &format!("OK n={}", dard.num_columns));

@@ -1,16 +1,18 @@
-//! Writes cases of docs/ANSWERS.md for the entries D, P, S, s, G, N and M, made from a seed.
+//! Writes cases of docs/ANSWERS.md for the entries D, d, L, P, S, s, G, N and M, made from a seed.
 //!
 //!     generate SEED COUNT [ENTRIES] [--from CASE] [--progress]
 //!
-//! SEED is any number below 2^64. Each case is for one of ENTRIES (some of DPSGNMs, default
+//! SEED is any number below 2^64. Each case is for one of ENTRIES (some of DdLPSGNMs, default
 //! DPSGN), all equally often. The same SEED and ENTRIES give the same cases on every machine;
 //! --from starts at a later case than 0, so that one case can be made again without those before
 //! it. Progress goes to standard error once a second if that is a terminal, or with --progress.
+//! ENTRIES may be x instead, which is no entry: exchanges of a column's description, of which
+//! tests/exchanges makes cases (exchanges.rs).
 //!
 //! Half of the cases of S, s and G are SQLCAs on the edges of their fields (cards.rs). What the
 //! others hold, in 10,000 of each entry:
 //!
-//! | family     | D, P | S, s |    G |    N | replies                                           |
+//! | family     | DdLP | S, s |    G |    N | replies                                           |
 //! |------------|-----:|-----:|-----:|-----:|---------------------------------------------------|
 //! | standard   | 3200 |  400 |  900 |  900 | every group present or absent, BE and LE          |
 //! | compact    | 1500 |  150 |  150 |  300 | compact tables, with and without FF, names to 65  |
@@ -22,18 +24,24 @@
 //! | candidates |  150 |  100 |  100 | 3300 | strings that the name scan takes, and repeats     |
 //! | layouts    |  250 |  100 |  100 | 2400 | layouts of any type, names in m, s and extension  |
 //! | sqlca      |  500 | 7030 | 6530 |  200 | a SQLCA alone, whole or cut, codes and messages   |
-//! | small      | 1237 | 1790 | 1790 | 1837 | every size from 0 to 64                           |
+//! | small      | 1115 | 1790 | 1790 | 1837 | every size from 0 to 64                           |
 //! | longest    |    3 |   10 |   10 |    3 | 65,534 to 65,536 bytes (slow in the Rust)         |
+//! | nearly     |   60 |    - |    - |    - | one name, almost COL and digits, names behind it  |
+//! | full       |   50 |    - |    - |    - | lists of 511 to 513, by the last reader to 800    |
+//! | filled     |   12 |    - |    - |    - | other families, filled up to 65,535 to 65,537     |
 //! | too long   |   20 |   20 |   20 |   20 | 65,537 to 65,540 bytes, and 70,000                |
 //!
-//! Of all but the last three, 35 in 100 are damaged by one to three edits, and so are 15 in 100 of
-//! the SQLCAs on the edges. P has the right code point in 92 of 100.
+//! Of all but the last six, 35 in 100 are damaged by one to three edits, and so are 15 in 100 of
+//! the SQLCAs on the edges. P has the right code point in 92 of 100. L lends as many records as
+//! the count says, one less or one more, a number up to 17 or next to 256, 512 and 4,095, or all
+//! 4,096. `target/oracle/reach` tells how often each reading is reached.
 //!
 //! M has a message of its own making (messages.rs): in 10,000, 9,930 of 0 to some 300 bytes, 40
 //! longer ones, 10 in replies up to the limit, 20 in replies beyond it. A quarter asks for
 //! another part of the reply, at its end or beyond it; rooms are about the text's length.
 
 mod cards;
+mod exchanges;
 #[allow(dead_code)] // writes cases, reads none
 mod frame;
 mod groups;
@@ -47,16 +55,18 @@ use std::io::{self, BufWriter, IsTerminal, Write};
 use std::process::ExitCode;
 use std::time::{Duration, Instant};
 
-const ENTRIES: &str = "DPSGNMs";
+const ENTRIES: &str = "DdLPSGNMs";
+const EXCHANGES: &str = "x";
 const DEFAULT_ENTRIES: &str = "DPSGN";
 const SQLDARD: u16 = 0x2411;
+const MOST_LENT: u16 = 4_096;
 
 const USAGE: &str = "usage: generate SEED COUNT [ENTRIES] [--from CASE] [--progress]";
 
 type Maker = fn(&mut Random) -> Vec<u8>;
 
-/// The rows of the table above that can be damaged, then `small` and `longest`.
-const MAKERS: [Maker; 12] = [
+/// The rows of the table above that can be damaged, then the others.
+const MAKERS: [Maker; 15] = [
     replies::standard,
     replies::compact,
     replies::last,
@@ -69,17 +79,24 @@ const MAKERS: [Maker; 12] = [
     replies::sqlca,
     replies::small,
     replies::longest,
+    replies::nearly_generated,
+    replies::full,
+    replies::filled,
 ];
 const DAMAGED_MAKERS: usize = 10;
 
 /// The columns of the table above.
-const DESCRIPTION: [usize; 13] = [
-    3200, 1500, 650, 1450, 550, 450, 40, 150, 250, 500, 1237, 3, 20,
+const DESCRIPTION: [usize; 16] = [
+    3200, 1500, 650, 1450, 550, 450, 40, 150, 250, 500, 1115, 3, 60, 50, 12, 20,
 ];
-const STATUS: [usize; 13] = [400, 150, 150, 150, 50, 46, 4, 100, 100, 7030, 1790, 10, 20];
-const GROUP: [usize; 13] = [900, 150, 150, 150, 50, 46, 4, 100, 100, 6530, 1790, 10, 20];
-const NAMES: [usize; 13] = [
-    900, 300, 200, 600, 100, 100, 40, 3300, 2400, 200, 1837, 3, 20,
+const STATUS: [usize; 16] = [
+    400, 150, 150, 150, 50, 46, 4, 100, 100, 7030, 1790, 10, 0, 0, 0, 20,
+];
+const GROUP: [usize; 16] = [
+    900, 150, 150, 150, 50, 46, 4, 100, 100, 6530, 1790, 10, 0, 0, 0, 20,
+];
+const NAMES: [usize; 16] = [
+    900, 300, 200, 600, 100, 100, 40, 3300, 2400, 200, 1837, 3, 0, 0, 0, 20,
 ];
 
 fn reply(r: &mut Random, entry: u8) -> Vec<u8> {
@@ -98,7 +115,7 @@ fn reply(r: &mut Random, entry: u8) -> Vec<u8> {
     };
     let family = r.weighted(weights);
     let Some(maker) = MAKERS.get(family) else {
-        let room = if entry == b'P' { 2 } else { 0 };
+        let room = if matches!(entry, b'L' | b'P') { 2 } else { 0 };
         return replies::too_long(r, frame::LONGEST - room);
     };
     let mut reply = maker(r);
@@ -110,20 +127,50 @@ fn reply(r: &mut Random, entry: u8) -> Vec<u8> {
 
 fn case(r: &mut Random, request: &Request) -> (u8, Vec<u8>) {
     let entry = r.pick(&request.entries);
-    match entry {
-        b'M' => return (entry, messages::case(r)),
-        b'P' => {}
-        _ => return (entry, reply(r, entry)),
-    }
-    let code_point = if r.chance(92) {
-        SQLDARD
-    } else {
-        let other = r.next() as u16;
-        r.pick(&[0x2408, 0x2410, 0x1124, 0x0000, 0xFFFF, other])
+    let payload = match entry {
+        b'x' => exchanges::exchange(r),
+        b'M' => messages::case(r),
+        b'P' => {
+            let code_point = code_point(r);
+            [&code_point.to_be_bytes()[..], &reply(r, entry)].concat()
+        }
+        b'L' => {
+            let reply = reply(r, entry);
+            let lent = lent(r, &reply);
+            [&lent.to_be_bytes()[..], &reply].concat()
+        }
+        _ => reply(r, entry),
     };
-    let mut payload = code_point.to_be_bytes().to_vec();
-    payload.append(&mut reply(r, entry));
     (entry, payload)
+}
+
+fn code_point(r: &mut Random) -> u16 {
+    if r.chance(92) {
+        return SQLDARD;
+    }
+    let other = r.next() as u16;
+    r.pick(&[0x2408, 0x2410, 0x1124, 0x0000, 0xFFFF, other])
+}
+
+/// How many records are lent: most often about as many as the reply's count, where it stands
+/// behind the shortest head and one byte order makes it small.
+fn lent(r: &mut Random, reply: &[u8]) -> u16 {
+    let count = match reply {
+        [0xFF, 0xFF, a, b, ..] => {
+            let count = u16::from_be_bytes([*a, *b]);
+            Some(count.min(count.swap_bytes())).filter(|count| *count <= MOST_LENT)
+        }
+        _ => None,
+    };
+    match (count, r.weighted(&[45, 20, 10, 25])) {
+        (Some(count), 0) => {
+            let moved = r.pick(&[count, count, count.saturating_sub(1), count + 1]);
+            moved.min(MOST_LENT)
+        }
+        (None, 0) | (_, 1) => r.pick(&[0, 1, 1, 2, 2, 3, 3, 4, 5, 6, 8, 12, 16, 17]),
+        (_, 2) => r.pick(&[255, 256, 257, 511, 512, 513, 799, 800, 4_094, 4_095]),
+        _ => MOST_LENT,
+    }
 }
 
 struct Request {
@@ -152,7 +199,8 @@ fn request(arguments: impl Iterator<Item = String>) -> Result<Request, String> {
         [seed, count, entries] => (seed, count, entries.as_str()),
         _ => return Err(USAGE.into()),
     };
-    if entries.is_empty() || !entries.chars().all(|entry| ENTRIES.contains(entry)) {
+    let known = !entries.is_empty() && entries.chars().all(|entry| ENTRIES.contains(entry));
+    if !known && entries != EXCHANGES {
         return Err(format!("entries are some of {ENTRIES}, not {entries:?}"));
     }
     Ok(Request {

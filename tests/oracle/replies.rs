@@ -600,6 +600,122 @@ pub fn longest(r: &mut Random) -> Vec<u8> {
     out
 }
 
+/// A list with one name, which is almost COL and digits, and another reply behind it, which must
+/// lose: a reader that takes the name for a generated one goes on to it.
+pub fn nearly_generated(r: &mut Random) -> Vec<u8> {
+    let in_order = order(r);
+    let mut out = vec![0xFF, 0xFF];
+    let count = r.between(1, 3);
+    number(&mut out, count as u64, 2, in_order);
+    let named = r.below(count);
+    for place in 0..count {
+        let naming = r.pick(&[Naming::Nameless, Naming::Generated]);
+        let mut column = Column::new(r, Range::Known, naming);
+        if place == named {
+            let mut options = Options::new(r, Naming::Nameless);
+            let name = texts::near_generated(r);
+            match (&mut options.extension, r.below(2)) {
+                (Some(extension), at) => extension[7 + at] = name,
+                (None, at) => options.texts[at] = name,
+            }
+            column.options = Some(options);
+        }
+        column.put(r, &mut out, in_order);
+    }
+    let mut behind = match r.below(3) {
+        0 => standard(r),
+        1 => compact(r),
+        _ => scan(r),
+    };
+    out.append(&mut behind);
+    out
+}
+
+/// Lists as long as each reading can give, and one less or more; the last reader has no limit.
+pub fn full(r: &mut Random) -> Vec<u8> {
+    let count = r.pick(&[511, 512, 512, 513]);
+    match r.weighted(&[34, 22, 26, 18]) {
+        0 => {
+            let named = r.pick(&[0, count / 2, count - 1, count]); // the last: none
+            full_standard(r, count, count, |_, place| place == named)
+        }
+        1 => full_compact(r, count),
+        // No column by its count, so left to the scan, which wants names.
+        2 if r.chance(50) => full_standard(r, 0, count, |r, _| r.chance(45)),
+        2 => full_standard(r, 0, count, |_, place| place + 1 < count),
+        _ => full_last(r),
+    }
+}
+
+fn full_standard(
+    r: &mut Random,
+    declared: usize,
+    count: usize,
+    has_name: impl Fn(&mut Random, usize) -> bool,
+) -> Vec<u8> {
+    let order = order(r);
+    let mut out = vec![0xFF, 0xFF];
+    number(&mut out, declared as u64, 2, order);
+    for place in 0..count {
+        let name = has_name(r, place).then(|| texts::identifier(r, 2));
+        Column::plain(r, Range::Known, name).put(r, &mut out, order);
+    }
+    out
+}
+
+fn full_compact(r: &mut Random, count: usize) -> Vec<u8> {
+    let mut out = vec![0xFF, 0xFF];
+    number(&mut out, count as u64, 2, Order::Little);
+    let named = r.pick(&[0, 1, 40]);
+    for _ in 0..count {
+        Numbers::new(r, Range::Compact).put(&mut out, Order::Little);
+        if r.chance(named) {
+            out.push(2);
+            out.append(&mut texts::identifier(r, 2));
+        } else {
+            out.push(0);
+        }
+        out.push(0xFF);
+    }
+    out
+}
+
+/// Nothing in it can be taken for a compact descriptor, wherever one looks.
+fn full_last(r: &mut Random) -> Vec<u8> {
+    let count = r.pick(&[512, 513, 514, 799, 800]);
+    let mut out = vec![0xFF, 0xFF];
+    number(&mut out, count as u64, 2, Order::Little);
+    for _ in 0..r.pick(&[count, count, count - 1, count + 1]) {
+        let numbers = Numbers {
+            precision: 0,
+            scale: 0,
+            length: r.below(60) as u64,
+            sql_type: r.pick(&[0, 1, 2, 396]),
+            ccsid: r.pick(&[37, 1208]),
+        };
+        numbers.put(&mut out, Order::Little);
+        if r.chance(3) {
+            short_name(r, &mut out);
+        }
+        out.extend_from_slice(&[0xFF; 3]);
+    }
+    out
+}
+
+/// Replies of other families, filled up to the limit, one byte less or one more.
+pub fn filled(r: &mut Random) -> Vec<u8> {
+    let mut out = match r.weighted(&[50, 15, 15, 20]) {
+        0 => standard(r),
+        1 => compact(r),
+        2 => scan(r),
+        _ => last(r),
+    };
+    let size = r.pick(&[65_535, 65_536, 65_536, 65_537]);
+    let byte = r.pick(&[0x00, 0x00, 0xFF, 0x41]);
+    out.resize(size, byte);
+    out
+}
+
 /// Over the limit by little, or as far as a case can be.
 pub fn too_long(r: &mut Random, most: usize) -> Vec<u8> {
     let size = if r.chance(95) {

@@ -95,7 +95,7 @@ pub fn generated(r: &mut Random) -> Vec<u8> {
 }
 
 /// Texts that are almost COL and digits; ASCII ones keep their blanks.
-fn near_generated(r: &mut Random) -> Vec<u8> {
+pub fn near_generated(r: &mut Random) -> Vec<u8> {
     let texts = [
         &b"COL"[..],
         b"COLX",
