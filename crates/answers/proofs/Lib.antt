@@ -1,2 +1,3 @@
 pub mod ColumnMetadataRow
+pub mod Counts
 pub mod Known
