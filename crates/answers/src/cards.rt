@@ -1,7 +1,6 @@
 // The entries that read a status record: S, s and G.
 ghost use Prim.Native.Nat.{_≤_};
 ghost use lib.ListN.{length};
-use crate::status;
 
 // S: the status alone.
 pub fn put_status_alone(out: &mut [u8], used: usize, reply: &[u8], room: &mut [u8]) -> usize
@@ -15,7 +14,7 @@ pub fn put_status_alone(out: &mut [u8], used: usize, reply: &[u8], room: &mut [u
     }
     let card = answer.card;
     let next = output::put_bytes(out, used, b"OK");
-    status::put_status(out, next, reply, card, room)
+    card_output::put_status(out, next, reply, card, room)
 }
 
 // s: the same, and where the message stands in the reply.
@@ -46,5 +45,5 @@ pub fn put_group(out: &mut [u8], used: usize, reply: &[u8], room: &mut [u8]) -> 
     let card = answer.card;
     let next = output::put_bytes(out, used, b"OK g=");
     let next = output::put_number(out, next, answer.length as u64);
-    status::put_status(out, next, reply, card, room)
+    card_output::put_status(out, next, reply, card, room)
 }

@@ -111,7 +111,7 @@ fn hex_digit(value: u8) -> u8
     if value < 10 { 48 + value } else { 87 + value }
 }
 
-fn put_hex_byte(out: &mut [u8], used: usize, byte: u8) -> usize
+pub fn put_hex_byte(out: &mut [u8], used: usize, byte: u8) -> usize
     requires { ⌜ used ≤ length (now out) ⌝ }
     ensures { λ r. ⌜ r ≤ length (now (out .exit)) ⌝ }
 {
@@ -147,7 +147,8 @@ pub fn put_hex_first(out: &mut [u8], used: usize, bytes: &[u8], count: usize) ->
     put_hex(out, used, &bytes[0..count])
 }
 
-fn put_value(out: &mut [u8], used: usize, value: usize) -> usize
+// A value behind a blank.
+pub fn put_value(out: &mut [u8], used: usize, value: usize) -> usize
     requires { ⌜ used ≤ length (now out) ⌝ }
     ensures { λ r. ⌜ r ≤ length (now (out .exit)) ⌝ }
 {

@@ -4,8 +4,8 @@ use mathlib.Core.Path.{_≡_}
 use Prim.Native.Nat.{_≤_, _-_}
 use lib.ListN.{length}
 use borrow.Author.Needs.{needs}
-use Rattle.answers.proofs.status.put_errors.Statement.{statement}
-use Rattle.answers.proofs.status.put_errors.Tie as tie
+use Rattle.card_output.proofs.put_errors.Statement.{statement}
+use Rattle.card_output.proofs.put_errors.Tie as tie
 
 abbrev Inv-loop : tie.InvT-loop
 Inv-loop out₀ used errors next₀ i₀ mark₀ out next i mark = (next ≤ length out) × (length out ≡ length out₀)

@@ -1,0 +1,3 @@
+-- Made by tools/lists.py: do not edit.
+pub mod column_output
+pub mod sqldard

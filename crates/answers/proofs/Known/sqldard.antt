@@ -1,0 +1,3 @@
+-- Made by tools/lists.py: do not edit.
+pub mod parse_sqldard
+pub mod parse_sqldard_data

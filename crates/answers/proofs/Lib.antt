@@ -1,0 +1,3 @@
+pub mod ColumnMetadataRow
+pub mod Counts
+pub mod Known
