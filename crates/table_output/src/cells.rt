@@ -57,7 +57,7 @@ fn put_page037(out: &mut [u8], used: usize, bytes: &[u8]) -> usize
     let mut next = used;
     let mut i = 0;
     while i < bytes.len() {
-        let character = table[bytes[i] as usize];
+        let character = codepage::char_by(&table, bytes[i]);
         next = put_character(out, next, character);
         i += 1;
     }

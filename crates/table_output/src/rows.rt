@@ -69,18 +69,43 @@ fn put_type_cell(out: &mut [u8], used: usize, column: ColumnMetadata, width: usi
     cells::put_gap(out, next, type_names::type_width(db2_type), width)
 }
 
+fn put_nullable_cell(out: &mut [u8], used: usize, nullable: bool) -> usize
+    requires { ⌜ used ≤ length (now out) ⌝ }
+    ensures { λ r. ⌜ r ≤ length (now (out .exit)) ⌝ }
+{
+    if nullable {
+        return cells::put_word_cell(out, used, b"yes", 8);
+    }
+    cells::put_word_cell(out, used, b"no", 8)
+}
+
 // From length to CCSID.
 fn put_numbers(out: &mut [u8], used: usize, column: ColumnMetadata) -> usize
     requires { ⌜ used ≤ length (now out) ⌝ }
     ensures { λ r. ⌜ r ≤ length (now (out .exit)) ⌝ }
 {
     let next = cells::put_number_cell(out, used, column.length, 6);
-    let next = if column.nullable {
-        cells::put_word_cell(out, next, b"yes", 8)
-    } else {
-        cells::put_word_cell(out, next, b"no", 8)
-    };
+    let next = put_nullable_cell(out, next, column.nullable);
     cells::put_number_cell(out, next, column.ccsid, 5)
+}
+
+// From number to CCSID.
+fn put_front(
+    out: &mut [u8],
+    used: usize,
+    reply: &[u8],
+    column: ColumnMetadata,
+    widths: Widths,
+) -> usize
+    requires { ⌜ used ≤ length (now out) ⌝ }
+    ensures { λ r. ⌜ r ≤ length (now (out .exit)) ⌝ }
+{
+    let number = column.number;
+    let name = column.name;
+    let next = cells::put_number_cell(out, used, number, 6);
+    let next = cells::put_text_cell(out, next, reply, name, number, widths.name);
+    let next = put_type_cell(out, next, column, widths.db2_type);
+    put_numbers(out, next, column)
 }
 
 // The line of a column.
@@ -95,14 +120,10 @@ pub fn put_row(
     ensures { λ r. ⌜ r ≤ length (now (out .exit)) ⌝ }
 {
     let number = column.number;
-    let name = column.name;
     let label = column.label;
     let schema = column.schema_name;
     let table = column.base_table_name;
-    let next = cells::put_number_cell(out, used, number, 6);
-    let next = cells::put_text_cell(out, next, reply, name, number, widths.name);
-    let next = put_type_cell(out, next, column, widths.db2_type);
-    let next = put_numbers(out, next, column);
+    let next = put_front(out, used, reply, column, widths);
     let next = cells::put_text_cell(out, next, reply, label, number, widths.label);
     let next = cells::put_text_cell(out, next, reply, schema, number, widths.schema);
     let next = cells::put_text(out, next, reply, table, number);

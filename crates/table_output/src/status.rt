@@ -56,7 +56,10 @@ fn put_message(out: &mut [u8], used: usize, reply: &[u8], card: SqlCard, room: &
 {
     let text = message::message_text(reply, card.message_place, card.message_length, room);
     let count = text.length;
-    if (count == 0) | (room.len() < count) {
+    if count == 0 {
+        return used;
+    }
+    if room.len() < count {
         return used;
     }
     let next = output::put_bytes(out, used, b"message: ");

@@ -16,6 +16,7 @@ struct TypeName {
 fn named(letters: [u8; 10], count: usize) -> TypeName
     requires { ⌜ count ≤ 10 ⌝ }
     ensures { λ r. ⌜ r .count ≤ 10 ⌝ }
+    ensures { λ r. ⌜ r .count ≤ length (r .letters) ⌝ }
 {
     TypeName {
         letters,
@@ -29,6 +30,7 @@ fn named(letters: [u8; 10], count: usize) -> TypeName
 fn with_value(letters: [u8; 10], count: usize, first: u16) -> TypeName
     requires { ⌜ count ≤ 10 ⌝ }
     ensures { λ r. ⌜ r .count ≤ 10 ⌝ }
+    ensures { λ r. ⌜ r .count ≤ length (r .letters) ⌝ }
 {
     TypeName {
         letters,
@@ -41,6 +43,7 @@ fn with_value(letters: [u8; 10], count: usize, first: u16) -> TypeName
 
 fn decimal(precision: u8, scale: u8) -> TypeName
     ensures { λ r. ⌜ r .count ≤ 10 ⌝ }
+    ensures { λ r. ⌜ r .count ≤ length (r .letters) ⌝ }
 {
     let letters = *b"Decimal   ";
     TypeName {
@@ -54,6 +57,7 @@ fn decimal(precision: u8, scale: u8) -> TypeName
 
 fn type_name(db2_type: Db2Type) -> TypeName
     ensures { λ r. ⌜ r .count ≤ 10 ⌝ }
+    ensures { λ r. ⌜ r .count ≤ length (r .letters) ⌝ }
 {
     match db2_type {
         Db2Type::SmallInt => named(*b"SmallInt  ", 8),
@@ -82,29 +86,41 @@ fn type_name(db2_type: Db2Type) -> TypeName
 }
 
 // How many characters `put_type` puts.
-pub fn type_width(db2_type: Db2Type) -> usize
-    ensures { λ r. ⌜ r ≤ 100 ⌝ }
-{
+pub fn type_width(db2_type: Db2Type) -> usize {
     let name = type_name(db2_type);
-    let first = 1 + cells::digits(name.first as usize);
-    let second = 1 + cells::digits(name.second as usize);
-    match name.values {
-        0 => name.count,
-        1 => name.count + first + 1,
-        _ => name.count + first + second + 1,
+    let count = name.count;
+    let first = cells::digits(name.first as usize);
+    let second = cells::digits(name.second as usize);
+    let values = name.values;
+    match values {
+        0 => count,
+        1 => count + first + 2,
+        _ => count + first + second + 3,
     }
+}
+
+// The second value, with the comma before it.
+fn put_second(out: &mut [u8], used: usize, name: TypeName) -> usize
+    requires { ⌜ used ≤ length (now out) ⌝ }
+    ensures { λ r. ⌜ r ≤ length (now (out .exit)) ⌝ }
+{
+    if name.values < 2 {
+        return used;
+    }
+    let next = output::put_byte(out, used, b',');
+    output::put_number(out, next, name.second as u64)
 }
 
 fn put_values(out: &mut [u8], used: usize, name: TypeName) -> usize
     requires { ⌜ used ≤ length (now out) ⌝ }
     ensures { λ r. ⌜ r ≤ length (now (out .exit)) ⌝ }
 {
-    let mut next = output::put_byte(out, used, b'(');
-    next = output::put_number(out, next, name.first as u64);
-    if name.values == 2 {
-        next = output::put_byte(out, next, b',');
-        next = output::put_number(out, next, name.second as u64);
+    if name.values == 0 {
+        return used;
     }
+    let next = output::put_byte(out, used, b'(');
+    let next = output::put_number(out, next, name.first as u64);
+    let next = put_second(out, next, name);
     output::put_byte(out, next, b')')
 }
 
@@ -116,8 +132,5 @@ pub fn put_type(out: &mut [u8], used: usize, db2_type: Db2Type) -> usize
     let letters = name.letters;
     let count = name.count;
     let next = output::put_bytes(out, used, &letters[0..count]);
-    if name.values == 0 {
-        return next;
-    }
     put_values(out, next, name)
 }

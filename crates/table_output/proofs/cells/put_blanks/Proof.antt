@@ -1,42 +1,17 @@
+-- Each blank that is put leaves the position inside `out`, and its length as it was.
+-- Assumes nothing.
+use mathlib.Core.Path.{_≡_}
+use Prim.Native.Nat.{_≤_, _-_}
+use lib.ListN.{length}
+use borrow.Author.Needs.{needs}
 use Rattle.table_output.proofs.cells.put_blanks.Statement.{statement}
 use Rattle.table_output.proofs.cells.put_blanks.Tie as tie
-use Rattle.table_output.proofs.cells.put_blanks.Reads as reads
-use Rattle.table_output.proofs.cells.put_blanks.Lts as lts
-use Rattle.output.proofs.put_byte.Reads as put-byte-reads
 
 abbrev Inv-loop : tie.InvT-loop
-Inv-loop out₀ used count next₀ i₀ out next i = ?
+Inv-loop out₀ used count next₀ i₀ out next i = (next ≤ length out) × (length out ≡ length out₀)
 
 abbrev μ-loop : tie.MeasureT-loop
-μ-loop out₀ used count next₀ i₀ out next i = ?
-
--- src/cells.rt:119:5
-loop-holds : tie.Need-loop-holds Inv-loop μ-loop
-loop-holds c = ?
-
--- src/cells.rt:120:9
-put-byte-requires : tie.Need-put-byte-requires Inv-loop μ-loop
-put-byte-requires c κs = ?
-
--- src/cells.rt:121:9
-add-i : tie.Need-add-i Inv-loop μ-loop
-add-i c = ?
-
--- src/cells.rt:119:5
-loop-less : tie.Need-loop-less Inv-loop μ-loop
-loop-less c = ?
-
--- src/cells.rt:119:5
-loop-again : tie.Need-loop-again Inv-loop μ-loop
-loop-again c = ?
-
--- src/cells.rt:113:1
-same-length : tie.Need-same-length Inv-loop μ-loop
-same-length c = ?
-
--- src/cells.rt:113:1
-returns : tie.Need-returns Inv-loop μ-loop
-returns c = ?
+μ-loop out₀ used count next₀ i₀ out next i = count - i
 
 pub put-blanks-spec : {M : Type 1} → statement M
 put-blanks-spec =
@@ -44,10 +19,10 @@ put-blanks-spec =
     (tie.spec
     Inv-loop
     μ-loop
-    loop-holds
-    put-byte-requires
-    add-i
-    loop-less
-    loop-again
-    same-length
-    returns)
+    (search needs)
+    (search needs)
+    (search needs)
+    (search needs)
+    (search needs)
+    (search needs)
+    (search needs))

@@ -1,46 +1,17 @@
+-- Each character that is put leaves the position inside `out`, and its length as it was.
+-- Assumes nothing.
+use mathlib.Core.Path.{_≡_}
+use Prim.Native.Nat.{_≤_, _-_}
+use lib.ListN.{length}
+use borrow.Author.Needs.{needs}
 use Rattle.table_output.proofs.cells.put_characters.Statement.{statement}
 use Rattle.table_output.proofs.cells.put_characters.Tie as tie
-use Rattle.table_output.proofs.cells.put_characters.Reads as reads
-use Rattle.table_output.proofs.cells.put_characters.Lts as lts
-use Rattle.table_output.proofs.cells.put_character.Reads as put-character-reads
 
 abbrev Inv-loop : tie.InvT-loop
-Inv-loop out₀ used characters next₀ i₀ out next i = ?
+Inv-loop out₀ used characters next₀ i₀ out next i = (next ≤ length out) × (length out ≡ length out₀)
 
 abbrev μ-loop : tie.MeasureT-loop
-μ-loop out₀ used characters next₀ i₀ out next i = ?
-
--- src/cells.rt:44:5
-loop-holds : tie.Need-loop-holds Inv-loop μ-loop
-loop-holds c = ?
-
--- src/cells.rt:45:41
-shared-slice-read-put-character : tie.Need-shared-slice-read-put-character Inv-loop μ-loop
-shared-slice-read-put-character c = ?
-
--- src/cells.rt:45:9
-put-character-requires : tie.Need-put-character-requires Inv-loop μ-loop
-put-character-requires c κs = ?
-
--- src/cells.rt:46:9
-add-i : tie.Need-add-i Inv-loop μ-loop
-add-i c = ?
-
--- src/cells.rt:44:5
-loop-less : tie.Need-loop-less Inv-loop μ-loop
-loop-less c = ?
-
--- src/cells.rt:44:5
-loop-again : tie.Need-loop-again Inv-loop μ-loop
-loop-again c = ?
-
--- src/cells.rt:38:1
-same-length : tie.Need-same-length Inv-loop μ-loop
-same-length c = ?
-
--- src/cells.rt:38:1
-returns : tie.Need-returns Inv-loop μ-loop
-returns c = ?
+μ-loop out₀ used characters next₀ i₀ out next i = length characters - i
 
 pub put-characters-spec : {M : Type 1} → statement M
 put-characters-spec =
@@ -48,11 +19,11 @@ put-characters-spec =
     (tie.spec
     Inv-loop
     μ-loop
-    loop-holds
-    shared-slice-read-put-character
-    put-character-requires
-    add-i
-    loop-less
-    loop-again
-    same-length
-    returns)
+    (search needs)
+    (search needs)
+    (search needs)
+    (search needs)
+    (search needs)
+    (search needs)
+    (search needs)
+    (search needs))
