@@ -1,0 +1,3 @@
+-- Made by tools/lists.py: do not edit.
+pub mod columns
+pub mod sqldard

@@ -1,0 +1,3 @@
+-- Made by tools/lists.py: do not edit.
+pub mod put_rows
+pub mod widths_of
