@@ -1,4 +1,4 @@
--- Made by tools/lists.py from the source of `describe::columns::put_description`: do not edit.
+-- Made by tools/lists.py from the source of `describe::put_description`: do not edit.
 use Rattle.describe.proofs.ColumnMetadataRow as ColumnMetadataRow
 use Prim.Native.Nat
 use Rattle.outcome.proofs.Outcome
@@ -198,7 +198,7 @@ abbrev b19 : Syntax.Body
 b19 = Syntax.assign (Syntax.place 19 List.[]) (Syntax.aggregate (List._∷_ (Syntax.copy (Syntax.place 18 List.[])) (List._∷_ (Syntax.copy (Syntax.place 9 List.[])) List.[])))
 
 abbrev b20 : Syntax.Body
-b20 = Syntax.call "describe::columns::widths_of" (List._∷_ (Syntax.copy (Syntax.place 19 List.[])) List.[]) (Syntax.place 11 List.[])
+b20 = Syntax.call "describe::widths_of" (List._∷_ (Syntax.copy (Syntax.place 19 List.[])) List.[]) (Syntax.place 11 List.[])
 
 abbrev b21 : Syntax.Body
 b21 = Syntax.assign (Syntax.place 20 List.[]) (Syntax.addrOf (Syntax.place 1 (List._∷_ (Syntax.field 0) (List._∷_ (Syntax.deref (Syntax.tyInt Syntax.w8)) List.[]))))
@@ -213,7 +213,7 @@ abbrev b24 : Syntax.Body
 b24 = Syntax.assign (Syntax.place 23 List.[]) (Syntax.aggregate (List._∷_ (Syntax.copy (Syntax.place 22 List.[])) (List._∷_ (Syntax.copy (Syntax.place 4 (List._∷_ (Syntax.field 1) List.[]))) List.[])))
 
 abbrev b25 : Syntax.Body
-b25 = Syntax.call "describe::columns::put_top" (List._∷_ (Syntax.copy (Syntax.place 21 List.[])) (List._∷_ (Syntax.copy (Syntax.place 2 List.[])) (List._∷_ (Syntax.copy (Syntax.place 3 List.[])) (List._∷_ (Syntax.copy (Syntax.place 10 List.[])) (List._∷_ (Syntax.copy (Syntax.place 23 List.[])) (List._∷_ (Syntax.copy (Syntax.place 9 List.[])) (List._∷_ (Syntax.copy (Syntax.place 11 List.[])) List.[]))))))) (Syntax.place 12 List.[])
+b25 = Syntax.call "describe::put_top" (List._∷_ (Syntax.copy (Syntax.place 21 List.[])) (List._∷_ (Syntax.copy (Syntax.place 2 List.[])) (List._∷_ (Syntax.copy (Syntax.place 3 List.[])) (List._∷_ (Syntax.copy (Syntax.place 10 List.[])) (List._∷_ (Syntax.copy (Syntax.place 23 List.[])) (List._∷_ (Syntax.copy (Syntax.place 9 List.[])) (List._∷_ (Syntax.copy (Syntax.place 11 List.[])) List.[]))))))) (Syntax.place 12 List.[])
 
 abbrev b26 : Syntax.Body
 b26 = Syntax.assign (Syntax.place 24 List.[]) (Syntax.addrOf (Syntax.place 1 (List._∷_ (Syntax.field 0) (List._∷_ (Syntax.deref (Syntax.tyInt Syntax.w8)) List.[]))))
@@ -228,7 +228,7 @@ abbrev b29 : Syntax.Body
 b29 = Syntax.assign (Syntax.place 27 List.[]) (Syntax.aggregate (List._∷_ (Syntax.copy (Syntax.place 26 List.[])) (List._∷_ (Syntax.copy (Syntax.place 9 List.[])) List.[])))
 
 abbrev b30 : Syntax.Body
-b30 = Syntax.call "describe::columns::put_rows" (List._∷_ (Syntax.copy (Syntax.place 25 List.[])) (List._∷_ (Syntax.copy (Syntax.place 12 List.[])) (List._∷_ (Syntax.copy (Syntax.place 3 List.[])) (List._∷_ (Syntax.copy (Syntax.place 27 List.[])) (List._∷_ (Syntax.copy (Syntax.place 11 List.[])) List.[]))))) (Syntax.place 0 List.[])
+b30 = Syntax.call "describe::put_rows" (List._∷_ (Syntax.copy (Syntax.place 25 List.[])) (List._∷_ (Syntax.copy (Syntax.place 12 List.[])) (List._∷_ (Syntax.copy (Syntax.place 3 List.[])) (List._∷_ (Syntax.copy (Syntax.place 27 List.[])) (List._∷_ (Syntax.copy (Syntax.place 11 List.[])) List.[]))))) (Syntax.place 0 List.[])
 
 abbrev b31 : Syntax.Body
 b31 = Syntax.return
@@ -843,7 +843,7 @@ module _ (claims· : Claims) where
   module _ (Pre· : (κs : Lifetimes.Lfts 3) → Kinds.Dens κs ps → Type 0) (Post· : (κs : Lifetimes.Lfts 3) → (a : Kinds.Dens κs ps) → Kinds.Plain 3 ps r κs) where
     module _ (M : Type 1) where
       abbrev pub Closed : Type 2
-      Closed = (𝓤 : URA.URA M) (H : Wp.Heap 𝓤) (A : Atoms.Atoms 𝓤) (W : Kit.Given 𝓤 H A) (𝓣 : Wp.Tables 𝓤 H) (known0 : Plain.Known 𝓤 H A W 𝓣 0 ps·0 r·0 (claims· .0) (claims· .1) "column::blank_column") (known1 : Plain.Known 𝓤 H A W 𝓣 2 ps·1 r·1 (claims· .2) (claims· .3) "sqldard::parse_sqldard_data") (known2 : Plain.Known 𝓤 H A W 𝓣 0 ps·2 r·2 (claims· .4) (claims· .5) "outcome::is_refused") (known3 : Plain.Known 𝓤 H A W 𝓣 1 ps·3 r·3 (claims· .6) (claims· .7) "table_output::status::put_refusal") (known4 : Plain.Known 𝓤 H A W 𝓣 1 ps·4 r·4 (claims· .8) (claims· .9) "describe::columns::widths_of") (known5 : Plain.Known 𝓤 H A W 𝓣 3 ps·5 r·5 (claims· .10) (claims· .11) "describe::columns::put_top") (known6 : Plain.Known 𝓤 H A W 𝓣 3 ps·6 r·6 (claims· .12) (claims· .13) "describe::columns::put_rows") → Statement.Triple 𝓤 (Wp.WpFn 𝓤 H (𝓣 .C) (𝓣 .Λ) (Function.fnOf 3 ps r xs m hs body)) (Function.plainOf 𝓤 H A 3 ps r Pre· Post·)
+      Closed = (𝓤 : URA.URA M) (H : Wp.Heap 𝓤) (A : Atoms.Atoms 𝓤) (W : Kit.Given 𝓤 H A) (𝓣 : Wp.Tables 𝓤 H) (known0 : Plain.Known 𝓤 H A W 𝓣 0 ps·0 r·0 (claims· .0) (claims· .1) "column::blank_column") (known1 : Plain.Known 𝓤 H A W 𝓣 2 ps·1 r·1 (claims· .2) (claims· .3) "sqldard::parse_sqldard_data") (known2 : Plain.Known 𝓤 H A W 𝓣 0 ps·2 r·2 (claims· .4) (claims· .5) "outcome::is_refused") (known3 : Plain.Known 𝓤 H A W 𝓣 1 ps·3 r·3 (claims· .6) (claims· .7) "table_output::status::put_refusal") (known4 : Plain.Known 𝓤 H A W 𝓣 1 ps·4 r·4 (claims· .8) (claims· .9) "describe::widths_of") (known5 : Plain.Known 𝓤 H A W 𝓣 3 ps·5 r·5 (claims· .10) (claims· .11) "describe::put_top") (known6 : Plain.Known 𝓤 H A W 𝓣 3 ps·6 r·6 (claims· .12) (claims· .13) "describe::put_rows") → Statement.Triple 𝓤 (Wp.WpFn 𝓤 H (𝓣 .C) (𝓣 .Λ) (Function.fnOf 3 ps r xs m hs body)) (Function.plainOf 𝓤 H A 3 ps r Pre· Post·)
 
     module _ where
       abbrev at0 : (bs : List.List Nat.ℕ) → Typed.TF T31 O1
@@ -1100,7 +1100,7 @@ module _ (claims· : Claims) where
 
       module _ {M : Type 1} (𝓤 : URA.URA M) (H : Wp.Heap 𝓤) (A : Atoms.Atoms 𝓤) (W : Kit.Given 𝓤 H A) (𝓣 : Wp.Tables 𝓤 H) where
         abbrev Knowns : Type 1
-        Knowns = Plain.Known 𝓤 H A W 𝓣 0 ps·0 r·0 (claims· .0) (claims· .1) "column::blank_column" × Plain.Known 𝓤 H A W 𝓣 2 ps·1 r·1 (claims· .2) (claims· .3) "sqldard::parse_sqldard_data" × Plain.Known 𝓤 H A W 𝓣 0 ps·2 r·2 (claims· .4) (claims· .5) "outcome::is_refused" × Plain.Known 𝓤 H A W 𝓣 1 ps·3 r·3 (claims· .6) (claims· .7) "table_output::status::put_refusal" × Plain.Known 𝓤 H A W 𝓣 1 ps·4 r·4 (claims· .8) (claims· .9) "describe::columns::widths_of" × Plain.Known 𝓤 H A W 𝓣 3 ps·5 r·5 (claims· .10) (claims· .11) "describe::columns::put_top" × Plain.Known 𝓤 H A W 𝓣 3 ps·6 r·6 (claims· .12) (claims· .13) "describe::columns::put_rows"
+        Knowns = Plain.Known 𝓤 H A W 𝓣 0 ps·0 r·0 (claims· .0) (claims· .1) "column::blank_column" × Plain.Known 𝓤 H A W 𝓣 2 ps·1 r·1 (claims· .2) (claims· .3) "sqldard::parse_sqldard_data" × Plain.Known 𝓤 H A W 𝓣 0 ps·2 r·2 (claims· .4) (claims· .5) "outcome::is_refused" × Plain.Known 𝓤 H A W 𝓣 1 ps·3 r·3 (claims· .6) (claims· .7) "table_output::status::put_refusal" × Plain.Known 𝓤 H A W 𝓣 1 ps·4 r·4 (claims· .8) (claims· .9) "describe::widths_of" × Plain.Known 𝓤 H A W 𝓣 3 ps·5 r·5 (claims· .10) (claims· .11) "describe::put_top" × Plain.Known 𝓤 H A W 𝓣 3 ps·6 r·6 (claims· .12) (claims· .13) "describe::put_rows"
 
       module _ (κs : Lifetimes.Lfts 3) (qs : Lifetimes.Shares 3) where
         abbrev g16 : List.List Row.Entry
@@ -1495,7 +1495,7 @@ module _ (claims· : Claims) where
           d31 = Typed.g-pre 𝓤 H A W 𝓣 E G67 G68 b31 Δ0 (Typed.pass T67 T68 (s65 bs)) (at30 bs) (Scalar.g-room 𝓤 H A W E G67 27 (Syntax.tyStruct (List._∷_ 38 (List._∷_ 91 (List._∷_ 93 List.[]))) (Syntax.tcons (Syntax.tyRef Syntax.erased Syntax.imm ColumnMetadataRow.named) (Syntax.tcons (Syntax.tyInt Syntax.w64) Syntax.tnil))) (Shared.room-sslice 𝓤 H A W (ColumnMetadataRow.RT) (Syntax.tyRef Syntax.erased Syntax.imm ColumnMetadataRow.named) 9)) d30
 
           d32 : Typed.Typed 𝓤 H A 𝓣 E G66 b32 Δ0 (at32 bs)
-          d32 = Typed.s-seq 𝓤 H A W 𝓣 E G66 G67 b30 b31 Δ0 (Typed.both (s64 bs)) (at31 bs) (Plain.t-call-plain 𝓤 H A W 𝓣 3 ps·6 r·6 (claims· .12) (claims· .13) "describe::columns::put_rows" (known .6) E (λ pos β. β) G66 (record { pos = 25; ty = Syntax.tyRef Syntax.erased Syntax.mut (Syntax.tyInt Syntax.w8); ref = λ x. x }, (Num.vAt 12 λ x. x, (record { pos = 3; ty = Syntax.tyRef (Syntax.named 1) Syntax.imm (Syntax.tyInt Syntax.w8); ref = λ x. x }, (record { pos = 27; ty = Syntax.tyRef Syntax.erased Syntax.imm ColumnMetadataRow.named; ref = λ x. x }, (record { pos = 11; st = List.[]; d = 0; at = λ x. x }, tt))))) 0 (List._∷_ 8 (List._∷_ 1 (List._∷_ 9 List.[]))) (Call.sub-id 𝓤 H A W (G66 .slots)) (Reads'.as-is 𝓤 H A (Mut.mslice (Referent.rtF (Referent.fInt Syntax.w8)) (Syntax.tyRef Syntax.erased Syntax.mut (Syntax.tyInt Syntax.w8)) 8), Mut.reads-mslice 𝓤 H A W (Referent.rtF (Referent.fInt Syntax.w8)) (Syntax.tyRef Syntax.erased Syntax.mut (Syntax.tyInt Syntax.w8)) 8, Path'.refl, ((Scalar.reads-sc 𝓤 H A W (Row.sInt Syntax.w64), Path'.refl), (ShrSlice.spares-sslice 𝓤 H A W (Referent.rtF (Referent.fInt Syntax.w8)) (Syntax.tyRef (Syntax.named 1) Syntax.imm (Syntax.tyInt Syntax.w8)) 1, Shared.reads-sslice 𝓤 H A W (Referent.rtF (Referent.fInt Syntax.w8)) (Syntax.tyRef (Syntax.named 1) Syntax.imm (Syntax.tyInt Syntax.w8)) 1, Path'.refl, (ShrSlice.spares-sslice 𝓤 H A W (ColumnMetadataRow.RT) (Syntax.tyRef Syntax.erased Syntax.imm ColumnMetadataRow.named) 9, Shared.reads-sslice 𝓤 H A W (ColumnMetadataRow.RT) (Syntax.tyRef Syntax.erased Syntax.imm ColumnMetadataRow.named) 9, Path'.refl, ((Yields.yields-copy 𝓤 H A W (λ ρ. Unit) (Declared'.row Widths.the-type) Path'.refl (Copies.cStruct Widths.the-type Laws'3.the-laws Laws'3.the-copy .copy 𝓤 H A W) (Rows'.whole (Declared'.row Widths.the-type)) (λ x. x) (λ x. x) (λ ρ told. Local.mem-whole 𝓤 H A W (Declared'.row Widths.the-type) ρ) λ ρ told. Local.whole-mem 𝓤 H A W (Declared'.row Widths.the-type) ρ, Path'.refl), tt))))) (Reads'.room-gone 𝓤 H A (Syntax.tyInt Syntax.w64)) (tt, (tt, (tt, tt))) Path'.refl) d31
+          d32 = Typed.s-seq 𝓤 H A W 𝓣 E G66 G67 b30 b31 Δ0 (Typed.both (s64 bs)) (at31 bs) (Plain.t-call-plain 𝓤 H A W 𝓣 3 ps·6 r·6 (claims· .12) (claims· .13) "describe::put_rows" (known .6) E (λ pos β. β) G66 (record { pos = 25; ty = Syntax.tyRef Syntax.erased Syntax.mut (Syntax.tyInt Syntax.w8); ref = λ x. x }, (Num.vAt 12 λ x. x, (record { pos = 3; ty = Syntax.tyRef (Syntax.named 1) Syntax.imm (Syntax.tyInt Syntax.w8); ref = λ x. x }, (record { pos = 27; ty = Syntax.tyRef Syntax.erased Syntax.imm ColumnMetadataRow.named; ref = λ x. x }, (record { pos = 11; st = List.[]; d = 0; at = λ x. x }, tt))))) 0 (List._∷_ 8 (List._∷_ 1 (List._∷_ 9 List.[]))) (Call.sub-id 𝓤 H A W (G66 .slots)) (Reads'.as-is 𝓤 H A (Mut.mslice (Referent.rtF (Referent.fInt Syntax.w8)) (Syntax.tyRef Syntax.erased Syntax.mut (Syntax.tyInt Syntax.w8)) 8), Mut.reads-mslice 𝓤 H A W (Referent.rtF (Referent.fInt Syntax.w8)) (Syntax.tyRef Syntax.erased Syntax.mut (Syntax.tyInt Syntax.w8)) 8, Path'.refl, ((Scalar.reads-sc 𝓤 H A W (Row.sInt Syntax.w64), Path'.refl), (ShrSlice.spares-sslice 𝓤 H A W (Referent.rtF (Referent.fInt Syntax.w8)) (Syntax.tyRef (Syntax.named 1) Syntax.imm (Syntax.tyInt Syntax.w8)) 1, Shared.reads-sslice 𝓤 H A W (Referent.rtF (Referent.fInt Syntax.w8)) (Syntax.tyRef (Syntax.named 1) Syntax.imm (Syntax.tyInt Syntax.w8)) 1, Path'.refl, (ShrSlice.spares-sslice 𝓤 H A W (ColumnMetadataRow.RT) (Syntax.tyRef Syntax.erased Syntax.imm ColumnMetadataRow.named) 9, Shared.reads-sslice 𝓤 H A W (ColumnMetadataRow.RT) (Syntax.tyRef Syntax.erased Syntax.imm ColumnMetadataRow.named) 9, Path'.refl, ((Yields.yields-copy 𝓤 H A W (λ ρ. Unit) (Declared'.row Widths.the-type) Path'.refl (Copies.cStruct Widths.the-type Laws'3.the-laws Laws'3.the-copy .copy 𝓤 H A W) (Rows'.whole (Declared'.row Widths.the-type)) (λ x. x) (λ x. x) (λ ρ told. Local.mem-whole 𝓤 H A W (Declared'.row Widths.the-type) ρ) λ ρ told. Local.whole-mem 𝓤 H A W (Declared'.row Widths.the-type) ρ, Path'.refl), tt))))) (Reads'.room-gone 𝓤 H A (Syntax.tyInt Syntax.w64)) (tt, (tt, (tt, tt))) Path'.refl) d31
 
           d33 : Typed.Typed 𝓤 H A 𝓣 E G65 b33 Δ0 (at33 bs)
           d33 = Typed.s-seq 𝓤 H A W 𝓣 E G65 G66 b29 b32 Δ0 (Typed.ask (s63 bs)) (at32 bs) (Relend.t-sl-aggregate 𝓤 H A W E (ColumnMetadataRow.RT) 𝓣 (Relend.asShr (ColumnMetadataRow.RT)) G65 26 27 9 (Syntax.tyRef Syntax.erased Syntax.imm (Syntax.tyArray ColumnMetadataRow.named 4096)) (Syntax.tyRef Syntax.erased Syntax.imm ColumnMetadataRow.named) (λ x. x) (Scalar.oAt 9 (Syntax.tyInt Syntax.w64) (Row.valS (Row.sInt Syntax.w64))) (Reads'.as-is 𝓤 H A (Relend.ssptr (ColumnMetadataRow.RT) (Syntax.tyRef Syntax.erased Syntax.imm (Syntax.tyArray ColumnMetadataRow.named 4096)) 9)) (Reads'.room-gone 𝓤 H A (Syntax.tyStruct (List._∷_ 38 (List._∷_ 91 (List._∷_ 93 List.[]))) (Syntax.tcons (Syntax.tyRef Syntax.erased Syntax.imm ColumnMetadataRow.named) (Syntax.tcons (Syntax.tyInt Syntax.w64) Syntax.tnil)))) (Scalar.reads-sc 𝓤 H A W (Row.sInt Syntax.w64), Path'.refl) Path'.refl Path'.refl λ b o k. tt) d32
@@ -1543,7 +1543,7 @@ module _ (claims· : Claims) where
           d47 = Typed.g-pre 𝓤 H A W 𝓣 E G51 G52 b36 Δ0 (Typed.pass T51 T52 (s49 bs)) (at46 bs) (Scalar.g-room 𝓤 H A W E G51 10 (Syntax.tyStruct (List._∷_ 115 (List._∷_ 113 (List._∷_ 108 (List._∷_ 99 (List._∷_ 97 (List._∷_ 114 (List._∷_ 100 (List._∷_ 58 (List._∷_ 58 (List._∷_ 83 (List._∷_ 113 (List._∷_ 108 (List._∷_ 67 (List._∷_ 97 (List._∷_ 114 (List._∷_ 100 List.[])))))))))))))))) (Syntax.tcons Syntax.tyBool (Syntax.tcons (Syntax.tyInt Syntax.w32) (Syntax.tcons (Syntax.tyArray (Syntax.tyInt Syntax.w8) 5) (Syntax.tcons (Syntax.tyArray (Syntax.tyInt Syntax.w8) 8) (Syntax.tcons (Syntax.tyInt Syntax.w8) (Syntax.tcons (Syntax.tyArray (Syntax.tyInt Syntax.w32) 6) (Syntax.tcons (Syntax.tyInt Syntax.w64) (Syntax.tcons (Syntax.tyInt Syntax.w32) (Syntax.tcons (Syntax.tyArray (Syntax.tyInt Syntax.w8) 11) (Syntax.tcons (Syntax.tyInt Syntax.w64) (Syntax.tcons (Syntax.tyInt Syntax.w64) Syntax.tnil)))))))))))) (Local.room-whole 𝓤 H A W (Declared'.row SqlCard.the-type) (Syntax.tyStruct (List._∷_ 115 (List._∷_ 113 (List._∷_ 108 (List._∷_ 99 (List._∷_ 97 (List._∷_ 114 (List._∷_ 100 (List._∷_ 58 (List._∷_ 58 (List._∷_ 83 (List._∷_ 113 (List._∷_ 108 (List._∷_ 67 (List._∷_ 97 (List._∷_ 114 (List._∷_ 100 List.[])))))))))))))))) (Syntax.tcons Syntax.tyBool (Syntax.tcons (Syntax.tyInt Syntax.w32) (Syntax.tcons (Syntax.tyArray (Syntax.tyInt Syntax.w8) 5) (Syntax.tcons (Syntax.tyArray (Syntax.tyInt Syntax.w8) 8) (Syntax.tcons (Syntax.tyInt Syntax.w8) (Syntax.tcons (Syntax.tyArray (Syntax.tyInt Syntax.w32) 6) (Syntax.tcons (Syntax.tyInt Syntax.w64) (Syntax.tcons (Syntax.tyInt Syntax.w32) (Syntax.tcons (Syntax.tyArray (Syntax.tyInt Syntax.w8) 11) (Syntax.tcons (Syntax.tyInt Syntax.w64) (Syntax.tcons (Syntax.tyInt Syntax.w64) Syntax.tnil)))))))))))) Path'.refl)) d46
 
           d48 : Typed.Typed 𝓤 H A 𝓣 E G50 b37 Δ0 (at48 bs)
-          d48 = Typed.s-seq 𝓤 H A W 𝓣 E G50 G51 b25 b36 Δ0 (Typed.both (s48 bs)) (at47 bs) (Plain.t-call-plain 𝓤 H A W 𝓣 3 ps·5 r·5 (claims· .10) (claims· .11) "describe::columns::put_top" (known .5) E (λ pos β. β) G50 (record { pos = 21; ty = Syntax.tyRef Syntax.erased Syntax.mut (Syntax.tyInt Syntax.w8); ref = λ x. x }, (Num.vAt 2 λ x. x, (record { pos = 3; ty = Syntax.tyRef (Syntax.named 1) Syntax.imm (Syntax.tyInt Syntax.w8); ref = λ x. x }, (record { pos = 10; st = List.[]; d = 0; at = λ x. x }, (record { pos = 23; ty = Syntax.tyRef Syntax.erased Syntax.mut (Syntax.tyInt Syntax.w8); ref = λ x. x }, (Num.vAt 9 λ x. x, (record { pos = 11; st = List.[]; d = 0; at = λ x. x }, tt))))))) 12 (List._∷_ 6 (List._∷_ 1 (List._∷_ 7 List.[]))) (Call.sub-id 𝓤 H A W (G50 .slots)) (Reads'.as-is 𝓤 H A (Mut.mslice (Referent.rtF (Referent.fInt Syntax.w8)) (Syntax.tyRef Syntax.erased Syntax.mut (Syntax.tyInt Syntax.w8)) 6), Mut.reads-mslice 𝓤 H A W (Referent.rtF (Referent.fInt Syntax.w8)) (Syntax.tyRef Syntax.erased Syntax.mut (Syntax.tyInt Syntax.w8)) 6, Path'.refl, ((Scalar.reads-sc 𝓤 H A W (Row.sInt Syntax.w64), Path'.refl), (ShrSlice.spares-sslice 𝓤 H A W (Referent.rtF (Referent.fInt Syntax.w8)) (Syntax.tyRef (Syntax.named 1) Syntax.imm (Syntax.tyInt Syntax.w8)) 1, Shared.reads-sslice 𝓤 H A W (Referent.rtF (Referent.fInt Syntax.w8)) (Syntax.tyRef (Syntax.named 1) Syntax.imm (Syntax.tyInt Syntax.w8)) 1, Path'.refl, ((Yields.yields-copy 𝓤 H A W (λ ρ. Unit) (Declared'.row SqlCard.the-type) Path'.refl (Copies.cStruct SqlCard.the-type Laws'.the-laws Laws'.the-copy .copy 𝓤 H A W) (Rows'.whole (Declared'.row SqlCard.the-type)) (λ x. x) (λ x. x) (λ ρ told. Local.mem-whole 𝓤 H A W (Declared'.row SqlCard.the-type) ρ) λ ρ told. Local.whole-mem 𝓤 H A W (Declared'.row SqlCard.the-type) ρ, Path'.refl), (Reads'.as-is 𝓤 H A (Mut.mslice (Referent.rtF (Referent.fInt Syntax.w8)) (Syntax.tyRef Syntax.erased Syntax.mut (Syntax.tyInt Syntax.w8)) 7), Mut.reads-mslice 𝓤 H A W (Referent.rtF (Referent.fInt Syntax.w8)) (Syntax.tyRef Syntax.erased Syntax.mut (Syntax.tyInt Syntax.w8)) 7, Path'.refl, ((Scalar.reads-sc 𝓤 H A W (Row.sInt Syntax.w64), Path'.refl), ((Yields.yields-copy 𝓤 H A W (λ ρ. Unit) (Declared'.row Widths.the-type) Path'.refl (Copies.cStruct Widths.the-type Laws'3.the-laws Laws'3.the-copy .copy 𝓤 H A W) (Rows'.whole (Declared'.row Widths.the-type)) (λ x. x) (λ x. x) (λ ρ told. Local.mem-whole 𝓤 H A W (Declared'.row Widths.the-type) ρ) λ ρ told. Local.whole-mem 𝓤 H A W (Declared'.row Widths.the-type) ρ, Path'.refl), tt))))))) (Reads'.room-gone 𝓤 H A (Syntax.tyInt Syntax.w64)) (tt, (tt, (tt, tt))) Path'.refl) d47
+          d48 = Typed.s-seq 𝓤 H A W 𝓣 E G50 G51 b25 b36 Δ0 (Typed.both (s48 bs)) (at47 bs) (Plain.t-call-plain 𝓤 H A W 𝓣 3 ps·5 r·5 (claims· .10) (claims· .11) "describe::put_top" (known .5) E (λ pos β. β) G50 (record { pos = 21; ty = Syntax.tyRef Syntax.erased Syntax.mut (Syntax.tyInt Syntax.w8); ref = λ x. x }, (Num.vAt 2 λ x. x, (record { pos = 3; ty = Syntax.tyRef (Syntax.named 1) Syntax.imm (Syntax.tyInt Syntax.w8); ref = λ x. x }, (record { pos = 10; st = List.[]; d = 0; at = λ x. x }, (record { pos = 23; ty = Syntax.tyRef Syntax.erased Syntax.mut (Syntax.tyInt Syntax.w8); ref = λ x. x }, (Num.vAt 9 λ x. x, (record { pos = 11; st = List.[]; d = 0; at = λ x. x }, tt))))))) 12 (List._∷_ 6 (List._∷_ 1 (List._∷_ 7 List.[]))) (Call.sub-id 𝓤 H A W (G50 .slots)) (Reads'.as-is 𝓤 H A (Mut.mslice (Referent.rtF (Referent.fInt Syntax.w8)) (Syntax.tyRef Syntax.erased Syntax.mut (Syntax.tyInt Syntax.w8)) 6), Mut.reads-mslice 𝓤 H A W (Referent.rtF (Referent.fInt Syntax.w8)) (Syntax.tyRef Syntax.erased Syntax.mut (Syntax.tyInt Syntax.w8)) 6, Path'.refl, ((Scalar.reads-sc 𝓤 H A W (Row.sInt Syntax.w64), Path'.refl), (ShrSlice.spares-sslice 𝓤 H A W (Referent.rtF (Referent.fInt Syntax.w8)) (Syntax.tyRef (Syntax.named 1) Syntax.imm (Syntax.tyInt Syntax.w8)) 1, Shared.reads-sslice 𝓤 H A W (Referent.rtF (Referent.fInt Syntax.w8)) (Syntax.tyRef (Syntax.named 1) Syntax.imm (Syntax.tyInt Syntax.w8)) 1, Path'.refl, ((Yields.yields-copy 𝓤 H A W (λ ρ. Unit) (Declared'.row SqlCard.the-type) Path'.refl (Copies.cStruct SqlCard.the-type Laws'.the-laws Laws'.the-copy .copy 𝓤 H A W) (Rows'.whole (Declared'.row SqlCard.the-type)) (λ x. x) (λ x. x) (λ ρ told. Local.mem-whole 𝓤 H A W (Declared'.row SqlCard.the-type) ρ) λ ρ told. Local.whole-mem 𝓤 H A W (Declared'.row SqlCard.the-type) ρ, Path'.refl), (Reads'.as-is 𝓤 H A (Mut.mslice (Referent.rtF (Referent.fInt Syntax.w8)) (Syntax.tyRef Syntax.erased Syntax.mut (Syntax.tyInt Syntax.w8)) 7), Mut.reads-mslice 𝓤 H A W (Referent.rtF (Referent.fInt Syntax.w8)) (Syntax.tyRef Syntax.erased Syntax.mut (Syntax.tyInt Syntax.w8)) 7, Path'.refl, ((Scalar.reads-sc 𝓤 H A W (Row.sInt Syntax.w64), Path'.refl), ((Yields.yields-copy 𝓤 H A W (λ ρ. Unit) (Declared'.row Widths.the-type) Path'.refl (Copies.cStruct Widths.the-type Laws'3.the-laws Laws'3.the-copy .copy 𝓤 H A W) (Rows'.whole (Declared'.row Widths.the-type)) (λ x. x) (λ x. x) (λ ρ told. Local.mem-whole 𝓤 H A W (Declared'.row Widths.the-type) ρ) λ ρ told. Local.whole-mem 𝓤 H A W (Declared'.row Widths.the-type) ρ, Path'.refl), tt))))))) (Reads'.room-gone 𝓤 H A (Syntax.tyInt Syntax.w64)) (tt, (tt, (tt, tt))) Path'.refl) d47
 
           d49 : Typed.Typed 𝓤 H A 𝓣 E G49 b38 Δ0 (at49 bs)
           d49 = Typed.s-seq 𝓤 H A W 𝓣 E G49 G50 b24 b37 Δ0 (Typed.ask (s47 bs)) (at48 bs) (Relend.t-sl-aggregate 𝓤 H A W E (Referent.rtF (Referent.fInt Syntax.w8)) 𝓣 (Relend.asMut (Referent.rtF (Referent.fInt Syntax.w8))) G49 22 23 7 (Syntax.tyRef Syntax.erased Syntax.mut (Syntax.tyInt Syntax.w8)) (Syntax.tyRef Syntax.erased Syntax.mut (Syntax.tyInt Syntax.w8)) (λ x. x) (Scalar.oFld 4 (List._∷_ (Syntax.field 1) List.[]) (Syntax.tyInt Syntax.w64) 8 λ v. Shared.lenV (v .0)) (Reads'.as-is 𝓤 H A (Relend.msptr (Referent.rtF (Referent.fInt Syntax.w8)) (Syntax.tyRef Syntax.erased Syntax.mut (Syntax.tyInt Syntax.w8)) 7)) (Reads'.room-gone 𝓤 H A (Syntax.tyStruct (List._∷_ 38 (List._∷_ 91 (List._∷_ 93 List.[]))) (Syntax.tcons (Syntax.tyRef Syntax.erased Syntax.mut (Syntax.tyInt Syntax.w8)) (Syntax.tcons (Syntax.tyInt Syntax.w64) Syntax.tnil)))) (Relend.reads-owed-len 𝓤 H A W (Referent.rtF (Referent.fInt Syntax.w8)) (Syntax.tyRef (Syntax.named 2) Syntax.mut (Syntax.tyInt Syntax.w8)) 2 7 (Row.lease (κs .1 .1 .0) (qs .1 .1 .0)) 8 Path'.refl, Path'.refl) Path'.refl Path'.refl λ b o k. tt) d48
@@ -1576,7 +1576,7 @@ module _ (claims· : Claims) where
           d58 = Typed.g-pre 𝓤 H A W 𝓣 E G40 G41 b41 Δ0 (Typed.pass T40 T41 (s38 bs)) (at57 bs) (Scalar.g-room 𝓤 H A W E G40 19 (Syntax.tyStruct (List._∷_ 38 (List._∷_ 91 (List._∷_ 93 List.[]))) (Syntax.tcons (Syntax.tyRef Syntax.erased Syntax.imm ColumnMetadataRow.named) (Syntax.tcons (Syntax.tyInt Syntax.w64) Syntax.tnil))) (Shared.room-sslice 𝓤 H A W (ColumnMetadataRow.RT) (Syntax.tyRef Syntax.erased Syntax.imm ColumnMetadataRow.named) 5)) d57
 
           d59 : Typed.Typed 𝓤 H A 𝓣 E G39 b42 Δ0 (at59 bs)
-          d59 = Typed.s-seq 𝓤 H A W 𝓣 E G39 G40 b20 b41 Δ0 (Typed.both (s37 bs)) (at58 bs) (Plain.t-call-plain 𝓤 H A W 𝓣 1 ps·4 r·4 (claims· .8) (claims· .9) "describe::columns::widths_of" (known .4) E (λ pos β. β) G39 (record { pos = 19; ty = Syntax.tyRef Syntax.erased Syntax.imm ColumnMetadataRow.named; ref = λ x. x }, tt) 11 (List._∷_ 5 List.[]) (Call.sub-id 𝓤 H A W (G39 .slots)) (ShrSlice.spares-sslice 𝓤 H A W (ColumnMetadataRow.RT) (Syntax.tyRef Syntax.erased Syntax.imm ColumnMetadataRow.named) 5, Shared.reads-sslice 𝓤 H A W (ColumnMetadataRow.RT) (Syntax.tyRef Syntax.erased Syntax.imm ColumnMetadataRow.named) 5, Path'.refl, tt) (Reads'.room-gone 𝓤 H A (Syntax.tyStruct (List._∷_ 116 (List._∷_ 97 (List._∷_ 98 (List._∷_ 108 (List._∷_ 101 (List._∷_ 95 (List._∷_ 111 (List._∷_ 117 (List._∷_ 116 (List._∷_ 112 (List._∷_ 117 (List._∷_ 116 (List._∷_ 58 (List._∷_ 58 (List._∷_ 114 (List._∷_ 111 (List._∷_ 119 (List._∷_ 115 (List._∷_ 58 (List._∷_ 58 (List._∷_ 87 (List._∷_ 105 (List._∷_ 100 (List._∷_ 116 (List._∷_ 104 (List._∷_ 115 List.[])))))))))))))))))))))))))) (Syntax.tcons (Syntax.tyInt Syntax.w64) (Syntax.tcons (Syntax.tyInt Syntax.w64) (Syntax.tcons (Syntax.tyInt Syntax.w64) (Syntax.tcons (Syntax.tyInt Syntax.w64) Syntax.tnil)))))) (tt, tt) Path'.refl) d58
+          d59 = Typed.s-seq 𝓤 H A W 𝓣 E G39 G40 b20 b41 Δ0 (Typed.both (s37 bs)) (at58 bs) (Plain.t-call-plain 𝓤 H A W 𝓣 1 ps·4 r·4 (claims· .8) (claims· .9) "describe::widths_of" (known .4) E (λ pos β. β) G39 (record { pos = 19; ty = Syntax.tyRef Syntax.erased Syntax.imm ColumnMetadataRow.named; ref = λ x. x }, tt) 11 (List._∷_ 5 List.[]) (Call.sub-id 𝓤 H A W (G39 .slots)) (ShrSlice.spares-sslice 𝓤 H A W (ColumnMetadataRow.RT) (Syntax.tyRef Syntax.erased Syntax.imm ColumnMetadataRow.named) 5, Shared.reads-sslice 𝓤 H A W (ColumnMetadataRow.RT) (Syntax.tyRef Syntax.erased Syntax.imm ColumnMetadataRow.named) 5, Path'.refl, tt) (Reads'.room-gone 𝓤 H A (Syntax.tyStruct (List._∷_ 116 (List._∷_ 97 (List._∷_ 98 (List._∷_ 108 (List._∷_ 101 (List._∷_ 95 (List._∷_ 111 (List._∷_ 117 (List._∷_ 116 (List._∷_ 112 (List._∷_ 117 (List._∷_ 116 (List._∷_ 58 (List._∷_ 58 (List._∷_ 114 (List._∷_ 111 (List._∷_ 119 (List._∷_ 115 (List._∷_ 58 (List._∷_ 58 (List._∷_ 87 (List._∷_ 105 (List._∷_ 100 (List._∷_ 116 (List._∷_ 104 (List._∷_ 115 List.[])))))))))))))))))))))))))) (Syntax.tcons (Syntax.tyInt Syntax.w64) (Syntax.tcons (Syntax.tyInt Syntax.w64) (Syntax.tcons (Syntax.tyInt Syntax.w64) (Syntax.tcons (Syntax.tyInt Syntax.w64) Syntax.tnil)))))) (tt, tt) Path'.refl) d58
 
           d60 : Typed.Typed 𝓤 H A 𝓣 E G38 b43 Δ0 (at60 bs)
           d60 = Typed.s-seq 𝓤 H A W 𝓣 E G38 G39 b19 b42 Δ0 (Typed.ask (s36 bs)) (at59 bs) (Relend.t-sl-aggregate 𝓤 H A W E (ColumnMetadataRow.RT) 𝓣 (Relend.asShr (ColumnMetadataRow.RT)) G38 18 19 5 (Syntax.tyRef Syntax.erased Syntax.imm (Syntax.tyArray ColumnMetadataRow.named 4096)) (Syntax.tyRef Syntax.erased Syntax.imm ColumnMetadataRow.named) (λ x. x) (Scalar.oAt 9 (Syntax.tyInt Syntax.w64) (Row.valS (Row.sInt Syntax.w64))) (Reads'.as-is 𝓤 H A (Relend.ssptr (ColumnMetadataRow.RT) (Syntax.tyRef Syntax.erased Syntax.imm (Syntax.tyArray ColumnMetadataRow.named 4096)) 5)) (Reads'.room-gone 𝓤 H A (Syntax.tyStruct (List._∷_ 38 (List._∷_ 91 (List._∷_ 93 List.[]))) (Syntax.tcons (Syntax.tyRef Syntax.erased Syntax.imm ColumnMetadataRow.named) (Syntax.tcons (Syntax.tyInt Syntax.w64) Syntax.tnil)))) (Scalar.reads-sc 𝓤 H A W (Row.sInt Syntax.w64), Path'.refl) Path'.refl Path'.refl λ b o k. tt) d59
@@ -2188,6 +2188,6 @@ module _ (claims· : Claims) where
           pub asked : (a : Kinds.Dens κs ps) → (good : Kinds.GoodsP κs ps a) → (pre : Pre· κs a) → (bs : List.List Nat.ℕ) → Φ bs (Any.wantQ 3 ps r xs m κs qs a (Post· κs a)) (Function.init 3 ps r xs m κs qs a)
           asked = λ a good pre bs. laid record { κs = κs; args = record { out = a .0; used = a .1 .0; reply = a .1 .1 .0; room = a .1 .1 .1 .0 }; blocks = bs; good = good; fits = record { used = record { fits = good .1 .0 .1 } }; pre = pre }
 
-        module _ {M : Type 1} (𝓤 : URA.URA M) (H : Wp.Heap 𝓤) (A : Atoms.Atoms 𝓤) (W : Kit.Given 𝓤 H A) (𝓣 : Wp.Tables 𝓤 H) (known0 : Plain.Known 𝓤 H A W 𝓣 0 ps·0 r·0 (claims· .0) (claims· .1) "column::blank_column") (known1 : Plain.Known 𝓤 H A W 𝓣 2 ps·1 r·1 (claims· .2) (claims· .3) "sqldard::parse_sqldard_data") (known2 : Plain.Known 𝓤 H A W 𝓣 0 ps·2 r·2 (claims· .4) (claims· .5) "outcome::is_refused") (known3 : Plain.Known 𝓤 H A W 𝓣 1 ps·3 r·3 (claims· .6) (claims· .7) "table_output::status::put_refusal") (known4 : Plain.Known 𝓤 H A W 𝓣 1 ps·4 r·4 (claims· .8) (claims· .9) "describe::columns::widths_of") (known5 : Plain.Known 𝓤 H A W 𝓣 3 ps·5 r·5 (claims· .10) (claims· .11) "describe::columns::put_top") (known6 : Plain.Known 𝓤 H A W 𝓣 3 ps·6 r·6 (claims· .12) (claims· .13) "describe::columns::put_rows") where
+        module _ {M : Type 1} (𝓤 : URA.URA M) (H : Wp.Heap 𝓤) (A : Atoms.Atoms 𝓤) (W : Kit.Given 𝓤 H A) (𝓣 : Wp.Tables 𝓤 H) (known0 : Plain.Known 𝓤 H A W 𝓣 0 ps·0 r·0 (claims· .0) (claims· .1) "column::blank_column") (known1 : Plain.Known 𝓤 H A W 𝓣 2 ps·1 r·1 (claims· .2) (claims· .3) "sqldard::parse_sqldard_data") (known2 : Plain.Known 𝓤 H A W 𝓣 0 ps·2 r·2 (claims· .4) (claims· .5) "outcome::is_refused") (known3 : Plain.Known 𝓤 H A W 𝓣 1 ps·3 r·3 (claims· .6) (claims· .7) "table_output::status::put_refusal") (known4 : Plain.Known 𝓤 H A W 𝓣 1 ps·4 r·4 (claims· .8) (claims· .9) "describe::widths_of") (known5 : Plain.Known 𝓤 H A W 𝓣 3 ps·5 r·5 (claims· .10) (claims· .11) "describe::put_top") (known6 : Plain.Known 𝓤 H A W 𝓣 3 ps·6 r·6 (claims· .12) (claims· .13) "describe::put_rows") where
           pub spec : Statement.Triple 𝓤 (Wp.WpFn 𝓤 H (𝓣 .C) (𝓣 .Λ) (Function.fnOf 3 ps r xs m hs body)) (Function.plainOf 𝓤 H A 3 ps r Pre· Post·)
           spec = Plain.t-fn-plain 𝓤 H A W 𝓣 3 ps r xs m hs body (λ κs qs bs. Φ bs) (λ κs qs bs bd. typed κs qs 𝓤 H A W 𝓣 (known0, known1, known2, known3, known4, known5, known6) bs bd) Pre· Post· asked

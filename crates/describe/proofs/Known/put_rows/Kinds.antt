@@ -1,4 +1,4 @@
--- Made by tools/lists.py from the source of `describe::columns::put_rows`: do not edit.
+-- Made by tools/lists.py from the source of `describe::put_rows`: do not edit.
 use Rattle.describe.proofs.ColumnMetadataRow as ColumnMetadataRow
 use Rattle.table_output.proofs.rows.Widths
 use Rattle.table_output.proofs.rows.Widths.Laws

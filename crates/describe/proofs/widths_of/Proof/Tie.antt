@@ -1,10 +1,10 @@
--- Made by tools/lists.py from the source of `describe::columns::widths_of`: do not edit.
-use Rattle.describe.proofs.columns.widths_of.Code
-use Rattle.describe.proofs.columns.widths_of.Key
-use Rattle.describe.proofs.Known.columns.widths_of.Kinds
-use Rattle.describe.proofs.columns.widths_of.Proof.Lts
-use Rattle.describe.proofs.Known.columns.widths_of.Reads
-use Rattle.describe.proofs.columns.widths_of.Statement
+-- Made by tools/lists.py from the source of `describe::widths_of`: do not edit.
+use Rattle.describe.proofs.widths_of.Code
+use Rattle.describe.proofs.widths_of.Key
+use Rattle.describe.proofs.Known.widths_of.Kinds
+use Rattle.describe.proofs.widths_of.Proof.Lts
+use Rattle.describe.proofs.Known.widths_of.Reads
+use Rattle.describe.proofs.widths_of.Statement
 use Rattle.table_output.proofs.widths_of_heads.Met
 use Rattle.table_output.proofs.widths_of_heads.Reads as Reads'
 use Rattle.table_output.proofs.widths_of_heads.Symbol

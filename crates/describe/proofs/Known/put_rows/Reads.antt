@@ -1,6 +1,6 @@
--- Made by tools/lists.py from the source of `describe::columns::put_rows`: do not edit.
-use Rattle.describe.proofs.columns.put_rows
-use Rattle.describe.proofs.Known.columns.put_rows.Kinds
+-- Made by tools/lists.py from the source of `describe::put_rows`: do not edit.
+use Rattle.describe.proofs.put_rows
+use Rattle.describe.proofs.Known.put_rows.Kinds
 use base.Logic
 use borrow.Fn.Kinds as Kinds'
 use borrow.Fn.Learn

@@ -1,10 +1,10 @@
--- Made by tools/lists.py from the source of `describe::columns::put_rows`: do not edit.
-use Rattle.describe.proofs.columns.put_rows.Code
-use Rattle.describe.proofs.columns.put_rows.Key
-use Rattle.describe.proofs.Known.columns.put_rows.Kinds
-use Rattle.describe.proofs.columns.put_rows.Proof.Lts
-use Rattle.describe.proofs.Known.columns.put_rows.Reads
-use Rattle.describe.proofs.columns.put_rows.Statement
+-- Made by tools/lists.py from the source of `describe::put_rows`: do not edit.
+use Rattle.describe.proofs.put_rows.Code
+use Rattle.describe.proofs.put_rows.Key
+use Rattle.describe.proofs.Known.put_rows.Kinds
+use Rattle.describe.proofs.put_rows.Proof.Lts
+use Rattle.describe.proofs.Known.put_rows.Reads
+use Rattle.describe.proofs.put_rows.Statement
 use Rattle.table_output.proofs.put_row.Met
 use Rattle.table_output.proofs.put_row.Reads as Reads'
 use Rattle.table_output.proofs.put_row.Symbol

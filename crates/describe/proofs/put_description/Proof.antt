@@ -3,14 +3,14 @@ mod Lts
 mod Tie
 use native.Mathlib.Omega.{arith}
 use borrow.Author.Needs.{needs}
-use Rattle.describe.proofs.columns.put_description.Statement.{statement}
-use Rattle.describe.proofs.columns.put_description.Proof.Tie as tie
-use Rattle.describe.proofs.columns.put_description.Proof.Lts as lts
-use Rattle.describe.proofs.columns.put_description.Reads as reads
+use Rattle.describe.proofs.put_description.Statement.{statement}
+use Rattle.describe.proofs.put_description.Proof.Tie as tie
+use Rattle.describe.proofs.put_description.Proof.Lts as lts
+use Rattle.describe.proofs.put_description.Reads as reads
 use Rattle.column.proofs.blank_column.Reads as blank-column-reads
-use Rattle.describe.proofs.Known.columns.put_rows.Reads as put-rows-reads
-use Rattle.describe.proofs.columns.put_top.Reads as put-top-reads
-use Rattle.describe.proofs.Known.columns.widths_of.Reads as widths-of-reads
+use Rattle.describe.proofs.Known.put_rows.Reads as put-rows-reads
+use Rattle.describe.proofs.put_top.Reads as put-top-reads
+use Rattle.describe.proofs.Known.widths_of.Reads as widths-of-reads
 use Rattle.outcome.proofs.is_refused.Reads as is-refused-reads
 use Rattle.describe.proofs.Known.sqldard.parse_sqldard_data.Reads as parse-sqldard-data-reads
 use Rattle.table_output.proofs.put_refusal.Reads as put-refusal-reads

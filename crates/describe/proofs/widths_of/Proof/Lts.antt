@@ -1,4 +1,4 @@
--- Made by tools/lists.py from the source of `describe::columns::widths_of`: do not edit.
+-- Made by tools/lists.py from the source of `describe::widths_of`: do not edit.
 use Rattle.describe.proofs.ColumnMetadataRow as ColumnMetadataRow
 use Prim.Native.Nat
 use Rattle.table_output.proofs.rows.Widths

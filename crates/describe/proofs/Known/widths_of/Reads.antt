@@ -1,6 +1,6 @@
--- Made by tools/lists.py from the source of `describe::columns::widths_of`: do not edit.
-use Rattle.describe.proofs.columns.widths_of
-use Rattle.describe.proofs.Known.columns.widths_of.Kinds
+-- Made by tools/lists.py from the source of `describe::widths_of`: do not edit.
+use Rattle.describe.proofs.widths_of
+use Rattle.describe.proofs.Known.widths_of.Kinds
 use base.Logic
 use borrow.Fn.Kinds as Kinds'
 use borrow.Fn.Learn
