@@ -33,7 +33,8 @@ pub fn read(input: &mut impl Read, payload: &mut Vec<u8>) -> io::Result<Next> {
 }
 
 pub fn write(output: &mut impl Write, entry: u8, payload: &[u8]) -> io::Result<()> {
-    assert!(payload.len() <= LONGEST);
+    // An exchange is no entry's case: it holds a description beside a reply.
+    assert!(entry == b'x' || payload.len() <= LONGEST);
     output.write_all(&[entry])?;
     output.write_all(&(payload.len() as u32).to_be_bytes())?;
     output.write_all(payload)
