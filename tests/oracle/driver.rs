@@ -1,5 +1,5 @@
 //! The oracle's driver: reads cases from standard input, asks the unchanged Rust, and writes
-//! one line of docs/ANSWERS.md for each, for the entries D, P, S, s, G, N and M.
+//! one line of docs/ANSWERS.md for each, for the entries D, L, P, S, s, G, N and M.
 //!
 //! What is not the Rust's but this project's own:
 //! - refusal 5 (over 65,536 bytes), a limit that the Rust does not have;
@@ -73,10 +73,20 @@ fn run() -> io::Result<bool> {
 }
 
 /// Writes the answer to one case; false if there is no such entry, or too little in front of the
-/// reply: P's code point, M's three numbers.
+/// reply: L's number of records (or one above the most), P's code point, M's three numbers.
 fn answer(entry: u8, payload: &[u8], line: &mut Vec<u8>) -> bool {
     match entry {
-        b'D' => description(line, payload, || parse_sqldard_data(payload)),
+        b'D' => description(line, payload, RECORDS_LENT, || parse_sqldard_data(payload)),
+        b'L' => {
+            let Some((lent, reply)) = payload.split_first_chunk::<2>() else {
+                return false;
+            };
+            let lent = usize::from(u16::from_be_bytes(*lent));
+            if lent > RECORDS_LENT {
+                return false;
+            }
+            description(line, reply, lent, || parse_sqldard_data(reply));
+        }
         b'P' => {
             let Some((code_point, reply)) = payload.split_first_chunk::<2>() else {
                 return false;
@@ -87,10 +97,14 @@ fn answer(entry: u8, payload: &[u8], line: &mut Vec<u8>) -> bool {
                 data: reply.to_vec(),
             };
             if code_point == SQLDARD {
-                description(line, reply, || parse_sqldard(&object));
+                description(line, reply, RECORDS_LENT, || parse_sqldard(&object));
             } else {
                 // 4 comes before 5: the length is not looked at.
-                ask(line, || parse_sqldard(&object), put_description);
+                ask(
+                    line,
+                    || parse_sqldard(&object),
+                    |line, dard| put_description(line, dard, RECORDS_LENT),
+                );
             }
         }
         b'S' => limited(line, payload, |line| {
@@ -143,9 +157,12 @@ fn answer(entry: u8, payload: &[u8], line: &mut Vec<u8>) -> bool {
 fn description(
     line: &mut Vec<u8>,
     reply: &[u8],
+    lent: usize,
     read: impl FnOnce() -> Result<SqlDard, ProtoError>,
 ) {
-    limited(line, reply, |line| ask(line, read, put_description));
+    limited(line, reply, |line| {
+        ask(line, read, |line, dard| put_description(line, dard, lent))
+    });
 }
 
 /// The project's own limit, which the Rust does not have.
@@ -321,8 +338,8 @@ fn put_refusal(line: &mut Vec<u8>, error: &ProtoError) {
     put(line, &text);
 }
 
-fn put_description(line: &mut Vec<u8>, dard: SqlDard) {
-    if dard.columns.len() > RECORDS_LENT {
+fn put_description(line: &mut Vec<u8>, dard: SqlDard, lent: usize) {
+    if dard.columns.len() > lent {
         return put(line, &format!("E6 {}", dard.columns.len()));
     }
     put(line, &format!("OK n={}", dard.num_columns));

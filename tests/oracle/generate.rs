@@ -1,8 +1,8 @@
-//! Writes cases of docs/ANSWERS.md for the entries D, P, S, s, G, N and M, made from a seed.
+//! Writes cases of docs/ANSWERS.md for the entries D, L, P, S, s, G, N and M, made from a seed.
 //!
 //!     generate SEED COUNT [ENTRIES] [--from CASE] [--progress]
 //!
-//! SEED is any number below 2^64. Each case is for one of ENTRIES (some of DPSGNMs, default
+//! SEED is any number below 2^64. Each case is for one of ENTRIES (some of DPSGNMsL, default
 //! DPSGN), all equally often. The same SEED and ENTRIES give the same cases on every machine;
 //! --from starts at a later case than 0, so that one case can be made again without those before
 //! it. Progress goes to standard error once a second if that is a terminal, or with --progress.
@@ -10,7 +10,7 @@
 //! Half of the cases of S, s and G are SQLCAs on the edges of their fields (cards.rs). What the
 //! others hold, in 10,000 of each entry:
 //!
-//! | family     | D, P | S, s |    G |    N | replies                                           |
+//! | family     | DLP  | S, s |    G |    N | replies                                           |
 //! |------------|-----:|-----:|-----:|-----:|---------------------------------------------------|
 //! | standard   | 3200 |  400 |  900 |  900 | every group present or absent, BE and LE          |
 //! | compact    | 1500 |  150 |  150 |  300 | compact tables, with and without FF, names to 65  |
@@ -27,7 +27,8 @@
 //! | too long   |   20 |   20 |   20 |   20 | 65,537 to 65,540 bytes, and 70,000                |
 //!
 //! Of all but the last three, 35 in 100 are damaged by one to three edits, and so are 15 in 100 of
-//! the SQLCAs on the edges. P has the right code point in 92 of 100.
+//! the SQLCAs on the edges. P has the right code point in 92 of 100. L lends 0 to 6
+//! records in 60 of 100, 4,096 in 10, and any number up to there in the others.
 //!
 //! M has a message of its own making (messages.rs): in 10,000, 9,930 of 0 to some 300 bytes, 40
 //! longer ones, 10 in replies up to the limit, 20 in replies beyond it. A quarter asks for
@@ -47,9 +48,10 @@ use std::io::{self, BufWriter, IsTerminal, Write};
 use std::process::ExitCode;
 use std::time::{Duration, Instant};
 
-const ENTRIES: &str = "DPSGNMs";
+const ENTRIES: &str = "DPSGNMsL";
 const DEFAULT_ENTRIES: &str = "DPSGN";
 const SQLDARD: u16 = 0x2411;
+const RECORDS_LENT: u16 = 4_096; // L's most
 
 const USAGE: &str = "usage: generate SEED COUNT [ENTRIES] [--from CASE] [--progress]";
 
@@ -98,8 +100,8 @@ fn reply(r: &mut Random, entry: u8) -> Vec<u8> {
     };
     let family = r.weighted(weights);
     let Some(maker) = MAKERS.get(family) else {
-        let room = if entry == b'P' { 2 } else { 0 };
-        return replies::too_long(r, frame::LONGEST - room);
+        let front = if matches!(entry, b'P' | b'L') { 2 } else { 0 };
+        return replies::too_long(r, frame::LONGEST - front);
     };
     let mut reply = maker(r);
     if family < DAMAGED_MAKERS && r.chance(35) {
@@ -110,20 +112,34 @@ fn reply(r: &mut Random, entry: u8) -> Vec<u8> {
 
 fn case(r: &mut Random, request: &Request) -> (u8, Vec<u8>) {
     let entry = r.pick(&request.entries);
-    match entry {
+    let front = match entry {
         b'M' => return (entry, messages::case(r)),
-        b'P' => {}
+        b'P' => code_point(r),
+        b'L' => lent(r),
         _ => return (entry, reply(r, entry)),
-    }
-    let code_point = if r.chance(92) {
-        SQLDARD
-    } else {
-        let other = r.next() as u16;
-        r.pick(&[0x2408, 0x2410, 0x1124, 0x0000, 0xFFFF, other])
     };
-    let mut payload = code_point.to_be_bytes().to_vec();
+    let mut payload = front.to_be_bytes().to_vec();
     payload.append(&mut reply(r, entry));
     (entry, payload)
+}
+
+fn code_point(r: &mut Random) -> u16 {
+    if r.chance(92) {
+        return SQLDARD;
+    }
+    let other = r.next() as u16;
+    r.pick(&[0x2408, 0x2410, 0x1124, 0x0000, 0xFFFF, other])
+}
+
+/// How many records L lends.
+fn lent(r: &mut Random) -> u16 {
+    if r.chance(60) {
+        r.pick(&[0, 1, 2, 3, 4, 5, 6])
+    } else if r.chance(25) {
+        RECORDS_LENT
+    } else {
+        (r.next() % (u64::from(RECORDS_LENT) + 1)) as u16
+    }
 }
 
 struct Request {
