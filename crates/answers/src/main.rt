@@ -1,6 +1,5 @@
 // Answers cases: reads them from standard input and writes a line for each, as docs/ANSWERS.md says.
 mod cards;
-mod descriptions;
 mod input;
 mod texts;
 
@@ -14,10 +13,10 @@ fn put_answer(out: &mut [u8], used: usize, entry: u8, payload: &[u8], room: &mut
     ensures { λ r. ⌜ r ≤ length (now (out .exit)) ⌝ }
 {
     match entry {
-        b'D' => descriptions::put_description(out, used, payload, room),
-        b'd' => descriptions::put_text_places(out, used, payload),
-        b'L' => descriptions::put_short_list(out, used, payload, room),
-        b'P' => descriptions::put_at_code_point(out, used, payload, room),
+        b'D' => description_output::put_description(out, used, payload, room),
+        b'd' => description_output::put_text_places(out, used, payload),
+        b'L' => description_output::put_short_list(out, used, payload, room),
+        b'P' => description_output::put_at_code_point(out, used, payload, room),
         b'S' => cards::put_status_alone(out, used, payload, room),
         b's' => cards::put_message_place(out, used, payload),
         b'G' => cards::put_group(out, used, payload, room),

@@ -4,7 +4,6 @@ ghost use lib.ListN.{length};
 use field::ByteOrder;
 use text::Text;
 use types::ColumnMetadata;
-use types::Db2Type;
 
 // Bytes of page 037 as their characters in hex.
 fn put_page037(out: &mut [u8], used: usize, bytes: &[u8]) -> usize
@@ -64,59 +63,6 @@ fn put_name(out: &mut [u8], used: usize, reply: &[u8], name: Text, number: u16) 
     put_text(out, used, reply, name)
 }
 
-// A type with one number: `Char(4)`.
-fn put_sized(out: &mut [u8], used: usize, name: &[u8], size: u16) -> usize
-    requires { ⌜ used ≤ length (now out) ⌝ }
-    ensures { λ r. ⌜ r ≤ length (now (out .exit)) ⌝ }
-{
-    let next = output::put_bytes(out, used, name);
-    let next = output::put_byte(out, next, b'(');
-    let next = output::put_number(out, next, size as u64);
-    output::put_byte(out, next, b')')
-}
-
-fn put_decimal(out: &mut [u8], used: usize, precision: u8, scale: u8) -> usize
-    requires { ⌜ used ≤ length (now out) ⌝ }
-    ensures { λ r. ⌜ r ≤ length (now (out .exit)) ⌝ }
-{
-    let next = output::put_bytes(out, used, b"Decimal{precision:");
-    let next = output::put_number(out, next, precision as u64);
-    let next = output::put_bytes(out, next, b",scale:");
-    let next = output::put_number(out, next, scale as u64);
-    output::put_byte(out, next, b'}')
-}
-
-// A type as the Rust's Debug form has it, without blanks.
-fn put_type(out: &mut [u8], used: usize, db2_type: Db2Type) -> usize
-    requires { ⌜ used ≤ length (now out) ⌝ }
-    ensures { λ r. ⌜ r ≤ length (now (out .exit)) ⌝ }
-{
-    match db2_type {
-        Db2Type::SmallInt => output::put_bytes(out, used, b"SmallInt"),
-        Db2Type::Integer => output::put_bytes(out, used, b"Integer"),
-        Db2Type::BigInt => output::put_bytes(out, used, b"BigInt"),
-        Db2Type::Real => output::put_bytes(out, used, b"Real"),
-        Db2Type::Double => output::put_bytes(out, used, b"Double"),
-        Db2Type::Decimal { precision, scale } => put_decimal(out, used, precision, scale),
-        Db2Type::DecFloat(digits) => put_sized(out, used, b"DecFloat", digits as u16),
-        Db2Type::Char(size) => put_sized(out, used, b"Char", size),
-        Db2Type::VarChar(size) => put_sized(out, used, b"VarChar", size),
-        Db2Type::Clob => output::put_bytes(out, used, b"Clob"),
-        Db2Type::Binary(size) => put_sized(out, used, b"Binary", size),
-        Db2Type::VarBinary(size) => put_sized(out, used, b"VarBinary", size),
-        Db2Type::Blob => output::put_bytes(out, used, b"Blob"),
-        Db2Type::Date => output::put_bytes(out, used, b"Date"),
-        Db2Type::Time => output::put_bytes(out, used, b"Time"),
-        Db2Type::Timestamp => output::put_bytes(out, used, b"Timestamp"),
-        Db2Type::Graphic(size) => put_sized(out, used, b"Graphic", size),
-        Db2Type::VarGraphic(size) => put_sized(out, used, b"VarGraphic", size),
-        Db2Type::DbClob => output::put_bytes(out, used, b"DbClob"),
-        Db2Type::RowId(size) => put_sized(out, used, b"RowId", size),
-        Db2Type::Boolean => output::put_bytes(out, used, b"Boolean"),
-        Db2Type::Xml => output::put_bytes(out, used, b"Xml"),
-    }
-}
-
 fn put_order(out: &mut [u8], used: usize, order: ByteOrder) -> usize
     requires { ⌜ used ≤ length (now out) ⌝ }
     ensures { λ r. ⌜ r ≤ length (now (out .exit)) ⌝ }
@@ -138,7 +84,7 @@ fn put_front(out: &mut [u8], used: usize, reply: &[u8], column: ColumnMetadata) 
     let next = output::put_value(out, next, column.number as usize);
     let next = put_name(out, next, reply, name, column.number);
     let next = output::put_byte(out, next, b' ');
-    put_type(out, next, db2_type)
+    type_output::put_type(out, next, db2_type)
 }
 
 // ` CODE LENGTH NULLABLE`.
