@@ -19,8 +19,8 @@ fn put_top(
     requires { ⌜ used ≤ length (now out) ⌝ }
     ensures { λ r. ⌜ r ≤ length (now (out .exit)) ⌝ }
 {
-    let next = table_output::put_status(out, used, reply, card, room);
-    let next = table_output::put_size(out, next, count, reply.len());
+    let next = status_output::put_status(out, used, reply, card, room);
+    let next = status_output::put_size(out, next, count, reply.len());
     if count == 0 {
         return next;
     }
@@ -68,7 +68,7 @@ fn put_description(out: &mut [u8], used: usize, reply: &[u8], room: &mut [u8]) -
     let answer = sqldard::parse_sqldard_data(reply, &mut columns);
     let outcome = answer.outcome;
     if outcome::is_refused(outcome) {
-        return table_output::put_refusal(out, used, outcome);
+        return status_output::put_refusal(out, used, outcome);
     }
     let count = answer.count;
     let card = answer.card;

@@ -56,6 +56,35 @@ pub fn put_bytes(out: &mut [u8], used: usize, bytes: &[u8]) -> usize
     next
 }
 
+// A character below 256: as it is in ASCII, as two bytes of UTF-8 above, and `.` if it is a control.
+pub fn put_character(out: &mut [u8], used: usize, character: u8) -> usize
+    requires { ⌜ used ≤ length (now out) ⌝ }
+    ensures { λ r. ⌜ r ≤ length (now (out .exit)) ⌝ }
+{
+    if (character >= 0x20) & (character <= 0x7E) {
+        return put_byte(out, used, character);
+    }
+    if character < 0xA0 {
+        return put_byte(out, used, b'.');
+    }
+    let next = put_byte(out, used, 0xC0 + character / 64);
+    put_byte(out, next, 0x80 + character % 64)
+}
+
+// Characters, each of a byte, as status records and texts have them.
+pub fn put_characters(out: &mut [u8], used: usize, characters: &[u8]) -> usize
+    requires { ⌜ used ≤ length (now out) ⌝ }
+    ensures { λ r. ⌜ r ≤ length (now (out .exit)) ⌝ }
+{
+    let mut next = used;
+    let mut i = 0;
+    while i < characters.len() {
+        next = put_character(out, next, characters[i]);
+        i += 1;
+    }
+    next
+}
+
 // The line for a case that is none. It is the last.
 pub fn put_bad(out: &mut [u8], used: usize) -> usize
     requires { ⌜ used ≤ length (now out) ⌝ }

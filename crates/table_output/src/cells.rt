@@ -19,35 +19,6 @@ pub fn digits(number: usize) -> usize
     if number < 10_000 { 4 } else { 5 }
 }
 
-// A character: as it is in ASCII, as two bytes of UTF-8 above, and `.` if it is a control.
-fn put_character(out: &mut [u8], used: usize, character: u8) -> usize
-    requires { ⌜ used ≤ length (now out) ⌝ }
-    ensures { λ r. ⌜ r ≤ length (now (out .exit)) ⌝ }
-{
-    if (character >= 0x20) & (character <= 0x7E) {
-        return output::put_byte(out, used, character);
-    }
-    if character < 0xA0 {
-        return output::put_byte(out, used, b'.');
-    }
-    let next = output::put_byte(out, used, 0xC0 + character / 64);
-    output::put_byte(out, next, 0x80 + character % 64)
-}
-
-// Characters, each of a byte, as a status record has them.
-pub fn put_characters(out: &mut [u8], used: usize, characters: &[u8]) -> usize
-    requires { ⌜ used ≤ length (now out) ⌝ }
-    ensures { λ r. ⌜ r ≤ length (now (out .exit)) ⌝ }
-{
-    let mut next = used;
-    let mut i = 0;
-    while i < characters.len() {
-        next = put_character(out, next, characters[i]);
-        i += 1;
-    }
-    next
-}
-
 // Bytes of page 037. The table is copied once and not at each byte.
 fn put_page037(out: &mut [u8], used: usize, bytes: &[u8]) -> usize
     requires { ⌜ used ≤ length (now out) ⌝ }
@@ -58,7 +29,7 @@ fn put_page037(out: &mut [u8], used: usize, bytes: &[u8]) -> usize
     let mut i = 0;
     while i < bytes.len() {
         let character = codepage::char_by(&table, bytes[i]);
-        next = put_character(out, next, character);
+        next = output::put_character(out, next, character);
         i += 1;
     }
     next
@@ -96,7 +67,7 @@ pub fn put_text(out: &mut [u8], used: usize, reply: &[u8], text: Text, number: u
     if text.alphabet == 2 {
         return put_page037(out, used, bytes);
     }
-    put_characters(out, used, bytes)
+    output::put_characters(out, used, bytes)
 }
 
 // How many characters `put_text` puts: one for a byte.

@@ -1,4 +1,5 @@
 // The table of columns: a line of heads, and a line for each column, in cells as wide as what stands in them.
+ghost use mathlib.Core.Path.{_≡_};
 ghost use Prim.Native.Nat.{_≤_};
 ghost use lib.ListN.{length};
 use crate::cells;
@@ -16,7 +17,9 @@ pub struct Widths {
     pub schema: usize,
 }
 
-pub fn widths_of_heads() -> Widths {
+pub fn widths_of_heads() -> Widths
+    ensures { λ r. ⌜ (r .name ≡ 4) × ((r .«db2_type» ≡ 4) × ((r .label ≡ 5) × (r .schema ≡ 6))) ⌝ }
+{
     Widths {
         name: 4,
         db2_type: 4,
@@ -25,15 +28,17 @@ pub fn widths_of_heads() -> Widths {
     }
 }
 
-fn wider(width: usize, other: usize) -> usize {
-    if other < width {
-        return width;
-    }
-    if other < WIDEST { other } else { WIDEST }
+fn wider(width: usize, other: usize) -> usize
+    ensures { λ r. ⌜ width ≤ r ⌝ }
+{
+    let wanted = if other < WIDEST { other } else { WIDEST };
+    if width < wanted { wanted } else { width }
 }
 
-// The widths with one column more.
-pub fn widths_with(widths: Widths, column: ColumnMetadata) -> Widths {
+// The widths with one column more: none falls.
+pub fn widths_with(widths: Widths, column: ColumnMetadata) -> Widths
+    ensures { λ r. ⌜ (widths .name ≤ r .name) × ((widths .«db2_type» ≤ r .«db2_type») × ((widths .label ≤ r .label) × (widths .schema ≤ r .schema))) ⌝ }
+{
     let number = column.number;
     let name = column.name;
     let label = column.label;

@@ -165,7 +165,7 @@ abbrev b8 : Syntax.Body
 b8 = Syntax.assign (Syntax.place 17 List.[]) (Syntax.aggregate (List._∷_ (Syntax.copy (Syntax.place 16 List.[])) (List._∷_ (Syntax.copy (Syntax.place 1 (List._∷_ (Syntax.field 1) List.[]))) List.[])))
 
 abbrev b9 : Syntax.Body
-b9 = Syntax.call "table_output::status::put_refusal" (List._∷_ (Syntax.copy (Syntax.place 17 List.[])) (List._∷_ (Syntax.copy (Syntax.place 2 List.[])) (List._∷_ (Syntax.copy (Syntax.place 8 List.[])) List.[]))) (Syntax.place 0 List.[])
+b9 = Syntax.call "status_output::put_refusal" (List._∷_ (Syntax.copy (Syntax.place 17 List.[])) (List._∷_ (Syntax.copy (Syntax.place 2 List.[])) (List._∷_ (Syntax.copy (Syntax.place 8 List.[])) List.[]))) (Syntax.place 0 List.[])
 
 abbrev b10 : Syntax.Body
 b10 = Syntax.return
@@ -843,7 +843,7 @@ module _ (claims· : Claims) where
   module _ (Pre· : (κs : Lifetimes.Lfts 3) → Kinds.Dens κs ps → Type 0) (Post· : (κs : Lifetimes.Lfts 3) → (a : Kinds.Dens κs ps) → Kinds.Plain 3 ps r κs) where
     module _ (M : Type 1) where
       abbrev pub Closed : Type 2
-      Closed = (𝓤 : URA.URA M) (H : Wp.Heap 𝓤) (A : Atoms.Atoms 𝓤) (W : Kit.Given 𝓤 H A) (𝓣 : Wp.Tables 𝓤 H) (known0 : Plain.Known 𝓤 H A W 𝓣 0 ps·0 r·0 (claims· .0) (claims· .1) "column::blank_column") (known1 : Plain.Known 𝓤 H A W 𝓣 2 ps·1 r·1 (claims· .2) (claims· .3) "sqldard::parse_sqldard_data") (known2 : Plain.Known 𝓤 H A W 𝓣 0 ps·2 r·2 (claims· .4) (claims· .5) "outcome::is_refused") (known3 : Plain.Known 𝓤 H A W 𝓣 1 ps·3 r·3 (claims· .6) (claims· .7) "table_output::status::put_refusal") (known4 : Plain.Known 𝓤 H A W 𝓣 1 ps·4 r·4 (claims· .8) (claims· .9) "describe::widths_of") (known5 : Plain.Known 𝓤 H A W 𝓣 3 ps·5 r·5 (claims· .10) (claims· .11) "describe::put_top") (known6 : Plain.Known 𝓤 H A W 𝓣 3 ps·6 r·6 (claims· .12) (claims· .13) "describe::put_rows") → Statement.Triple 𝓤 (Wp.WpFn 𝓤 H (𝓣 .C) (𝓣 .Λ) (Function.fnOf 3 ps r xs m hs body)) (Function.plainOf 𝓤 H A 3 ps r Pre· Post·)
+      Closed = (𝓤 : URA.URA M) (H : Wp.Heap 𝓤) (A : Atoms.Atoms 𝓤) (W : Kit.Given 𝓤 H A) (𝓣 : Wp.Tables 𝓤 H) (known0 : Plain.Known 𝓤 H A W 𝓣 0 ps·0 r·0 (claims· .0) (claims· .1) "column::blank_column") (known1 : Plain.Known 𝓤 H A W 𝓣 2 ps·1 r·1 (claims· .2) (claims· .3) "sqldard::parse_sqldard_data") (known2 : Plain.Known 𝓤 H A W 𝓣 0 ps·2 r·2 (claims· .4) (claims· .5) "outcome::is_refused") (known3 : Plain.Known 𝓤 H A W 𝓣 1 ps·3 r·3 (claims· .6) (claims· .7) "status_output::put_refusal") (known4 : Plain.Known 𝓤 H A W 𝓣 1 ps·4 r·4 (claims· .8) (claims· .9) "describe::widths_of") (known5 : Plain.Known 𝓤 H A W 𝓣 3 ps·5 r·5 (claims· .10) (claims· .11) "describe::put_top") (known6 : Plain.Known 𝓤 H A W 𝓣 3 ps·6 r·6 (claims· .12) (claims· .13) "describe::put_rows") → Statement.Triple 𝓤 (Wp.WpFn 𝓤 H (𝓣 .C) (𝓣 .Λ) (Function.fnOf 3 ps r xs m hs body)) (Function.plainOf 𝓤 H A 3 ps r Pre· Post·)
 
     module _ where
       abbrev at0 : (bs : List.List Nat.ℕ) → Typed.TF T31 O1
@@ -1100,7 +1100,7 @@ module _ (claims· : Claims) where
 
       module _ {M : Type 1} (𝓤 : URA.URA M) (H : Wp.Heap 𝓤) (A : Atoms.Atoms 𝓤) (W : Kit.Given 𝓤 H A) (𝓣 : Wp.Tables 𝓤 H) where
         abbrev Knowns : Type 1
-        Knowns = Plain.Known 𝓤 H A W 𝓣 0 ps·0 r·0 (claims· .0) (claims· .1) "column::blank_column" × Plain.Known 𝓤 H A W 𝓣 2 ps·1 r·1 (claims· .2) (claims· .3) "sqldard::parse_sqldard_data" × Plain.Known 𝓤 H A W 𝓣 0 ps·2 r·2 (claims· .4) (claims· .5) "outcome::is_refused" × Plain.Known 𝓤 H A W 𝓣 1 ps·3 r·3 (claims· .6) (claims· .7) "table_output::status::put_refusal" × Plain.Known 𝓤 H A W 𝓣 1 ps·4 r·4 (claims· .8) (claims· .9) "describe::widths_of" × Plain.Known 𝓤 H A W 𝓣 3 ps·5 r·5 (claims· .10) (claims· .11) "describe::put_top" × Plain.Known 𝓤 H A W 𝓣 3 ps·6 r·6 (claims· .12) (claims· .13) "describe::put_rows"
+        Knowns = Plain.Known 𝓤 H A W 𝓣 0 ps·0 r·0 (claims· .0) (claims· .1) "column::blank_column" × Plain.Known 𝓤 H A W 𝓣 2 ps·1 r·1 (claims· .2) (claims· .3) "sqldard::parse_sqldard_data" × Plain.Known 𝓤 H A W 𝓣 0 ps·2 r·2 (claims· .4) (claims· .5) "outcome::is_refused" × Plain.Known 𝓤 H A W 𝓣 1 ps·3 r·3 (claims· .6) (claims· .7) "status_output::put_refusal" × Plain.Known 𝓤 H A W 𝓣 1 ps·4 r·4 (claims· .8) (claims· .9) "describe::widths_of" × Plain.Known 𝓤 H A W 𝓣 3 ps·5 r·5 (claims· .10) (claims· .11) "describe::put_top" × Plain.Known 𝓤 H A W 𝓣 3 ps·6 r·6 (claims· .12) (claims· .13) "describe::put_rows"
 
       module _ (κs : Lifetimes.Lfts 3) (qs : Lifetimes.Shares 3) where
         abbrev g16 : List.List Row.Entry
@@ -1420,7 +1420,7 @@ module _ (claims· : Claims) where
           d6 = Typed.g-pre 𝓤 H A W 𝓣 E G25 G26 b10 Δ1 (Typed.pass T25 T26 (s23 bs)) (at5 bs) (Scalar.g-room 𝓤 H A W E G25 8 (Syntax.tyEnum (List._∷_ 111 (List._∷_ 117 (List._∷_ 116 (List._∷_ 99 (List._∷_ 111 (List._∷_ 109 (List._∷_ 101 (List._∷_ 58 (List._∷_ 58 (List._∷_ 79 (List._∷_ 117 (List._∷_ 116 (List._∷_ 99 (List._∷_ 111 (List._∷_ 109 (List._∷_ 101 List.[])))))))))))))))) (Syntax.ttcons Syntax.tnil (Syntax.ttcons Syntax.tnil (Syntax.ttcons (Syntax.tcons (Syntax.tyInt Syntax.w64) (Syntax.tcons (Syntax.tyInt Syntax.w64) Syntax.tnil)) (Syntax.ttcons Syntax.tnil (Syntax.ttcons (Syntax.tcons (Syntax.tyInt Syntax.w16) Syntax.tnil) (Syntax.ttcons Syntax.tnil (Syntax.ttcons (Syntax.tcons (Syntax.tyInt Syntax.w64) Syntax.tnil) (Syntax.ttcons Syntax.tnil Syntax.ttnil))))))))) (Local.room-whole 𝓤 H A W (Declared.row Outcome.the-type) (Syntax.tyEnum (List._∷_ 111 (List._∷_ 117 (List._∷_ 116 (List._∷_ 99 (List._∷_ 111 (List._∷_ 109 (List._∷_ 101 (List._∷_ 58 (List._∷_ 58 (List._∷_ 79 (List._∷_ 117 (List._∷_ 116 (List._∷_ 99 (List._∷_ 111 (List._∷_ 109 (List._∷_ 101 List.[])))))))))))))))) (Syntax.ttcons Syntax.tnil (Syntax.ttcons Syntax.tnil (Syntax.ttcons (Syntax.tcons (Syntax.tyInt Syntax.w64) (Syntax.tcons (Syntax.tyInt Syntax.w64) Syntax.tnil)) (Syntax.ttcons Syntax.tnil (Syntax.ttcons (Syntax.tcons (Syntax.tyInt Syntax.w16) Syntax.tnil) (Syntax.ttcons Syntax.tnil (Syntax.ttcons (Syntax.tcons (Syntax.tyInt Syntax.w64) Syntax.tnil) (Syntax.ttcons Syntax.tnil Syntax.ttnil))))))))) Path'.refl)) d5
 
           d7 : Typed.Typed 𝓤 H A 𝓣 E G24 b11 Δ1 (at7 bs)
-          d7 = Typed.s-seq 𝓤 H A W 𝓣 E G24 G25 b9 b10 Δ1 (Typed.both (s22 bs)) (at6 bs) (Plain.t-call-plain 𝓤 H A W 𝓣 1 ps·3 r·3 (claims· .6) (claims· .7) "table_output::status::put_refusal" (known .3) E (λ pos β. β) G24 (record { pos = 17; ty = Syntax.tyRef Syntax.erased Syntax.mut (Syntax.tyInt Syntax.w8); ref = λ x. x }, (Num.vAt 2 λ x. x, (record { pos = 8; st = List.[]; d = 0; at = λ x. x }, tt))) 0 (List._∷_ 4 List.[]) (Call.sub-id 𝓤 H A W (G24 .slots)) (Reads'.as-is 𝓤 H A (Mut.mslice (Referent.rtF (Referent.fInt Syntax.w8)) (Syntax.tyRef Syntax.erased Syntax.mut (Syntax.tyInt Syntax.w8)) 4), Mut.reads-mslice 𝓤 H A W (Referent.rtF (Referent.fInt Syntax.w8)) (Syntax.tyRef Syntax.erased Syntax.mut (Syntax.tyInt Syntax.w8)) 4, Path'.refl, ((Scalar.reads-sc 𝓤 H A W (Row.sInt Syntax.w64), Path'.refl), ((Yields.yields-copy 𝓤 H A W (λ ρ. Unit) (Declared.row Outcome.the-type) Path'.refl (Copies.cEnum Outcome.the-type Laws.the-laws Laws.the-copy .copy 𝓤 H A W) (Rows'.whole (Declared.row Outcome.the-type)) (λ x. x) (λ x. x) (λ ρ told. Local.mem-whole 𝓤 H A W (Declared.row Outcome.the-type) ρ) λ ρ told. Local.whole-mem 𝓤 H A W (Declared.row Outcome.the-type) ρ, Path'.refl), tt))) (Reads'.room-gone 𝓤 H A (Syntax.tyInt Syntax.w64)) (tt, tt) Path'.refl) d6
+          d7 = Typed.s-seq 𝓤 H A W 𝓣 E G24 G25 b9 b10 Δ1 (Typed.both (s22 bs)) (at6 bs) (Plain.t-call-plain 𝓤 H A W 𝓣 1 ps·3 r·3 (claims· .6) (claims· .7) "status_output::put_refusal" (known .3) E (λ pos β. β) G24 (record { pos = 17; ty = Syntax.tyRef Syntax.erased Syntax.mut (Syntax.tyInt Syntax.w8); ref = λ x. x }, (Num.vAt 2 λ x. x, (record { pos = 8; st = List.[]; d = 0; at = λ x. x }, tt))) 0 (List._∷_ 4 List.[]) (Call.sub-id 𝓤 H A W (G24 .slots)) (Reads'.as-is 𝓤 H A (Mut.mslice (Referent.rtF (Referent.fInt Syntax.w8)) (Syntax.tyRef Syntax.erased Syntax.mut (Syntax.tyInt Syntax.w8)) 4), Mut.reads-mslice 𝓤 H A W (Referent.rtF (Referent.fInt Syntax.w8)) (Syntax.tyRef Syntax.erased Syntax.mut (Syntax.tyInt Syntax.w8)) 4, Path'.refl, ((Scalar.reads-sc 𝓤 H A W (Row.sInt Syntax.w64), Path'.refl), ((Yields.yields-copy 𝓤 H A W (λ ρ. Unit) (Declared.row Outcome.the-type) Path'.refl (Copies.cEnum Outcome.the-type Laws.the-laws Laws.the-copy .copy 𝓤 H A W) (Rows'.whole (Declared.row Outcome.the-type)) (λ x. x) (λ x. x) (λ ρ told. Local.mem-whole 𝓤 H A W (Declared.row Outcome.the-type) ρ) λ ρ told. Local.whole-mem 𝓤 H A W (Declared.row Outcome.the-type) ρ, Path'.refl), tt))) (Reads'.room-gone 𝓤 H A (Syntax.tyInt Syntax.w64)) (tt, tt) Path'.refl) d6
 
           d8 : Typed.Typed 𝓤 H A 𝓣 E G23 b12 Δ1 (at8 bs)
           d8 = Typed.s-seq 𝓤 H A W 𝓣 E G23 G24 b8 b11 Δ1 (Typed.ask (s21 bs)) (at7 bs) (Relend.t-sl-aggregate 𝓤 H A W E (Referent.rtF (Referent.fInt Syntax.w8)) 𝓣 (Relend.asMut (Referent.rtF (Referent.fInt Syntax.w8))) G23 16 17 4 (Syntax.tyRef Syntax.erased Syntax.mut (Syntax.tyInt Syntax.w8)) (Syntax.tyRef Syntax.erased Syntax.mut (Syntax.tyInt Syntax.w8)) (λ x. x) (Scalar.oFld 1 (List._∷_ (Syntax.field 1) List.[]) (Syntax.tyInt Syntax.w64) 8 λ v. Shared.lenV (v .0)) (Reads'.as-is 𝓤 H A (Relend.msptr (Referent.rtF (Referent.fInt Syntax.w8)) (Syntax.tyRef Syntax.erased Syntax.mut (Syntax.tyInt Syntax.w8)) 4)) (Reads'.room-gone 𝓤 H A (Syntax.tyStruct (List._∷_ 38 (List._∷_ 91 (List._∷_ 93 List.[]))) (Syntax.tcons (Syntax.tyRef Syntax.erased Syntax.mut (Syntax.tyInt Syntax.w8)) (Syntax.tcons (Syntax.tyInt Syntax.w64) Syntax.tnil)))) (Relend.reads-owed-len 𝓤 H A W (Referent.rtF (Referent.fInt Syntax.w8)) (Syntax.tyRef (Syntax.named 0) Syntax.mut (Syntax.tyInt Syntax.w8)) 0 4 (Row.lease (κs .0) (qs .0)) 8 Path'.refl, Path'.refl) Path'.refl Path'.refl λ b o k. tt) d7
@@ -2188,6 +2188,6 @@ module _ (claims· : Claims) where
           pub asked : (a : Kinds.Dens κs ps) → (good : Kinds.GoodsP κs ps a) → (pre : Pre· κs a) → (bs : List.List Nat.ℕ) → Φ bs (Any.wantQ 3 ps r xs m κs qs a (Post· κs a)) (Function.init 3 ps r xs m κs qs a)
           asked = λ a good pre bs. laid record { κs = κs; args = record { out = a .0; used = a .1 .0; reply = a .1 .1 .0; room = a .1 .1 .1 .0 }; blocks = bs; good = good; fits = record { used = record { fits = good .1 .0 .1 } }; pre = pre }
 
-        module _ {M : Type 1} (𝓤 : URA.URA M) (H : Wp.Heap 𝓤) (A : Atoms.Atoms 𝓤) (W : Kit.Given 𝓤 H A) (𝓣 : Wp.Tables 𝓤 H) (known0 : Plain.Known 𝓤 H A W 𝓣 0 ps·0 r·0 (claims· .0) (claims· .1) "column::blank_column") (known1 : Plain.Known 𝓤 H A W 𝓣 2 ps·1 r·1 (claims· .2) (claims· .3) "sqldard::parse_sqldard_data") (known2 : Plain.Known 𝓤 H A W 𝓣 0 ps·2 r·2 (claims· .4) (claims· .5) "outcome::is_refused") (known3 : Plain.Known 𝓤 H A W 𝓣 1 ps·3 r·3 (claims· .6) (claims· .7) "table_output::status::put_refusal") (known4 : Plain.Known 𝓤 H A W 𝓣 1 ps·4 r·4 (claims· .8) (claims· .9) "describe::widths_of") (known5 : Plain.Known 𝓤 H A W 𝓣 3 ps·5 r·5 (claims· .10) (claims· .11) "describe::put_top") (known6 : Plain.Known 𝓤 H A W 𝓣 3 ps·6 r·6 (claims· .12) (claims· .13) "describe::put_rows") where
+        module _ {M : Type 1} (𝓤 : URA.URA M) (H : Wp.Heap 𝓤) (A : Atoms.Atoms 𝓤) (W : Kit.Given 𝓤 H A) (𝓣 : Wp.Tables 𝓤 H) (known0 : Plain.Known 𝓤 H A W 𝓣 0 ps·0 r·0 (claims· .0) (claims· .1) "column::blank_column") (known1 : Plain.Known 𝓤 H A W 𝓣 2 ps·1 r·1 (claims· .2) (claims· .3) "sqldard::parse_sqldard_data") (known2 : Plain.Known 𝓤 H A W 𝓣 0 ps·2 r·2 (claims· .4) (claims· .5) "outcome::is_refused") (known3 : Plain.Known 𝓤 H A W 𝓣 1 ps·3 r·3 (claims· .6) (claims· .7) "status_output::put_refusal") (known4 : Plain.Known 𝓤 H A W 𝓣 1 ps·4 r·4 (claims· .8) (claims· .9) "describe::widths_of") (known5 : Plain.Known 𝓤 H A W 𝓣 3 ps·5 r·5 (claims· .10) (claims· .11) "describe::put_top") (known6 : Plain.Known 𝓤 H A W 𝓣 3 ps·6 r·6 (claims· .12) (claims· .13) "describe::put_rows") where
           pub spec : Statement.Triple 𝓤 (Wp.WpFn 𝓤 H (𝓣 .C) (𝓣 .Λ) (Function.fnOf 3 ps r xs m hs body)) (Function.plainOf 𝓤 H A 3 ps r Pre· Post·)
           spec = Plain.t-fn-plain 𝓤 H A W 𝓣 3 ps r xs m hs body (λ κs qs bs. Φ bs) (λ κs qs bs bd. typed κs qs 𝓤 H A W 𝓣 (known0, known1, known2, known3, known4, known5, known6) bs bd) Pre· Post· asked

@@ -4,8 +4,8 @@ use mathlib.Core.Path.{_≡_}
 use Prim.Native.Nat.{_≤_, _-_}
 use lib.ListN.{length}
 use borrow.Author.Needs.{needs}
-use Rattle.table_output.proofs.cells.put_characters.Statement.{statement}
-use Rattle.table_output.proofs.cells.put_characters.Tie as tie
+use Rattle.output.proofs.put_characters.Statement.{statement}
+use Rattle.output.proofs.put_characters.Tie as tie
 
 abbrev Inv-loop : tie.InvT-loop
 Inv-loop out₀ used characters next₀ i₀ out next i = (next ≤ length out) × (length out ≡ length out₀)

@@ -1,7 +1,7 @@
-// What stands above the table: a reply's status and size; or, alone, why it was refused.
+// A reply in words: its status and size; or, alone, why it was refused.
+// Functions take and give the position in `out` as those of `output` do.
 ghost use Prim.Native.Nat.{_≤_};
 ghost use lib.ListN.{length};
-use crate::cells;
 use outcome::Outcome;
 use sqlcard::SqlCard;
 
@@ -30,9 +30,9 @@ fn put_code(out: &mut [u8], used: usize, card: SqlCard) -> usize
     let next = output::put_bytes(out, used, b"SQLCODE ");
     let next = output::put_signed(out, next, card.sqlcode);
     let next = output::put_bytes(out, next, b", SQLSTATE ");
-    let next = cells::put_characters(out, next, &state);
+    let next = output::put_characters(out, next, &state);
     let next = output::put_bytes(out, next, b", proc ");
-    cells::put_characters(out, next, &procedure[0..end])
+    output::put_characters(out, next, &procedure[0..end])
 }
 
 // `1 row`, `2 rows`.
@@ -63,7 +63,7 @@ fn put_message(out: &mut [u8], used: usize, reply: &[u8], card: SqlCard, room: &
         return used;
     }
     let next = output::put_bytes(out, used, b"message: ");
-    let next = cells::put_characters(out, next, &room[0..count]);
+    let next = output::put_characters(out, next, &room[0..count]);
     output::put_byte(out, next, b'\n')
 }
 
