@@ -71,7 +71,9 @@ pub fn put_text(out: &mut [u8], used: usize, reply: &[u8], text: Text, number: u
 }
 
 // How many characters `put_text` puts: one for a byte.
-pub fn text_width(text: Text, number: u16) -> usize {
+pub fn text_width(text: Text, number: u16) -> usize
+    ensures { λ r. ⌜ 1 ≤ r ⌝ }
+{
     if text.alphabet == 0 {
         return 3 + digits(number as usize + 1);
     }

@@ -86,7 +86,9 @@ fn type_name(db2_type: Db2Type) -> TypeName
 }
 
 // How many characters `put_type` puts.
-pub fn type_width(db2_type: Db2Type) -> usize {
+pub fn type_width(db2_type: Db2Type) -> usize
+    ensures { λ r. ⌜ r ≤ 53 ⌝ }
+{
     let name = type_name(db2_type);
     let count = name.count;
     let first = cells::digits(name.first as usize);
