@@ -18,7 +18,7 @@ use Rattle.field.proofs.Windows.{Window, part-same}
 use Rattle.text.specs.declared.Text.{Text}
 use Rattle.text.specs.Chars.{isAscii}
 use Rattle.text.specs.Text.{textIs, emptyText, placed, leading, kept, textOn}
-use Rattle.text.proofs.Trim.{kept-le}
+use Rattle.text.proofs.Trim.{kept-le, leading-le}
 use Rattle.types.specs.declared.ColumnMetadata.{ColumnMetadata}
 use Rattle.column.specs.declared.Described.{Described}
 use Rattle.column.specs.Column.{stringText, nameText, generatedText, columnWith}
@@ -60,15 +60,6 @@ lies-placed p q x n k h i = go (eqb n 0) refl
     go : (t : Bool) → eqb n 0 ≡ t → Lies p q (pick t emptyText (textIs x n k))
     go true e = lies-none p q 1
     go false e = record { from = h; to = i }
-
-leading-le : (f : ℕ → Bool) (xs : List ℕ) → leading f xs ≤ lib.ListN.length xs
-unfolding leading
-leading-le f [] = le-refl 0
-leading-le f (x ∷ xs) = go (f x) (leading-le f xs)
-  where
-    go : (b : Bool) → leading f xs ≤ lib.ListN.length xs → pick b (Prim.Native.Nat.suc (leading f xs)) 0 ≤ Prim.Native.Nat.suc (lib.ListN.length xs)
-    go true h = omega arith
-    go false h = omega arith
 
 -- a string's text lies where the string does
 pub text-lies : (page : Page) (s : List ℕ) (p q : ℕ) (r : StringRead) → StringLies p q r → Lies p q (stringText page s r)

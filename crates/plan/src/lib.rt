@@ -152,7 +152,8 @@ fn last_count_offset(reply: &[u8], offset: usize) -> usize
     offset
 }
 
-fn empty_plan(outcome: Outcome) -> Plan
+// A plan that reads nothing, for refusals too.
+pub fn empty_plan(outcome: Outcome) -> Plan
     ensures { λ r. ⌜ r ≡ emptyPlan outcome ⌝ }
 {
     Plan {

@@ -1,7 +1,7 @@
 -- The exchange: one column's description replaced by another, for any local view of the columns.
 -- Assumes nothing.
 use mathlib.Core.Path.{_≡_, refl, sym, ap, ap₂, _∙_}
-use mathlib.Core.Bool.{Bool, true, false, _&&_}
+use mathlib.Core.Bool.{Bool, true, false, _&&_, and-eq-true-iff}
 use mathlib.Core.List.{List, [], _∷_}
 use Prim.Native.Nat.{ℕ, zero, suc, _+_, _-_, _≤_, _<_}
 use native.Mathlib.Nat.{le-trans}
@@ -83,14 +83,6 @@ module _ (s : List ℕ) (a e : ℕ) (d : List ℕ) (x : a ≤ e) (y : e ≤ leng
 
 -- ---- a reading that gives columns
 
-and-left : (x y : Bool) → (x && y) ≡ true → x ≡ true
-and-left true y e = refl
-and-left false y e = e
-
-and-right : (x y : Bool) → (x && y) ≡ true → y ≡ true
-and-right true y e = e
-and-right false y e = absurd (let z : _≡_ {A = ℕ} 0 1 = cc in omega arith)
-
 pub record Gives (order : ByteOrder) (s : List ℕ) : Type 0 where
   pub room : countAt s + 2 ≤ length s
   pub some : 1 ≤ countIn order s
@@ -99,9 +91,10 @@ pub record Gives (order : ByteOrder) (s : List ℕ) : Type 0 where
 
 and-four : (x y z t : Bool) → (x && (y && (z && t))) ≡ true → (x ≡ true) × (y ≡ true) × (z ≡ true) × (t ≡ true)
 and-four x y z t e =
-    let e₁ = and-right x (y && (z && t)) e in
-    let e₂ = and-right y (z && t) e₁ in
-    (and-left x (y && (z && t)) e, and-left y (z && t) e₁, and-left z t e₂, and-right z t e₂)
+    let a = and-eq-true-iff x (y && (z && t)) .0 e in
+    let b = and-eq-true-iff y (z && t) .0 (a .1) in
+    let c = and-eq-true-iff z t .0 (b .1) in
+    (a .0, b .0, c .0, c .1)
 
 pub gives-in : (order : ByteOrder) (s : List ℕ) → gives order s ≡ true → Gives order s
 unfolding gives

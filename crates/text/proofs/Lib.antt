@@ -3,4 +3,3 @@ pub mod Decode
 pub mod Generated
 pub mod Quick
 pub mod Cases
-pub mod Windows
