@@ -152,8 +152,7 @@ fn last_count_offset(reply: &[u8], offset: usize) -> usize
     offset
 }
 
-// A plan that reads nothing, for refusals too.
-pub fn empty_plan(outcome: Outcome) -> Plan
+fn empty_plan(outcome: Outcome) -> Plan
     ensures { λ r. ⌜ r ≡ emptyPlan outcome ⌝ }
 {
     Plan {

@@ -8,7 +8,9 @@ ghost use Rattle.outcome.specs.Refusal.{refusalOf};
 ghost use Rattle.plan.specs.Plan.{columnsOf};
 ghost use Rattle.sqldard.specs.Decision.{Decides};
 ghost use Rattle.sqldard.specs.Description.{refusedWith, statusOf, description, withCodePoint, written};
+use field::ByteOrder;
 use outcome::Outcome;
+use plan::Layout;
 use plan::Plan;
 use sqlcard::SqlCard;
 use types::ColumnMetadata;
@@ -26,11 +28,29 @@ struct Decision {
     answer: SqldardAnswer,
 }
 
+fn no_columns() -> Plan
+    ensures { λ r. ⌜ (r .count ≡ 0) × (r .limit ≡ 0) ⌝ }
+{
+    let layout = Layout::Standard;
+    let order = ByteOrder::BigEndian;
+    let outcome = Outcome::Accepted;
+    Plan {
+        layout,
+        order,
+        alone: false,
+        start: 0,
+        limit: 0,
+        count: 0,
+        named: 0,
+        outcome,
+    }
+}
+
 fn refused(outcome: Outcome) -> Decision
     ensures { λ r. ⌜ ((room : ℕ) (s : List ℕ) → Decides page037 room s r (refusedWith (refusalOf outcome))) ⌝ }
 {
     Decision {
-        plan: plan::empty_plan(Outcome::Accepted),
+        plan: no_columns(),
         answer: SqldardAnswer {
             outcome,
             card: SqlCard::success(),
