@@ -5,7 +5,7 @@ use Prim.Native.Nat.{ℕ, _-_}
 use lib.Dec.{eqb}
 use lib.ListN.{length, getD}
 use Rattle.outcome.specs.declared.Outcome.{Outcome}
-use Rattle.outcome.specs.declared.Outcome.the-variants.{Accepted, EmptyReply, BufferTooShort, InvalidSqlcard, UnexpectedCodePoint, ReplyTooLong, RoomTooShort, OutsideReply}
+use Rattle.outcome.specs.declared.Outcome.the-variants.{Accepted, EmptyReply, BufferTooShort, InvalidSqlcard, UnexpectedCodePoint, ReplyTooLong, RoomTooShort, OutsideReply, LargeObject}
 use Rattle.outcome.specs.declared.Refusal.{Refusal}
 
 -- the number and then the values, in the order of 01, Numbers of refusal; 0 alone where nothing is refused
@@ -18,6 +18,7 @@ refusalOf (UnexpectedCodePoint point) = 4 ∷ point ∷ []
 refusalOf ReplyTooLong = 5 ∷ []
 refusalOf (RoomTooShort needed) = 6 ∷ needed ∷ []
 refusalOf OutsideReply = 7 ∷ []
+refusalOf (LargeObject number) = 8 ∷ number ∷ []
 
 -- such a list says that something is refused: its number is not 0 (01, Numbers of refusal)
 abbrev pub isRefused : List ℕ → Bool

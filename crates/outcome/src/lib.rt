@@ -15,6 +15,8 @@ pub enum Outcome {
     // What was lent is too short: how many elements are needed.
     RoomTooShort(usize),
     OutsideReply,
+    // A row without a widest: the number of its first Blob, Clob, DbClob or Xml column.
+    LargeObject(u16),
 }
 
 // A refusal's number and its values in document 01's order: `count` of them, the others 0. Number 0 is none.
@@ -49,6 +51,7 @@ pub fn refusal_of(outcome: Outcome) -> Refusal
         Outcome::ReplyTooLong => refused(5, 0, 0, 0),
         Outcome::RoomTooShort(needed) => refused(6, 1, needed, 0),
         Outcome::OutsideReply => refused(7, 0, 0, 0),
+        Outcome::LargeObject(number) => refused(8, 1, number as usize, 0),
     }
 }
 

@@ -35,10 +35,16 @@ returns-7 c = c .refused7 .ensures ∙ ap told (sym (c .before .before .outcome3
 returns-8 : tie.Need-returns-8
 returns-8 c = c .refused8 .ensures ∙ ap told (sym (c .before .enum-told5 .given .1))
 
+returns-9 : tie.Need-returns-9
+returns-9 c = c .refused9 .ensures ∙ ap told (sym (c .before .before .outcome4 .given .1))
+
 pub refusal-of-spec : {M : Type 1} → statement M
 refusal-of-spec =
     tie.close
     (tie.spec
+    (search needs)
+    (search needs)
+    (search needs)
     (search needs)
     (search needs)
     (search needs)
@@ -63,4 +69,5 @@ refusal-of-spec =
     returns-5
     returns-6
     returns-7
-    returns-8)
+    returns-8
+    returns-9)
