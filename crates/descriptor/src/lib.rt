@@ -12,7 +12,7 @@ use field::ByteOrder;
 use field::StringRead;
 
 // Past SQLUDTGRP: nothing of it is kept.
-fn skip_sqludtgrp(reply: &[u8], offset: usize) -> usize
+pub fn skip_sqludtgrp(reply: &[u8], offset: usize) -> usize
     ensures { λ r. ⌜ r ≡ nullableEnd lenient udtEnd (now (reply .entry)) offset ⌝ }
 {
     if reply.len() <= offset {
@@ -45,7 +45,7 @@ fn no_sqldxgrp(next: usize) -> Sqldxgrp
     }
 }
 
-fn read_sqldxgrp(reply: &[u8], offset: usize) -> Sqldxgrp
+pub fn read_sqldxgrp(reply: &[u8], offset: usize) -> Sqldxgrp
     ensures { λ r. ⌜ r ≡ sqldxgrpAt (now (reply .entry)) offset ⌝ }
 {
     if reply.len() <= offset {

@@ -13,7 +13,8 @@ use Rattle.outcome.specs.Refusal.{refusalOf, isRefused}
 use Rattle.outcome.specs.declared.Outcome.{Outcome}
 use Rattle.outcome.specs.declared.Outcome.the-variants.{Accepted, ReplyTooLong, RoomTooShort, OutsideReply}
 use Rattle.message.specs.Message.{isAsciiMessage, textIn, messageText}
-use Rattle.message.specs.Answer.{textAt, messageRefusal, messageLength, over, messageWritten}
+use Rattle.search.specs.Search.{over}
+use Rattle.message.specs.Answer.{textAt, messageRefusal, messageLength, messageWritten}
 use Rattle.message.specs.declared.MessageText.{MessageText}
 
 -- the text of bytes s[p .. p + n], as the code lends them, by what the code found of their alphabet

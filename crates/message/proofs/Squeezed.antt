@@ -12,7 +12,7 @@ use Rattle.search.specs.Search.{pick}
 use Rattle.search.proofs.Each.{drop-next}
 use Rattle.codepage.specs.Blank.{isBlank}
 use Rattle.message.specs.Squeezed.{after, isGap, added, squeezed}
-use Rattle.message.specs.Answer.{over}
+use Rattle.search.specs.Search.{over}
 use Rattle.message.specs.declared.Behind.{Behind}
 use Rattle.message.specs.declared.Behind.the-variants.{Nothing, Character, Blanks}
 

@@ -1,9 +1,9 @@
 -- What the entry message text answers, and what it leaves in the buffer (01, Answers and Numbers of refusal).
-use mathlib.Core.List.{List, [], _∷_, _++_}
+use mathlib.Core.List.{List, [], _∷_}
 use Prim.Native.Nat.{ℕ, _+_}
 use lib.Dec.{ltb}
 use lib.ListN.{length, take, drop}
-use Rattle.search.specs.Search.{pick}
+use Rattle.search.specs.Search.{pick, over}
 use Rattle.codepage.specs.Page.{Page}
 use Rattle.outcome.specs.Refusal.{isRefused}
 use Rattle.message.specs.Message.{messageText}
@@ -21,10 +21,6 @@ messageRefusal page s p n room =
 -- the text's length; 0 where refused (01, Answers: message text)
 unfoldable pub messageLength : Page → List ℕ → ℕ → ℕ → ℕ → ℕ
 messageLength page s p n room = pick (isRefused (messageRefusal page s p n room)) 0 (length (textAt page s p n))
-
--- a text over a buffer's front, bytes past it untouched (01, Answers: message text)
-abbrev pub over : List ℕ → List ℕ → List ℕ
-over text buffer = text ++ drop (length text) buffer
 
 -- the text over the buffer's front; the buffer as it was where refused (01, Numbers of refusal: a refusal changes nothing)
 unfoldable pub messageWritten : Page → List ℕ → ℕ → ℕ → List ℕ → List ℕ

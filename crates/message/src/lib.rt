@@ -3,13 +3,13 @@ ghost use mathlib.Core.Path.{_≡_};
 ghost use Prim.Native.Nat.{_+_, _<_, _≤_};
 ghost use lib.ListN.{length};
 ghost use lib.Seq.{sets};
-ghost use Rattle.search.specs.Search.{pick};
+ghost use Rattle.search.specs.Search.{pick, over};
 ghost use Rattle.codepage.specs.Page.{page037};
 ghost use Rattle.codepage.specs.Blank.{isBlank};
 ghost use Rattle.outcome.specs.Refusal.{refusalOf};
 ghost use Rattle.message.specs.Message.{isPrintable, isSeparator, isAsciiMessage, messageChar, textIn, hasText};
 ghost use Rattle.message.specs.Squeezed.{after, isGap, added};
-ghost use Rattle.message.specs.Answer.{over, messageRefusal, messageLength, messageWritten};
+ghost use Rattle.message.specs.Answer.{messageRefusal, messageLength, messageWritten};
 use outcome::Outcome;
 
 pub fn is_printable(byte: u8) -> bool

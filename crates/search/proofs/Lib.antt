@@ -9,3 +9,4 @@ pub mod Walks
 pub mod Alternatives
 pub mod Writing
 pub mod Filling
+pub mod Alike

@@ -1,7 +1,8 @@
 -- Choosing, testing and searching: the words that the readers' definitions are made of. No document defines them; each is its own source.
 use Prim.Native.Nat.{ℕ, zero, suc, _+_}
-use mathlib.Core.List.{List, [], _∷_}
+use mathlib.Core.List.{List, [], _∷_, _++_}
 use mathlib.Core.Bool.{Bool, true, false, _&&_}
+use lib.ListN.{length, drop}
 
 -- the first of two where the test holds, else the second
 abbrev pub pick : {A : Type 0} → Bool → A → A → A
@@ -27,3 +28,14 @@ count f (x ∷ xs) = pick (f x) 1 0 + count f xs
 abbrev pub firstIn : {A : Type 0} → (A → Bool) → List A → A → A
 firstIn f [] d = d
 firstIn f (x ∷ xs) d = pick (f x) x (firstIn f xs d)
+
+-- two lists are equally long, and the test holds of each two elements at the same place
+abbrev pub alike : {A : Type 0} → (A → A → Bool) → List A → List A → Bool
+alike f [] [] = true
+alike f [] (y ∷ ys) = false
+alike f (x ∷ xs) [] = false
+alike f (x ∷ xs) (y ∷ ys) = f x y && alike f xs ys
+
+-- what is lent, once something is written over its front: what lies past that is untouched (01, Answers)
+abbrev pub over : {A : Type 0} → List A → List A → List A
+over front lent = front ++ drop (length front) lent

@@ -8,7 +8,7 @@ use lib.Dec.{leb, ltb}
 use lib.ListN.{length, drop}
 use native.Mathlib.Omega.{arith}
 use borrow.Author.Tests.{lt-ltb, le-ltb, le-leb, lt-leb, eq-eqb, ne-eqb, leb-true}
-use Rattle.search.specs.Search.{pick}
+use Rattle.search.specs.Search.{pick, over}
 use Rattle.search.specs.Walks.{chain}
 use Rattle.codepage.specs.Page.{Page}
 use Rattle.outcome.specs.Refusal.{refusalOf, isRefused}
@@ -17,7 +17,7 @@ use Rattle.plan.specs.declared.Plan.{Plan}
 use Rattle.plan.specs.Choice.{Reading, choice}
 use Rattle.plan.specs.Plan.{planOf, columnsOf, walkOf, readingOf}
 use Rattle.plan.proofs.Choices.{plan-reads}
-use Rattle.sqldard.specs.Description.{Description, refusedWith, statusOf, answerBy, description, withCodePoint, written}
+use Rattle.sqldard.specs.Description.{Description, refusedWith, statusOf, answerBy, description, withCodePoint}
 use Rattle.sqldard.specs.declared.Decision.{Decision}
 use Rattle.sqldard.specs.Decision.{Decides}
 
@@ -70,7 +70,7 @@ module _ {page : Page} {room : ℕ} {s : List ℕ} {d : Decision} {wanted : Desc
 
   pub filled : (l l₀ : List ColumnMetadata) → l ≡ columnsOf page s (d .plan) ++ drop (d .plan .count) l₀
       → (refusalOf (d .answer .outcome) ≡ wanted .refusal) × ((d .answer .card ≡ wanted .card)
-      × ((d .answer .count ≡ length (wanted .columns)) × (l ≡ written (wanted .columns) l₀)))
+      × ((d .answer .count ≡ length (wanted .columns)) × (l ≡ over (wanted .columns) l₀)))
   filled l l₀ e =
       let whole = e ∙ ap (λ (x : List ColumnMetadata). x ++ drop (d .plan .count) l₀) (t .plans) ∙ ap (λ (n : ℕ). wanted .columns ++ drop n l₀) (t .planned) in
       (t .refuses, (t .gives, (t .counts, whole)))

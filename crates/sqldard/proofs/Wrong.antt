@@ -8,7 +8,8 @@ use lib.ListN.{length, getD}
 use Rattle.codepage.specs.Page.{page037}
 use Rattle.types.specs.declared.ColumnMetadata.{ColumnMetadata}
 use Rattle.column.specs.Column.{blankColumn}
-use Rattle.sqldard.specs.Description.{Description, description, written}
+use Rattle.search.specs.Search.{over}
+use Rattle.sqldard.specs.Description.{Description, description}
 use Rattle.sqldard.proofs.Cases.{everything, doorOf, replyOf, replyD, accepted, case-A, case-D, case-H}
 
 -- two columns, whose lengths are 4 and another
@@ -30,10 +31,10 @@ not-COL1-to-everything e =
     let z : _≡_ {A = ℕ} 4 0 = ap (λ (d : Description). getD (map (λ (c : ColumnMetadata). c .name .length) (d .columns)) 0 0) f in omega arith
 
 -- one that writes no record
-pub not-writing-none : written (description page037 1 (replyOf 4 0xC4) .columns) (blankColumn ∷ []) ≡ blankColumn ∷ [] → ⊥
+pub not-writing-none : over (description page037 1 (replyOf 4 0xC4) .columns) (blankColumn ∷ []) ≡ blankColumn ∷ [] → ⊥
 unfolding blankColumn
 not-writing-none e =
-    let f = ap (λ (d : Description). written (d .columns) (blankColumn ∷ [])) (sym case-A) ∙ e in
+    let f = ap (λ (d : Description). over (d .columns) (blankColumn ∷ [])) (sym case-A) ∙ e in
     let z : _≡_ {A = ℕ} 4 0 = ap (λ (l : List ColumnMetadata). getD (map (λ (c : ColumnMetadata). c .length) l) 0 0) f in omega arith
 
 -- one that reads column 1 and invents the rest: the second column's length is the reply's

@@ -1,9 +1,9 @@
 -- The description entry, and the one with code point: what they answer, and what they write (01, Answers; 01, Numbers of refusal).
 use mathlib.Core.Bool.{Bool}
-use mathlib.Core.List.{List, [], _∷_, _++_}
+use mathlib.Core.List.{List, [], _∷_}
 use Prim.Native.Nat.{ℕ}
 use lib.Dec.{ltb, leb, eqb}
-use lib.ListN.{length, drop}
+use lib.ListN.{length}
 use Rattle.search.specs.Search.{pick}
 use Rattle.codepage.specs.Page.{Page}
 use Rattle.outcome.specs.Refusal.{isRefused}
@@ -42,7 +42,3 @@ description page room s = pick (ltb 65536 (length s)) (refusedWith (5 ∷ [])) (
 -- the entry with code point: 4 with it if it is not SQLDARD's 0x2411, then as above (01, Numbers of refusal: with code point; DRDA V1: SQLDARD)
 unfoldable pub withCodePoint : Page → ℕ → ℕ → List ℕ → Description
 withCodePoint page room point s = pick (eqb point 0x2411) (description page room s) (refusedWith (4 ∷ point ∷ []))
-
--- what a lent list holds then: the columns in front, its entries past the count untouched (01, Answers)
-abbrev pub written : List ColumnMetadata → List ColumnMetadata → List ColumnMetadata
-written columns lent = columns ++ drop (length columns) lent

@@ -3,11 +3,12 @@ ghost use mathlib.Core.Path.{_≡_};
 ghost use mathlib.Core.List.{List, _++_};
 ghost use Prim.Native.Nat.{ℕ, _≤_};
 ghost use lib.ListN.{length, drop};
+ghost use Rattle.search.specs.Search.{over};
 ghost use Rattle.codepage.specs.Page.{page037};
 ghost use Rattle.outcome.specs.Refusal.{refusalOf};
 ghost use Rattle.plan.specs.Plan.{columnsOf};
 ghost use Rattle.sqldard.specs.Decision.{Decides};
-ghost use Rattle.sqldard.specs.Description.{refusedWith, statusOf, description, withCodePoint, written};
+ghost use Rattle.sqldard.specs.Description.{refusedWith, statusOf, description, withCodePoint};
 use field::ByteOrder;
 use outcome::Outcome;
 use plan::Layout;
@@ -132,7 +133,7 @@ pub fn parse_sqldard_data(reply: &[u8], columns: &mut [ColumnMetadata]) -> Sqlda
     ensures refuses { λ r. ⌜ refusalOf (r .outcome) ≡ description page037 (length (now (columns .entry))) (now (reply .entry)) .refusal ⌝ }
     ensures gives { λ r. ⌜ r .card ≡ description page037 (length (now (columns .entry))) (now (reply .entry)) .card ⌝ }
     ensures counts { λ r. ⌜ r .count ≡ length (description page037 (length (now (columns .entry))) (now (reply .entry)) .columns) ⌝ }
-    ensures fills { λ _. ⌜ now (columns .exit) ≡ written (description page037 (length (now (columns .entry))) (now (reply .entry)) .columns) (now (columns .entry)) ⌝ }
+    ensures fills { λ _. ⌜ now (columns .exit) ≡ over (description page037 (length (now (columns .entry))) (now (reply .entry)) .columns) (now (columns .entry)) ⌝ }
 {
     let decision = decide(reply, columns.len());
     let plan = decision.plan;
@@ -145,7 +146,7 @@ pub fn parse_sqldard(code_point: u16, reply: &[u8], columns: &mut [ColumnMetadat
     ensures refuses { λ r. ⌜ refusalOf (r .outcome) ≡ withCodePoint page037 (length (now (columns .entry))) «code_point» (now (reply .entry)) .refusal ⌝ }
     ensures gives { λ r. ⌜ r .card ≡ withCodePoint page037 (length (now (columns .entry))) «code_point» (now (reply .entry)) .card ⌝ }
     ensures counts { λ r. ⌜ r .count ≡ length (withCodePoint page037 (length (now (columns .entry))) «code_point» (now (reply .entry)) .columns) ⌝ }
-    ensures fills { λ _. ⌜ now (columns .exit) ≡ written (withCodePoint page037 (length (now (columns .entry))) «code_point» (now (reply .entry)) .columns) (now (columns .entry)) ⌝ }
+    ensures fills { λ _. ⌜ now (columns .exit) ≡ over (withCodePoint page037 (length (now (columns .entry))) «code_point» (now (reply .entry)) .columns) (now (columns .entry)) ⌝ }
 {
     let decision = decide_at(code_point, reply, columns.len());
     let plan = decision.plan;

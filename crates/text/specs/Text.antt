@@ -32,9 +32,13 @@ unfoldable pub kept : (ℕ → Bool) → List ℕ → ℕ
 kept f [] = 0
 kept f (x ∷ xs) = pick (eqb (kept f xs) 0) (pick (f x) 0 1) (suc (kept f xs))
 
+-- what trimming leaves: neither at the front nor at the end one that passes the test (01, Parts 2)
+abbrev pub trimmedOf : (ℕ → Bool) → List ℕ → List ℕ
+trimmedOf f xs = take (kept f xs - leading f xs) (drop (leading f xs) xs)
+
 -- what trimming leaves of bytes of the page (01, Parts 2: decode_text)
 unfoldable pub trimmed : Page → List ℕ → List ℕ
-trimmed page bs = let first = leading (isBlankIn page) bs in take (kept (isBlankIn page) bs - first) (drop first bs)
+trimmed page bs = trimmedOf (isBlankIn page) bs
 
 -- the text of bytes that start at p: ASCII untrimmed, else of the page and trimmed (01, Parts 2: decode_text)
 unfoldable pub textOn : Page → List ℕ → ℕ → Text

@@ -1,0 +1,42 @@
+-- The text of a column's name, and what the entry name text leaves in the buffer (01, Answers: name text; 01, Numbers of refusal).
+use mathlib.Core.List.{List, [], _∷_, _++_}
+use Prim.Native.Nat.{ℕ, zero, suc, _+_, _/_, _%_}
+use lib.Dec.{eqb, ltb}
+use lib.ListN.{take, drop}
+use Rattle.search.specs.Search.{pick, over}
+use Rattle.codepage.specs.Page.{Page}
+use Rattle.outcome.specs.Refusal.{isRefused}
+use Rattle.text.specs.Chars.{chars}
+use Rattle.types.specs.declared.ColumnMetadata.{ColumnMetadata}
+use Rattle.column_name.specs.Part.{partRefusal, ownBytes}
+
+-- an ASCII digit (01, Numbers of refusal: in decimal)
+abbrev pub digitOf : ℕ → ℕ
+digitOf n = 0x30 + n % 10
+
+-- the decimal digits of n, at most k of them (01, Numbers of refusal: in decimal)
+abbrev pub digitsOf : ℕ → ℕ → List ℕ
+digitsOf zero n = []
+digitsOf (suc k) n = pick (ltb n 10) (digitOf n ∷ []) (digitsOf k (n / 10) ++ (digitOf n ∷ []))
+
+-- COL and number + 1 in decimal, which has at most five digits: a number has 16 bits (01, Numbers of refusal: alphabet 0)
+unfoldable pub generatedName : ℕ → List ℕ
+generatedName number = 0x43 ∷ 0x4F ∷ 0x4C ∷ digitsOf 5 (number + 1)
+
+-- the name's text: generated for alphabet 0, else its bytes' characters, untrimmed (01, Numbers of refusal: name part and name text)
+unfoldable pub nameOf : Page → List ℕ → ColumnMetadata → List ℕ
+nameOf page s c = pick (eqb (c .name .alphabet) 0) (generatedName (c .number)) (chars page (c .name .alphabet) (ownBytes s (c .name)))
+
+-- as name part refuses; then 6 with the length needed; else 0 (01, Numbers of refusal: name part and name text)
+unfoldable pub nameRefusal : Page → List ℕ → ColumnMetadata → ℕ → List ℕ
+nameRefusal page s c room =
+    pick (isRefused (partRefusal s (c .name))) (partRefusal s (c .name))
+    (pick (ltb room (lib.ListN.length (nameOf page s c))) (6 ∷ lib.ListN.length (nameOf page s c) ∷ []) (0 ∷ []))
+
+-- the text's length; 0 where refused (01, Answers: name text)
+unfoldable pub nameLength : Page → List ℕ → ColumnMetadata → ℕ → ℕ
+nameLength page s c room = pick (isRefused (nameRefusal page s c room)) 0 (lib.ListN.length (nameOf page s c))
+
+-- the text over the buffer's front; the buffer as it was where refused (01, Numbers of refusal: a refusal changes nothing)
+unfoldable pub nameWritten : Page → List ℕ → ColumnMetadata → List ℕ → List ℕ
+nameWritten page s c buffer = pick (isRefused (nameRefusal page s c (lib.ListN.length buffer))) buffer (over (nameOf page s c) buffer)
