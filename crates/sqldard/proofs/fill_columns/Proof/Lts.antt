@@ -192,7 +192,7 @@ abbrev pub t0 : List.List Row.Entry
 t0 = List._∷_ (0, Rows'.any-gone Syntax.tyUnit) (List._∷_ (1, Rows'.sslice (Referent.rtF (Referent.fInt Syntax.w8)) (Syntax.tyRef (Syntax.named 0) Syntax.imm (Syntax.tyInt Syntax.w8)) 0) (List._∷_ (2, Rows'.whole (Declared.row Plan.the-type)) (List._∷_ (3, Mut.mslice (ColumnMetadataRow.RT) (Syntax.tyRef (Syntax.named 1) Syntax.mut ColumnMetadataRow.named) 1) (List._∷_ (4, Rows'.any-gone (Syntax.tyInt Syntax.w64)) (List._∷_ (5, Rows'.any-gone (Syntax.tyInt Syntax.w64)) (List._∷_ (6, Rows'.any-gone (Syntax.tyInt Syntax.w64)) (List._∷_ (7, Rows'.any-gone (Syntax.tyStruct (List._∷_ 112 (List._∷_ 108 (List._∷_ 97 (List._∷_ 110 (List._∷_ 110 (List._∷_ 101 (List._∷_ 100 (List._∷_ 58 (List._∷_ 58 (List._∷_ 67 (List._∷_ 111 (List._∷_ 108 (List._∷_ 117 (List._∷_ 109 (List._∷_ 110 (List._∷_ 82 (List._∷_ 101 (List._∷_ 97 (List._∷_ 100 List.[]))))))))))))))))))) (Syntax.tcons (ColumnMetadataRow.ty) (Syntax.tcons (Syntax.tyInt Syntax.w64) Syntax.tnil)))) (List._∷_ (8, Rows'.any-gone (ColumnMetadataRow.ty)) (List._∷_ (9, Rows'.any-gone Syntax.tyBool) (List._∷_ (10, Rows'.any-gone (Syntax.tyInt Syntax.w64)) (List._∷_ (11, Rows'.any-gone Syntax.tyPtr) List.[])))))))))))
 
 abbrev pub t1 : List.List Row.Entry
-t1 = List._∷_ (0, Rows'.sc-here Row.sUnit) (List._∷_ (1, Rows'.sslice (Referent.rtF (Referent.fInt Syntax.w8)) (Syntax.tyRef (Syntax.named 0) Syntax.imm (Syntax.tyInt Syntax.w8)) 0) (List._∷_ (2, Rows'.any-gone (Syntax.tyStruct (List._∷_ 112 (List._∷_ 108 (List._∷_ 97 (List._∷_ 110 (List._∷_ 58 (List._∷_ 58 (List._∷_ 80 (List._∷_ 108 (List._∷_ 97 (List._∷_ 110 List.[])))))))))) (Syntax.tcons (Syntax.tyEnum (List._∷_ 112 (List._∷_ 108 (List._∷_ 97 (List._∷_ 110 (List._∷_ 58 (List._∷_ 58 (List._∷_ 76 (List._∷_ 97 (List._∷_ 121 (List._∷_ 111 (List._∷_ 117 (List._∷_ 116 List.[])))))))))))) (Syntax.ttcons Syntax.tnil (Syntax.ttcons Syntax.tnil (Syntax.ttcons Syntax.tnil Syntax.ttnil)))) (Syntax.tcons (Syntax.tyEnum (List._∷_ 102 (List._∷_ 105 (List._∷_ 101 (List._∷_ 108 (List._∷_ 100 (List._∷_ 58 (List._∷_ 58 (List._∷_ 66 (List._∷_ 121 (List._∷_ 116 (List._∷_ 101 (List._∷_ 79 (List._∷_ 114 (List._∷_ 100 (List._∷_ 101 (List._∷_ 114 List.[])))))))))))))))) (Syntax.ttcons Syntax.tnil (Syntax.ttcons Syntax.tnil Syntax.ttnil))) (Syntax.tcons Syntax.tyBool (Syntax.tcons (Syntax.tyInt Syntax.w64) (Syntax.tcons (Syntax.tyInt Syntax.w64) (Syntax.tcons (Syntax.tyInt Syntax.w64) (Syntax.tcons (Syntax.tyInt Syntax.w64) (Syntax.tcons (Syntax.tyEnum (List._∷_ 111 (List._∷_ 117 (List._∷_ 116 (List._∷_ 99 (List._∷_ 111 (List._∷_ 109 (List._∷_ 101 (List._∷_ 58 (List._∷_ 58 (List._∷_ 79 (List._∷_ 117 (List._∷_ 116 (List._∷_ 99 (List._∷_ 111 (List._∷_ 109 (List._∷_ 101 List.[])))))))))))))))) (Syntax.ttcons Syntax.tnil (Syntax.ttcons Syntax.tnil (Syntax.ttcons (Syntax.tcons (Syntax.tyInt Syntax.w64) (Syntax.tcons (Syntax.tyInt Syntax.w64) Syntax.tnil)) (Syntax.ttcons Syntax.tnil (Syntax.ttcons (Syntax.tcons (Syntax.tyInt Syntax.w16) Syntax.tnil) (Syntax.ttcons Syntax.tnil (Syntax.ttcons (Syntax.tcons (Syntax.tyInt Syntax.w64) Syntax.tnil) (Syntax.ttcons Syntax.tnil Syntax.ttnil))))))))) Syntax.tnil)))))))))) (List._∷_ (3, Mut.mslice (ColumnMetadataRow.RT) (Syntax.tyRef (Syntax.named 1) Syntax.mut ColumnMetadataRow.named) 1) (List._∷_ (4, Rows'.any-gone (Syntax.tyInt Syntax.w64)) (List._∷_ (5, Rows'.any-gone (Syntax.tyInt Syntax.w64)) (List._∷_ (6, Rows'.any-gone (Syntax.tyInt Syntax.w64)) (List._∷_ (7, Rows'.any-gone (Syntax.tyStruct (List._∷_ 112 (List._∷_ 108 (List._∷_ 97 (List._∷_ 110 (List._∷_ 110 (List._∷_ 101 (List._∷_ 100 (List._∷_ 58 (List._∷_ 58 (List._∷_ 67 (List._∷_ 111 (List._∷_ 108 (List._∷_ 117 (List._∷_ 109 (List._∷_ 110 (List._∷_ 82 (List._∷_ 101 (List._∷_ 97 (List._∷_ 100 List.[]))))))))))))))))))) (Syntax.tcons (ColumnMetadataRow.ty) (Syntax.tcons (Syntax.tyInt Syntax.w64) Syntax.tnil)))) (List._∷_ (8, Rows'.any-gone (ColumnMetadataRow.ty)) (List._∷_ (9, Rows'.any-gone Syntax.tyBool) (List._∷_ (10, Rows'.any-gone (Syntax.tyInt Syntax.w64)) (List._∷_ (11, Rows'.any-gone Syntax.tyPtr) List.[])))))))))))
+t1 = List._∷_ (0, Rows'.sc-here Row.sUnit) (List._∷_ (1, Rows'.sslice (Referent.rtF (Referent.fInt Syntax.w8)) (Syntax.tyRef (Syntax.named 0) Syntax.imm (Syntax.tyInt Syntax.w8)) 0) (List._∷_ (2, Rows'.any-gone (Syntax.tyStruct (List._∷_ 112 (List._∷_ 108 (List._∷_ 97 (List._∷_ 110 (List._∷_ 58 (List._∷_ 58 (List._∷_ 80 (List._∷_ 108 (List._∷_ 97 (List._∷_ 110 List.[])))))))))) (Syntax.tcons (Syntax.tyEnum (List._∷_ 112 (List._∷_ 108 (List._∷_ 97 (List._∷_ 110 (List._∷_ 58 (List._∷_ 58 (List._∷_ 76 (List._∷_ 97 (List._∷_ 121 (List._∷_ 111 (List._∷_ 117 (List._∷_ 116 List.[])))))))))))) (Syntax.ttcons Syntax.tnil (Syntax.ttcons Syntax.tnil (Syntax.ttcons Syntax.tnil Syntax.ttnil)))) (Syntax.tcons (Syntax.tyEnum (List._∷_ 102 (List._∷_ 105 (List._∷_ 101 (List._∷_ 108 (List._∷_ 100 (List._∷_ 58 (List._∷_ 58 (List._∷_ 66 (List._∷_ 121 (List._∷_ 116 (List._∷_ 101 (List._∷_ 79 (List._∷_ 114 (List._∷_ 100 (List._∷_ 101 (List._∷_ 114 List.[])))))))))))))))) (Syntax.ttcons Syntax.tnil (Syntax.ttcons Syntax.tnil Syntax.ttnil))) (Syntax.tcons Syntax.tyBool (Syntax.tcons (Syntax.tyInt Syntax.w64) (Syntax.tcons (Syntax.tyInt Syntax.w64) (Syntax.tcons (Syntax.tyInt Syntax.w64) (Syntax.tcons (Syntax.tyInt Syntax.w64) (Syntax.tcons (Syntax.tyEnum (List._∷_ 111 (List._∷_ 117 (List._∷_ 116 (List._∷_ 99 (List._∷_ 111 (List._∷_ 109 (List._∷_ 101 (List._∷_ 58 (List._∷_ 58 (List._∷_ 79 (List._∷_ 117 (List._∷_ 116 (List._∷_ 99 (List._∷_ 111 (List._∷_ 109 (List._∷_ 101 List.[])))))))))))))))) (Syntax.ttcons Syntax.tnil (Syntax.ttcons Syntax.tnil (Syntax.ttcons (Syntax.tcons (Syntax.tyInt Syntax.w64) (Syntax.tcons (Syntax.tyInt Syntax.w64) Syntax.tnil)) (Syntax.ttcons Syntax.tnil (Syntax.ttcons (Syntax.tcons (Syntax.tyInt Syntax.w16) Syntax.tnil) (Syntax.ttcons Syntax.tnil (Syntax.ttcons (Syntax.tcons (Syntax.tyInt Syntax.w64) Syntax.tnil) (Syntax.ttcons Syntax.tnil (Syntax.ttcons (Syntax.tcons (Syntax.tyInt Syntax.w16) Syntax.tnil) Syntax.ttnil)))))))))) Syntax.tnil)))))))))) (List._∷_ (3, Mut.mslice (ColumnMetadataRow.RT) (Syntax.tyRef (Syntax.named 1) Syntax.mut ColumnMetadataRow.named) 1) (List._∷_ (4, Rows'.any-gone (Syntax.tyInt Syntax.w64)) (List._∷_ (5, Rows'.any-gone (Syntax.tyInt Syntax.w64)) (List._∷_ (6, Rows'.any-gone (Syntax.tyInt Syntax.w64)) (List._∷_ (7, Rows'.any-gone (Syntax.tyStruct (List._∷_ 112 (List._∷_ 108 (List._∷_ 97 (List._∷_ 110 (List._∷_ 110 (List._∷_ 101 (List._∷_ 100 (List._∷_ 58 (List._∷_ 58 (List._∷_ 67 (List._∷_ 111 (List._∷_ 108 (List._∷_ 117 (List._∷_ 109 (List._∷_ 110 (List._∷_ 82 (List._∷_ 101 (List._∷_ 97 (List._∷_ 100 List.[]))))))))))))))))))) (Syntax.tcons (ColumnMetadataRow.ty) (Syntax.tcons (Syntax.tyInt Syntax.w64) Syntax.tnil)))) (List._∷_ (8, Rows'.any-gone (ColumnMetadataRow.ty)) (List._∷_ (9, Rows'.any-gone Syntax.tyBool) (List._∷_ (10, Rows'.any-gone (Syntax.tyInt Syntax.w64)) (List._∷_ (11, Rows'.any-gone Syntax.tyPtr) List.[])))))))))))
 
 abbrev pub t2 : List.List Row.Entry
 t2 = List._∷_ (0, Rows'.any-gone Syntax.tyUnit) (List._∷_ (1, Rows'.sslice (Referent.rtF (Referent.fInt Syntax.w8)) (Syntax.tyRef (Syntax.named 0) Syntax.imm (Syntax.tyInt Syntax.w8)) 0) (List._∷_ (2, Rows'.whole (Declared.row Plan.the-type)) (List._∷_ (3, Mut.mslice (ColumnMetadataRow.RT) (Syntax.tyRef (Syntax.named 1) Syntax.mut ColumnMetadataRow.named) 1) (List._∷_ (4, Rows'.sc-here (Row.sInt Syntax.w64)) (List._∷_ (5, Rows'.any-gone (Syntax.tyInt Syntax.w64)) (List._∷_ (6, Rows'.any-gone (Syntax.tyInt Syntax.w64)) (List._∷_ (7, Rows'.any-gone (Syntax.tyStruct (List._∷_ 112 (List._∷_ 108 (List._∷_ 97 (List._∷_ 110 (List._∷_ 110 (List._∷_ 101 (List._∷_ 100 (List._∷_ 58 (List._∷_ 58 (List._∷_ 67 (List._∷_ 111 (List._∷_ 108 (List._∷_ 117 (List._∷_ 109 (List._∷_ 110 (List._∷_ 82 (List._∷_ 101 (List._∷_ 97 (List._∷_ 100 List.[]))))))))))))))))))) (Syntax.tcons (ColumnMetadataRow.ty) (Syntax.tcons (Syntax.tyInt Syntax.w64) Syntax.tnil)))) (List._∷_ (8, Rows'.any-gone (ColumnMetadataRow.ty)) (List._∷_ (9, Rows'.any-gone Syntax.tyBool) (List._∷_ (10, Rows'.any-gone (Syntax.tyInt Syntax.w64)) (List._∷_ (11, Rows'.any-gone Syntax.tyPtr) List.[])))))))))))
@@ -204,13 +204,13 @@ abbrev pub t4 : List.List Row.Entry
 t4 = List._∷_ (0, Rows'.any-gone Syntax.tyUnit) (List._∷_ (1, Rows'.sslice (Referent.rtF (Referent.fInt Syntax.w8)) (Syntax.tyRef (Syntax.named 0) Syntax.imm (Syntax.tyInt Syntax.w8)) 0) (List._∷_ (2, Rows'.whole (Declared.row Plan.the-type)) (List._∷_ (3, Mut.mslice (ColumnMetadataRow.RT) (Syntax.tyRef (Syntax.named 1) Syntax.mut ColumnMetadataRow.named) 1) (List._∷_ (4, Rows'.sc-here (Row.sInt Syntax.w64)) (List._∷_ (5, Rows'.sc-here (Row.sInt Syntax.w64)) (List._∷_ (6, Rows'.sc-here (Row.sInt Syntax.w64)) (List._∷_ (7, Rows'.any-gone (Syntax.tyStruct (List._∷_ 112 (List._∷_ 108 (List._∷_ 97 (List._∷_ 110 (List._∷_ 110 (List._∷_ 101 (List._∷_ 100 (List._∷_ 58 (List._∷_ 58 (List._∷_ 67 (List._∷_ 111 (List._∷_ 108 (List._∷_ 117 (List._∷_ 109 (List._∷_ 110 (List._∷_ 82 (List._∷_ 101 (List._∷_ 97 (List._∷_ 100 List.[]))))))))))))))))))) (Syntax.tcons (ColumnMetadataRow.ty) (Syntax.tcons (Syntax.tyInt Syntax.w64) Syntax.tnil)))) (List._∷_ (8, Rows'.any-gone (ColumnMetadataRow.ty)) (List._∷_ (9, Rows'.any-gone Syntax.tyBool) (List._∷_ (10, Rows'.any-gone (Syntax.tyInt Syntax.w64)) (List._∷_ (11, Rows'.any-gone Syntax.tyPtr) List.[])))))))))))
 
 abbrev pub t5 : List.List Row.Entry
-t5 = List._∷_ (0, Rows'.any-gone Syntax.tyUnit) (List._∷_ (1, Rows'.sslice (Referent.rtF (Referent.fInt Syntax.w8)) (Syntax.tyRef (Syntax.named 0) Syntax.imm (Syntax.tyInt Syntax.w8)) 0) (List._∷_ (2, Rows'.any-gone (Syntax.tyStruct (List._∷_ 112 (List._∷_ 108 (List._∷_ 97 (List._∷_ 110 (List._∷_ 58 (List._∷_ 58 (List._∷_ 80 (List._∷_ 108 (List._∷_ 97 (List._∷_ 110 List.[])))))))))) (Syntax.tcons (Syntax.tyEnum (List._∷_ 112 (List._∷_ 108 (List._∷_ 97 (List._∷_ 110 (List._∷_ 58 (List._∷_ 58 (List._∷_ 76 (List._∷_ 97 (List._∷_ 121 (List._∷_ 111 (List._∷_ 117 (List._∷_ 116 List.[])))))))))))) (Syntax.ttcons Syntax.tnil (Syntax.ttcons Syntax.tnil (Syntax.ttcons Syntax.tnil Syntax.ttnil)))) (Syntax.tcons (Syntax.tyEnum (List._∷_ 102 (List._∷_ 105 (List._∷_ 101 (List._∷_ 108 (List._∷_ 100 (List._∷_ 58 (List._∷_ 58 (List._∷_ 66 (List._∷_ 121 (List._∷_ 116 (List._∷_ 101 (List._∷_ 79 (List._∷_ 114 (List._∷_ 100 (List._∷_ 101 (List._∷_ 114 List.[])))))))))))))))) (Syntax.ttcons Syntax.tnil (Syntax.ttcons Syntax.tnil Syntax.ttnil))) (Syntax.tcons Syntax.tyBool (Syntax.tcons (Syntax.tyInt Syntax.w64) (Syntax.tcons (Syntax.tyInt Syntax.w64) (Syntax.tcons (Syntax.tyInt Syntax.w64) (Syntax.tcons (Syntax.tyInt Syntax.w64) (Syntax.tcons (Syntax.tyEnum (List._∷_ 111 (List._∷_ 117 (List._∷_ 116 (List._∷_ 99 (List._∷_ 111 (List._∷_ 109 (List._∷_ 101 (List._∷_ 58 (List._∷_ 58 (List._∷_ 79 (List._∷_ 117 (List._∷_ 116 (List._∷_ 99 (List._∷_ 111 (List._∷_ 109 (List._∷_ 101 List.[])))))))))))))))) (Syntax.ttcons Syntax.tnil (Syntax.ttcons Syntax.tnil (Syntax.ttcons (Syntax.tcons (Syntax.tyInt Syntax.w64) (Syntax.tcons (Syntax.tyInt Syntax.w64) Syntax.tnil)) (Syntax.ttcons Syntax.tnil (Syntax.ttcons (Syntax.tcons (Syntax.tyInt Syntax.w16) Syntax.tnil) (Syntax.ttcons Syntax.tnil (Syntax.ttcons (Syntax.tcons (Syntax.tyInt Syntax.w64) Syntax.tnil) (Syntax.ttcons Syntax.tnil Syntax.ttnil))))))))) Syntax.tnil)))))))))) (List._∷_ (3, Mut.mslice (ColumnMetadataRow.RT) (Syntax.tyRef (Syntax.named 1) Syntax.mut ColumnMetadataRow.named) 1) (List._∷_ (4, Rows'.sc-here (Row.sInt Syntax.w64)) (List._∷_ (5, Rows'.sc-here (Row.sInt Syntax.w64)) (List._∷_ (6, Rows'.sc-here (Row.sInt Syntax.w64)) (List._∷_ (7, Rows'.any-gone (Syntax.tyStruct (List._∷_ 112 (List._∷_ 108 (List._∷_ 97 (List._∷_ 110 (List._∷_ 110 (List._∷_ 101 (List._∷_ 100 (List._∷_ 58 (List._∷_ 58 (List._∷_ 67 (List._∷_ 111 (List._∷_ 108 (List._∷_ 117 (List._∷_ 109 (List._∷_ 110 (List._∷_ 82 (List._∷_ 101 (List._∷_ 97 (List._∷_ 100 List.[]))))))))))))))))))) (Syntax.tcons (ColumnMetadataRow.ty) (Syntax.tcons (Syntax.tyInt Syntax.w64) Syntax.tnil)))) (List._∷_ (8, Rows'.any-gone (ColumnMetadataRow.ty)) (List._∷_ (9, Rows'.any-gone Syntax.tyBool) (List._∷_ (10, Rows'.any-gone (Syntax.tyInt Syntax.w64)) (List._∷_ (11, Rows'.any-gone Syntax.tyPtr) List.[])))))))))))
+t5 = List._∷_ (0, Rows'.any-gone Syntax.tyUnit) (List._∷_ (1, Rows'.sslice (Referent.rtF (Referent.fInt Syntax.w8)) (Syntax.tyRef (Syntax.named 0) Syntax.imm (Syntax.tyInt Syntax.w8)) 0) (List._∷_ (2, Rows'.any-gone (Syntax.tyStruct (List._∷_ 112 (List._∷_ 108 (List._∷_ 97 (List._∷_ 110 (List._∷_ 58 (List._∷_ 58 (List._∷_ 80 (List._∷_ 108 (List._∷_ 97 (List._∷_ 110 List.[])))))))))) (Syntax.tcons (Syntax.tyEnum (List._∷_ 112 (List._∷_ 108 (List._∷_ 97 (List._∷_ 110 (List._∷_ 58 (List._∷_ 58 (List._∷_ 76 (List._∷_ 97 (List._∷_ 121 (List._∷_ 111 (List._∷_ 117 (List._∷_ 116 List.[])))))))))))) (Syntax.ttcons Syntax.tnil (Syntax.ttcons Syntax.tnil (Syntax.ttcons Syntax.tnil Syntax.ttnil)))) (Syntax.tcons (Syntax.tyEnum (List._∷_ 102 (List._∷_ 105 (List._∷_ 101 (List._∷_ 108 (List._∷_ 100 (List._∷_ 58 (List._∷_ 58 (List._∷_ 66 (List._∷_ 121 (List._∷_ 116 (List._∷_ 101 (List._∷_ 79 (List._∷_ 114 (List._∷_ 100 (List._∷_ 101 (List._∷_ 114 List.[])))))))))))))))) (Syntax.ttcons Syntax.tnil (Syntax.ttcons Syntax.tnil Syntax.ttnil))) (Syntax.tcons Syntax.tyBool (Syntax.tcons (Syntax.tyInt Syntax.w64) (Syntax.tcons (Syntax.tyInt Syntax.w64) (Syntax.tcons (Syntax.tyInt Syntax.w64) (Syntax.tcons (Syntax.tyInt Syntax.w64) (Syntax.tcons (Syntax.tyEnum (List._∷_ 111 (List._∷_ 117 (List._∷_ 116 (List._∷_ 99 (List._∷_ 111 (List._∷_ 109 (List._∷_ 101 (List._∷_ 58 (List._∷_ 58 (List._∷_ 79 (List._∷_ 117 (List._∷_ 116 (List._∷_ 99 (List._∷_ 111 (List._∷_ 109 (List._∷_ 101 List.[])))))))))))))))) (Syntax.ttcons Syntax.tnil (Syntax.ttcons Syntax.tnil (Syntax.ttcons (Syntax.tcons (Syntax.tyInt Syntax.w64) (Syntax.tcons (Syntax.tyInt Syntax.w64) Syntax.tnil)) (Syntax.ttcons Syntax.tnil (Syntax.ttcons (Syntax.tcons (Syntax.tyInt Syntax.w16) Syntax.tnil) (Syntax.ttcons Syntax.tnil (Syntax.ttcons (Syntax.tcons (Syntax.tyInt Syntax.w64) Syntax.tnil) (Syntax.ttcons Syntax.tnil (Syntax.ttcons (Syntax.tcons (Syntax.tyInt Syntax.w16) Syntax.tnil) Syntax.ttnil)))))))))) Syntax.tnil)))))))))) (List._∷_ (3, Mut.mslice (ColumnMetadataRow.RT) (Syntax.tyRef (Syntax.named 1) Syntax.mut ColumnMetadataRow.named) 1) (List._∷_ (4, Rows'.sc-here (Row.sInt Syntax.w64)) (List._∷_ (5, Rows'.sc-here (Row.sInt Syntax.w64)) (List._∷_ (6, Rows'.sc-here (Row.sInt Syntax.w64)) (List._∷_ (7, Rows'.any-gone (Syntax.tyStruct (List._∷_ 112 (List._∷_ 108 (List._∷_ 97 (List._∷_ 110 (List._∷_ 110 (List._∷_ 101 (List._∷_ 100 (List._∷_ 58 (List._∷_ 58 (List._∷_ 67 (List._∷_ 111 (List._∷_ 108 (List._∷_ 117 (List._∷_ 109 (List._∷_ 110 (List._∷_ 82 (List._∷_ 101 (List._∷_ 97 (List._∷_ 100 List.[]))))))))))))))))))) (Syntax.tcons (ColumnMetadataRow.ty) (Syntax.tcons (Syntax.tyInt Syntax.w64) Syntax.tnil)))) (List._∷_ (8, Rows'.any-gone (ColumnMetadataRow.ty)) (List._∷_ (9, Rows'.any-gone Syntax.tyBool) (List._∷_ (10, Rows'.any-gone (Syntax.tyInt Syntax.w64)) (List._∷_ (11, Rows'.any-gone Syntax.tyPtr) List.[])))))))))))
 
 abbrev pub t6 : List.List Row.Entry
 t6 = List._∷_ (0, Rows'.any-gone Syntax.tyUnit) (List._∷_ (1, Rows'.sslice (Referent.rtF (Referent.fInt Syntax.w8)) (Syntax.tyRef (Syntax.named 0) Syntax.imm (Syntax.tyInt Syntax.w8)) 0) (List._∷_ (2, Rows'.whole (Declared.row Plan.the-type)) (List._∷_ (3, Mut.mslice (ColumnMetadataRow.RT) (Syntax.tyRef (Syntax.named 1) Syntax.mut ColumnMetadataRow.named) 1) (List._∷_ (4, Rows'.sc-here (Row.sInt Syntax.w64)) (List._∷_ (5, Rows'.sc-here (Row.sInt Syntax.w64)) (List._∷_ (6, Rows'.sc-here (Row.sInt Syntax.w64)) (List._∷_ (7, Rows'.any-gone (Syntax.tyStruct (List._∷_ 112 (List._∷_ 108 (List._∷_ 97 (List._∷_ 110 (List._∷_ 110 (List._∷_ 101 (List._∷_ 100 (List._∷_ 58 (List._∷_ 58 (List._∷_ 67 (List._∷_ 111 (List._∷_ 108 (List._∷_ 117 (List._∷_ 109 (List._∷_ 110 (List._∷_ 82 (List._∷_ 101 (List._∷_ 97 (List._∷_ 100 List.[]))))))))))))))))))) (Syntax.tcons (ColumnMetadataRow.ty) (Syntax.tcons (Syntax.tyInt Syntax.w64) Syntax.tnil)))) (List._∷_ (8, Rows'.any-gone (ColumnMetadataRow.ty)) (List._∷_ (9, Rows'.sc-here Row.sBool) (List._∷_ (10, Rows'.any-gone (Syntax.tyInt Syntax.w64)) (List._∷_ (11, Rows'.any-gone Syntax.tyPtr) List.[])))))))))))
 
 abbrev pub t7 : List.List Row.Entry
-t7 = List._∷_ (0, Rows'.any-gone Syntax.tyUnit) (List._∷_ (1, Rows'.sslice (Referent.rtF (Referent.fInt Syntax.w8)) (Syntax.tyRef (Syntax.named 0) Syntax.imm (Syntax.tyInt Syntax.w8)) 0) (List._∷_ (2, Rows'.any-gone (Syntax.tyStruct (List._∷_ 112 (List._∷_ 108 (List._∷_ 97 (List._∷_ 110 (List._∷_ 58 (List._∷_ 58 (List._∷_ 80 (List._∷_ 108 (List._∷_ 97 (List._∷_ 110 List.[])))))))))) (Syntax.tcons (Syntax.tyEnum (List._∷_ 112 (List._∷_ 108 (List._∷_ 97 (List._∷_ 110 (List._∷_ 58 (List._∷_ 58 (List._∷_ 76 (List._∷_ 97 (List._∷_ 121 (List._∷_ 111 (List._∷_ 117 (List._∷_ 116 List.[])))))))))))) (Syntax.ttcons Syntax.tnil (Syntax.ttcons Syntax.tnil (Syntax.ttcons Syntax.tnil Syntax.ttnil)))) (Syntax.tcons (Syntax.tyEnum (List._∷_ 102 (List._∷_ 105 (List._∷_ 101 (List._∷_ 108 (List._∷_ 100 (List._∷_ 58 (List._∷_ 58 (List._∷_ 66 (List._∷_ 121 (List._∷_ 116 (List._∷_ 101 (List._∷_ 79 (List._∷_ 114 (List._∷_ 100 (List._∷_ 101 (List._∷_ 114 List.[])))))))))))))))) (Syntax.ttcons Syntax.tnil (Syntax.ttcons Syntax.tnil Syntax.ttnil))) (Syntax.tcons Syntax.tyBool (Syntax.tcons (Syntax.tyInt Syntax.w64) (Syntax.tcons (Syntax.tyInt Syntax.w64) (Syntax.tcons (Syntax.tyInt Syntax.w64) (Syntax.tcons (Syntax.tyInt Syntax.w64) (Syntax.tcons (Syntax.tyEnum (List._∷_ 111 (List._∷_ 117 (List._∷_ 116 (List._∷_ 99 (List._∷_ 111 (List._∷_ 109 (List._∷_ 101 (List._∷_ 58 (List._∷_ 58 (List._∷_ 79 (List._∷_ 117 (List._∷_ 116 (List._∷_ 99 (List._∷_ 111 (List._∷_ 109 (List._∷_ 101 List.[])))))))))))))))) (Syntax.ttcons Syntax.tnil (Syntax.ttcons Syntax.tnil (Syntax.ttcons (Syntax.tcons (Syntax.tyInt Syntax.w64) (Syntax.tcons (Syntax.tyInt Syntax.w64) Syntax.tnil)) (Syntax.ttcons Syntax.tnil (Syntax.ttcons (Syntax.tcons (Syntax.tyInt Syntax.w16) Syntax.tnil) (Syntax.ttcons Syntax.tnil (Syntax.ttcons (Syntax.tcons (Syntax.tyInt Syntax.w64) Syntax.tnil) (Syntax.ttcons Syntax.tnil Syntax.ttnil))))))))) Syntax.tnil)))))))))) (List._∷_ (3, Mut.mslice (ColumnMetadataRow.RT) (Syntax.tyRef (Syntax.named 1) Syntax.mut ColumnMetadataRow.named) 1) (List._∷_ (4, Rows'.sc-here (Row.sInt Syntax.w64)) (List._∷_ (5, Rows'.sc-here (Row.sInt Syntax.w64)) (List._∷_ (6, Rows'.sc-here (Row.sInt Syntax.w64)) (List._∷_ (7, Rows'.any-gone (Syntax.tyStruct (List._∷_ 112 (List._∷_ 108 (List._∷_ 97 (List._∷_ 110 (List._∷_ 110 (List._∷_ 101 (List._∷_ 100 (List._∷_ 58 (List._∷_ 58 (List._∷_ 67 (List._∷_ 111 (List._∷_ 108 (List._∷_ 117 (List._∷_ 109 (List._∷_ 110 (List._∷_ 82 (List._∷_ 101 (List._∷_ 97 (List._∷_ 100 List.[]))))))))))))))))))) (Syntax.tcons (ColumnMetadataRow.ty) (Syntax.tcons (Syntax.tyInt Syntax.w64) Syntax.tnil)))) (List._∷_ (8, Rows'.any-gone (ColumnMetadataRow.ty)) (List._∷_ (9, Rows'.sc-here Row.sBool) (List._∷_ (10, Rows'.any-gone (Syntax.tyInt Syntax.w64)) (List._∷_ (11, Rows'.any-gone Syntax.tyPtr) List.[])))))))))))
+t7 = List._∷_ (0, Rows'.any-gone Syntax.tyUnit) (List._∷_ (1, Rows'.sslice (Referent.rtF (Referent.fInt Syntax.w8)) (Syntax.tyRef (Syntax.named 0) Syntax.imm (Syntax.tyInt Syntax.w8)) 0) (List._∷_ (2, Rows'.any-gone (Syntax.tyStruct (List._∷_ 112 (List._∷_ 108 (List._∷_ 97 (List._∷_ 110 (List._∷_ 58 (List._∷_ 58 (List._∷_ 80 (List._∷_ 108 (List._∷_ 97 (List._∷_ 110 List.[])))))))))) (Syntax.tcons (Syntax.tyEnum (List._∷_ 112 (List._∷_ 108 (List._∷_ 97 (List._∷_ 110 (List._∷_ 58 (List._∷_ 58 (List._∷_ 76 (List._∷_ 97 (List._∷_ 121 (List._∷_ 111 (List._∷_ 117 (List._∷_ 116 List.[])))))))))))) (Syntax.ttcons Syntax.tnil (Syntax.ttcons Syntax.tnil (Syntax.ttcons Syntax.tnil Syntax.ttnil)))) (Syntax.tcons (Syntax.tyEnum (List._∷_ 102 (List._∷_ 105 (List._∷_ 101 (List._∷_ 108 (List._∷_ 100 (List._∷_ 58 (List._∷_ 58 (List._∷_ 66 (List._∷_ 121 (List._∷_ 116 (List._∷_ 101 (List._∷_ 79 (List._∷_ 114 (List._∷_ 100 (List._∷_ 101 (List._∷_ 114 List.[])))))))))))))))) (Syntax.ttcons Syntax.tnil (Syntax.ttcons Syntax.tnil Syntax.ttnil))) (Syntax.tcons Syntax.tyBool (Syntax.tcons (Syntax.tyInt Syntax.w64) (Syntax.tcons (Syntax.tyInt Syntax.w64) (Syntax.tcons (Syntax.tyInt Syntax.w64) (Syntax.tcons (Syntax.tyInt Syntax.w64) (Syntax.tcons (Syntax.tyEnum (List._∷_ 111 (List._∷_ 117 (List._∷_ 116 (List._∷_ 99 (List._∷_ 111 (List._∷_ 109 (List._∷_ 101 (List._∷_ 58 (List._∷_ 58 (List._∷_ 79 (List._∷_ 117 (List._∷_ 116 (List._∷_ 99 (List._∷_ 111 (List._∷_ 109 (List._∷_ 101 List.[])))))))))))))))) (Syntax.ttcons Syntax.tnil (Syntax.ttcons Syntax.tnil (Syntax.ttcons (Syntax.tcons (Syntax.tyInt Syntax.w64) (Syntax.tcons (Syntax.tyInt Syntax.w64) Syntax.tnil)) (Syntax.ttcons Syntax.tnil (Syntax.ttcons (Syntax.tcons (Syntax.tyInt Syntax.w16) Syntax.tnil) (Syntax.ttcons Syntax.tnil (Syntax.ttcons (Syntax.tcons (Syntax.tyInt Syntax.w64) Syntax.tnil) (Syntax.ttcons Syntax.tnil (Syntax.ttcons (Syntax.tcons (Syntax.tyInt Syntax.w16) Syntax.tnil) Syntax.ttnil)))))))))) Syntax.tnil)))))))))) (List._∷_ (3, Mut.mslice (ColumnMetadataRow.RT) (Syntax.tyRef (Syntax.named 1) Syntax.mut ColumnMetadataRow.named) 1) (List._∷_ (4, Rows'.sc-here (Row.sInt Syntax.w64)) (List._∷_ (5, Rows'.sc-here (Row.sInt Syntax.w64)) (List._∷_ (6, Rows'.sc-here (Row.sInt Syntax.w64)) (List._∷_ (7, Rows'.any-gone (Syntax.tyStruct (List._∷_ 112 (List._∷_ 108 (List._∷_ 97 (List._∷_ 110 (List._∷_ 110 (List._∷_ 101 (List._∷_ 100 (List._∷_ 58 (List._∷_ 58 (List._∷_ 67 (List._∷_ 111 (List._∷_ 108 (List._∷_ 117 (List._∷_ 109 (List._∷_ 110 (List._∷_ 82 (List._∷_ 101 (List._∷_ 97 (List._∷_ 100 List.[]))))))))))))))))))) (Syntax.tcons (ColumnMetadataRow.ty) (Syntax.tcons (Syntax.tyInt Syntax.w64) Syntax.tnil)))) (List._∷_ (8, Rows'.any-gone (ColumnMetadataRow.ty)) (List._∷_ (9, Rows'.sc-here Row.sBool) (List._∷_ (10, Rows'.any-gone (Syntax.tyInt Syntax.w64)) (List._∷_ (11, Rows'.any-gone Syntax.tyPtr) List.[])))))))))))
 
 abbrev pub t8 : List.List Row.Entry
 t8 = List._∷_ (0, Rows'.any-gone Syntax.tyUnit) (List._∷_ (1, Rows'.sslice (Referent.rtF (Referent.fInt Syntax.w8)) (Syntax.tyRef (Syntax.named 0) Syntax.imm (Syntax.tyInt Syntax.w8)) 0) (List._∷_ (2, Rows'.whole (Declared.row Plan.the-type)) (List._∷_ (3, Mut.mslice (ColumnMetadataRow.RT) (Syntax.tyRef (Syntax.named 1) Syntax.mut ColumnMetadataRow.named) 1) (List._∷_ (4, Rows'.sc-here (Row.sInt Syntax.w64)) (List._∷_ (5, Rows'.sc-here (Row.sInt Syntax.w64)) (List._∷_ (6, Rows'.sc-here (Row.sInt Syntax.w64)) (List._∷_ (7, Rows'.whole (Declared.row ColumnRead.the-type)) (List._∷_ (8, Rows'.any-gone (ColumnMetadataRow.ty)) (List._∷_ (9, Rows'.any-gone Syntax.tyBool) (List._∷_ (10, Rows'.any-gone (Syntax.tyInt Syntax.w64)) (List._∷_ (11, Rows'.any-gone Syntax.tyPtr) List.[])))))))))))
@@ -234,13 +234,13 @@ abbrev pub t14 : List.List Row.Entry
 t14 = List._∷_ (0, Rows'.any-gone Syntax.tyUnit) (List._∷_ (1, Rows'.sslice (Referent.rtF (Referent.fInt Syntax.w8)) (Syntax.tyRef (Syntax.named 0) Syntax.imm (Syntax.tyInt Syntax.w8)) 0) (List._∷_ (2, Rows'.whole (Declared.row Plan.the-type)) (List._∷_ (3, Mut.mslice (ColumnMetadataRow.RT) (Syntax.tyRef (Syntax.named 1) Syntax.mut ColumnMetadataRow.named) 1) (List._∷_ (4, Rows'.sc-here (Row.sInt Syntax.w64)) (List._∷_ (5, Rows'.any-gone (Syntax.tyInt Syntax.w64)) (List._∷_ (6, Rows'.sc-here (Row.sInt Syntax.w64)) (List._∷_ (7, Rows'.whole (Declared.row ColumnRead.the-type)) (List._∷_ (8, Rows'.any-gone (ColumnMetadataRow.ty)) (List._∷_ (9, Rows'.any-gone Syntax.tyBool) (List._∷_ (10, Rows'.any-gone (Syntax.tyInt Syntax.w64)) (List._∷_ (11, Rows'.sc-here Row.sPtr) List.[])))))))))))
 
 abbrev pub t15 : List.List Row.Entry
-t15 = List._∷_ (0, Rows'.sc-here Row.sUnit) (List._∷_ (1, Rows'.sslice (Referent.rtF (Referent.fInt Syntax.w8)) (Syntax.tyRef (Syntax.named 0) Syntax.imm (Syntax.tyInt Syntax.w8)) 0) (List._∷_ (2, Rows'.any-gone (Syntax.tyStruct (List._∷_ 112 (List._∷_ 108 (List._∷_ 97 (List._∷_ 110 (List._∷_ 58 (List._∷_ 58 (List._∷_ 80 (List._∷_ 108 (List._∷_ 97 (List._∷_ 110 List.[])))))))))) (Syntax.tcons (Syntax.tyEnum (List._∷_ 112 (List._∷_ 108 (List._∷_ 97 (List._∷_ 110 (List._∷_ 58 (List._∷_ 58 (List._∷_ 76 (List._∷_ 97 (List._∷_ 121 (List._∷_ 111 (List._∷_ 117 (List._∷_ 116 List.[])))))))))))) (Syntax.ttcons Syntax.tnil (Syntax.ttcons Syntax.tnil (Syntax.ttcons Syntax.tnil Syntax.ttnil)))) (Syntax.tcons (Syntax.tyEnum (List._∷_ 102 (List._∷_ 105 (List._∷_ 101 (List._∷_ 108 (List._∷_ 100 (List._∷_ 58 (List._∷_ 58 (List._∷_ 66 (List._∷_ 121 (List._∷_ 116 (List._∷_ 101 (List._∷_ 79 (List._∷_ 114 (List._∷_ 100 (List._∷_ 101 (List._∷_ 114 List.[])))))))))))))))) (Syntax.ttcons Syntax.tnil (Syntax.ttcons Syntax.tnil Syntax.ttnil))) (Syntax.tcons Syntax.tyBool (Syntax.tcons (Syntax.tyInt Syntax.w64) (Syntax.tcons (Syntax.tyInt Syntax.w64) (Syntax.tcons (Syntax.tyInt Syntax.w64) (Syntax.tcons (Syntax.tyInt Syntax.w64) (Syntax.tcons (Syntax.tyEnum (List._∷_ 111 (List._∷_ 117 (List._∷_ 116 (List._∷_ 99 (List._∷_ 111 (List._∷_ 109 (List._∷_ 101 (List._∷_ 58 (List._∷_ 58 (List._∷_ 79 (List._∷_ 117 (List._∷_ 116 (List._∷_ 99 (List._∷_ 111 (List._∷_ 109 (List._∷_ 101 List.[])))))))))))))))) (Syntax.ttcons Syntax.tnil (Syntax.ttcons Syntax.tnil (Syntax.ttcons (Syntax.tcons (Syntax.tyInt Syntax.w64) (Syntax.tcons (Syntax.tyInt Syntax.w64) Syntax.tnil)) (Syntax.ttcons Syntax.tnil (Syntax.ttcons (Syntax.tcons (Syntax.tyInt Syntax.w16) Syntax.tnil) (Syntax.ttcons Syntax.tnil (Syntax.ttcons (Syntax.tcons (Syntax.tyInt Syntax.w64) Syntax.tnil) (Syntax.ttcons Syntax.tnil Syntax.ttnil))))))))) Syntax.tnil)))))))))) (List._∷_ (3, Mut.mslice (ColumnMetadataRow.RT) (Syntax.tyRef (Syntax.named 1) Syntax.mut ColumnMetadataRow.named) 1) (List._∷_ (4, Rows'.sc-here (Row.sInt Syntax.w64)) (List._∷_ (5, Rows'.sc-here (Row.sInt Syntax.w64)) (List._∷_ (6, Rows'.sc-here (Row.sInt Syntax.w64)) (List._∷_ (7, Rows'.any-gone (Syntax.tyStruct (List._∷_ 112 (List._∷_ 108 (List._∷_ 97 (List._∷_ 110 (List._∷_ 110 (List._∷_ 101 (List._∷_ 100 (List._∷_ 58 (List._∷_ 58 (List._∷_ 67 (List._∷_ 111 (List._∷_ 108 (List._∷_ 117 (List._∷_ 109 (List._∷_ 110 (List._∷_ 82 (List._∷_ 101 (List._∷_ 97 (List._∷_ 100 List.[]))))))))))))))))))) (Syntax.tcons (ColumnMetadataRow.ty) (Syntax.tcons (Syntax.tyInt Syntax.w64) Syntax.tnil)))) (List._∷_ (8, Rows'.any-gone (ColumnMetadataRow.ty)) (List._∷_ (9, Rows'.any-gone Syntax.tyBool) (List._∷_ (10, Rows'.any-gone (Syntax.tyInt Syntax.w64)) (List._∷_ (11, Rows'.any-gone Syntax.tyPtr) List.[])))))))))))
+t15 = List._∷_ (0, Rows'.sc-here Row.sUnit) (List._∷_ (1, Rows'.sslice (Referent.rtF (Referent.fInt Syntax.w8)) (Syntax.tyRef (Syntax.named 0) Syntax.imm (Syntax.tyInt Syntax.w8)) 0) (List._∷_ (2, Rows'.any-gone (Syntax.tyStruct (List._∷_ 112 (List._∷_ 108 (List._∷_ 97 (List._∷_ 110 (List._∷_ 58 (List._∷_ 58 (List._∷_ 80 (List._∷_ 108 (List._∷_ 97 (List._∷_ 110 List.[])))))))))) (Syntax.tcons (Syntax.tyEnum (List._∷_ 112 (List._∷_ 108 (List._∷_ 97 (List._∷_ 110 (List._∷_ 58 (List._∷_ 58 (List._∷_ 76 (List._∷_ 97 (List._∷_ 121 (List._∷_ 111 (List._∷_ 117 (List._∷_ 116 List.[])))))))))))) (Syntax.ttcons Syntax.tnil (Syntax.ttcons Syntax.tnil (Syntax.ttcons Syntax.tnil Syntax.ttnil)))) (Syntax.tcons (Syntax.tyEnum (List._∷_ 102 (List._∷_ 105 (List._∷_ 101 (List._∷_ 108 (List._∷_ 100 (List._∷_ 58 (List._∷_ 58 (List._∷_ 66 (List._∷_ 121 (List._∷_ 116 (List._∷_ 101 (List._∷_ 79 (List._∷_ 114 (List._∷_ 100 (List._∷_ 101 (List._∷_ 114 List.[])))))))))))))))) (Syntax.ttcons Syntax.tnil (Syntax.ttcons Syntax.tnil Syntax.ttnil))) (Syntax.tcons Syntax.tyBool (Syntax.tcons (Syntax.tyInt Syntax.w64) (Syntax.tcons (Syntax.tyInt Syntax.w64) (Syntax.tcons (Syntax.tyInt Syntax.w64) (Syntax.tcons (Syntax.tyInt Syntax.w64) (Syntax.tcons (Syntax.tyEnum (List._∷_ 111 (List._∷_ 117 (List._∷_ 116 (List._∷_ 99 (List._∷_ 111 (List._∷_ 109 (List._∷_ 101 (List._∷_ 58 (List._∷_ 58 (List._∷_ 79 (List._∷_ 117 (List._∷_ 116 (List._∷_ 99 (List._∷_ 111 (List._∷_ 109 (List._∷_ 101 List.[])))))))))))))))) (Syntax.ttcons Syntax.tnil (Syntax.ttcons Syntax.tnil (Syntax.ttcons (Syntax.tcons (Syntax.tyInt Syntax.w64) (Syntax.tcons (Syntax.tyInt Syntax.w64) Syntax.tnil)) (Syntax.ttcons Syntax.tnil (Syntax.ttcons (Syntax.tcons (Syntax.tyInt Syntax.w16) Syntax.tnil) (Syntax.ttcons Syntax.tnil (Syntax.ttcons (Syntax.tcons (Syntax.tyInt Syntax.w64) Syntax.tnil) (Syntax.ttcons Syntax.tnil (Syntax.ttcons (Syntax.tcons (Syntax.tyInt Syntax.w16) Syntax.tnil) Syntax.ttnil)))))))))) Syntax.tnil)))))))))) (List._∷_ (3, Mut.mslice (ColumnMetadataRow.RT) (Syntax.tyRef (Syntax.named 1) Syntax.mut ColumnMetadataRow.named) 1) (List._∷_ (4, Rows'.sc-here (Row.sInt Syntax.w64)) (List._∷_ (5, Rows'.sc-here (Row.sInt Syntax.w64)) (List._∷_ (6, Rows'.sc-here (Row.sInt Syntax.w64)) (List._∷_ (7, Rows'.any-gone (Syntax.tyStruct (List._∷_ 112 (List._∷_ 108 (List._∷_ 97 (List._∷_ 110 (List._∷_ 110 (List._∷_ 101 (List._∷_ 100 (List._∷_ 58 (List._∷_ 58 (List._∷_ 67 (List._∷_ 111 (List._∷_ 108 (List._∷_ 117 (List._∷_ 109 (List._∷_ 110 (List._∷_ 82 (List._∷_ 101 (List._∷_ 97 (List._∷_ 100 List.[]))))))))))))))))))) (Syntax.tcons (ColumnMetadataRow.ty) (Syntax.tcons (Syntax.tyInt Syntax.w64) Syntax.tnil)))) (List._∷_ (8, Rows'.any-gone (ColumnMetadataRow.ty)) (List._∷_ (9, Rows'.any-gone Syntax.tyBool) (List._∷_ (10, Rows'.any-gone (Syntax.tyInt Syntax.w64)) (List._∷_ (11, Rows'.any-gone Syntax.tyPtr) List.[])))))))))))
 
 abbrev pub t16 : List.List Row.Entry
-t16 = List._∷_ (0, Rows'.sc-here Row.sUnit) (List._∷_ (1, Rows'.sslice (Referent.rtF (Referent.fInt Syntax.w8)) (Syntax.tyRef (Syntax.named 0) Syntax.imm (Syntax.tyInt Syntax.w8)) 0) (List._∷_ (2, Rows'.any-gone (Syntax.tyStruct (List._∷_ 112 (List._∷_ 108 (List._∷_ 97 (List._∷_ 110 (List._∷_ 58 (List._∷_ 58 (List._∷_ 80 (List._∷_ 108 (List._∷_ 97 (List._∷_ 110 List.[])))))))))) (Syntax.tcons (Syntax.tyEnum (List._∷_ 112 (List._∷_ 108 (List._∷_ 97 (List._∷_ 110 (List._∷_ 58 (List._∷_ 58 (List._∷_ 76 (List._∷_ 97 (List._∷_ 121 (List._∷_ 111 (List._∷_ 117 (List._∷_ 116 List.[])))))))))))) (Syntax.ttcons Syntax.tnil (Syntax.ttcons Syntax.tnil (Syntax.ttcons Syntax.tnil Syntax.ttnil)))) (Syntax.tcons (Syntax.tyEnum (List._∷_ 102 (List._∷_ 105 (List._∷_ 101 (List._∷_ 108 (List._∷_ 100 (List._∷_ 58 (List._∷_ 58 (List._∷_ 66 (List._∷_ 121 (List._∷_ 116 (List._∷_ 101 (List._∷_ 79 (List._∷_ 114 (List._∷_ 100 (List._∷_ 101 (List._∷_ 114 List.[])))))))))))))))) (Syntax.ttcons Syntax.tnil (Syntax.ttcons Syntax.tnil Syntax.ttnil))) (Syntax.tcons Syntax.tyBool (Syntax.tcons (Syntax.tyInt Syntax.w64) (Syntax.tcons (Syntax.tyInt Syntax.w64) (Syntax.tcons (Syntax.tyInt Syntax.w64) (Syntax.tcons (Syntax.tyInt Syntax.w64) (Syntax.tcons (Syntax.tyEnum (List._∷_ 111 (List._∷_ 117 (List._∷_ 116 (List._∷_ 99 (List._∷_ 111 (List._∷_ 109 (List._∷_ 101 (List._∷_ 58 (List._∷_ 58 (List._∷_ 79 (List._∷_ 117 (List._∷_ 116 (List._∷_ 99 (List._∷_ 111 (List._∷_ 109 (List._∷_ 101 List.[])))))))))))))))) (Syntax.ttcons Syntax.tnil (Syntax.ttcons Syntax.tnil (Syntax.ttcons (Syntax.tcons (Syntax.tyInt Syntax.w64) (Syntax.tcons (Syntax.tyInt Syntax.w64) Syntax.tnil)) (Syntax.ttcons Syntax.tnil (Syntax.ttcons (Syntax.tcons (Syntax.tyInt Syntax.w16) Syntax.tnil) (Syntax.ttcons Syntax.tnil (Syntax.ttcons (Syntax.tcons (Syntax.tyInt Syntax.w64) Syntax.tnil) (Syntax.ttcons Syntax.tnil Syntax.ttnil))))))))) Syntax.tnil)))))))))) (List._∷_ (3, Mut.mslice (ColumnMetadataRow.RT) (Syntax.tyRef (Syntax.named 1) Syntax.mut ColumnMetadataRow.named) 1) (List._∷_ (4, Rows'.any-gone (Syntax.tyInt Syntax.w64)) (List._∷_ (5, Rows'.sc-here (Row.sInt Syntax.w64)) (List._∷_ (6, Rows'.sc-here (Row.sInt Syntax.w64)) (List._∷_ (7, Rows'.any-gone (Syntax.tyStruct (List._∷_ 112 (List._∷_ 108 (List._∷_ 97 (List._∷_ 110 (List._∷_ 110 (List._∷_ 101 (List._∷_ 100 (List._∷_ 58 (List._∷_ 58 (List._∷_ 67 (List._∷_ 111 (List._∷_ 108 (List._∷_ 117 (List._∷_ 109 (List._∷_ 110 (List._∷_ 82 (List._∷_ 101 (List._∷_ 97 (List._∷_ 100 List.[]))))))))))))))))))) (Syntax.tcons (ColumnMetadataRow.ty) (Syntax.tcons (Syntax.tyInt Syntax.w64) Syntax.tnil)))) (List._∷_ (8, Rows'.any-gone (ColumnMetadataRow.ty)) (List._∷_ (9, Rows'.any-gone Syntax.tyBool) (List._∷_ (10, Rows'.any-gone (Syntax.tyInt Syntax.w64)) (List._∷_ (11, Rows'.any-gone Syntax.tyPtr) List.[])))))))))))
+t16 = List._∷_ (0, Rows'.sc-here Row.sUnit) (List._∷_ (1, Rows'.sslice (Referent.rtF (Referent.fInt Syntax.w8)) (Syntax.tyRef (Syntax.named 0) Syntax.imm (Syntax.tyInt Syntax.w8)) 0) (List._∷_ (2, Rows'.any-gone (Syntax.tyStruct (List._∷_ 112 (List._∷_ 108 (List._∷_ 97 (List._∷_ 110 (List._∷_ 58 (List._∷_ 58 (List._∷_ 80 (List._∷_ 108 (List._∷_ 97 (List._∷_ 110 List.[])))))))))) (Syntax.tcons (Syntax.tyEnum (List._∷_ 112 (List._∷_ 108 (List._∷_ 97 (List._∷_ 110 (List._∷_ 58 (List._∷_ 58 (List._∷_ 76 (List._∷_ 97 (List._∷_ 121 (List._∷_ 111 (List._∷_ 117 (List._∷_ 116 List.[])))))))))))) (Syntax.ttcons Syntax.tnil (Syntax.ttcons Syntax.tnil (Syntax.ttcons Syntax.tnil Syntax.ttnil)))) (Syntax.tcons (Syntax.tyEnum (List._∷_ 102 (List._∷_ 105 (List._∷_ 101 (List._∷_ 108 (List._∷_ 100 (List._∷_ 58 (List._∷_ 58 (List._∷_ 66 (List._∷_ 121 (List._∷_ 116 (List._∷_ 101 (List._∷_ 79 (List._∷_ 114 (List._∷_ 100 (List._∷_ 101 (List._∷_ 114 List.[])))))))))))))))) (Syntax.ttcons Syntax.tnil (Syntax.ttcons Syntax.tnil Syntax.ttnil))) (Syntax.tcons Syntax.tyBool (Syntax.tcons (Syntax.tyInt Syntax.w64) (Syntax.tcons (Syntax.tyInt Syntax.w64) (Syntax.tcons (Syntax.tyInt Syntax.w64) (Syntax.tcons (Syntax.tyInt Syntax.w64) (Syntax.tcons (Syntax.tyEnum (List._∷_ 111 (List._∷_ 117 (List._∷_ 116 (List._∷_ 99 (List._∷_ 111 (List._∷_ 109 (List._∷_ 101 (List._∷_ 58 (List._∷_ 58 (List._∷_ 79 (List._∷_ 117 (List._∷_ 116 (List._∷_ 99 (List._∷_ 111 (List._∷_ 109 (List._∷_ 101 List.[])))))))))))))))) (Syntax.ttcons Syntax.tnil (Syntax.ttcons Syntax.tnil (Syntax.ttcons (Syntax.tcons (Syntax.tyInt Syntax.w64) (Syntax.tcons (Syntax.tyInt Syntax.w64) Syntax.tnil)) (Syntax.ttcons Syntax.tnil (Syntax.ttcons (Syntax.tcons (Syntax.tyInt Syntax.w16) Syntax.tnil) (Syntax.ttcons Syntax.tnil (Syntax.ttcons (Syntax.tcons (Syntax.tyInt Syntax.w64) Syntax.tnil) (Syntax.ttcons Syntax.tnil (Syntax.ttcons (Syntax.tcons (Syntax.tyInt Syntax.w16) Syntax.tnil) Syntax.ttnil)))))))))) Syntax.tnil)))))))))) (List._∷_ (3, Mut.mslice (ColumnMetadataRow.RT) (Syntax.tyRef (Syntax.named 1) Syntax.mut ColumnMetadataRow.named) 1) (List._∷_ (4, Rows'.any-gone (Syntax.tyInt Syntax.w64)) (List._∷_ (5, Rows'.sc-here (Row.sInt Syntax.w64)) (List._∷_ (6, Rows'.sc-here (Row.sInt Syntax.w64)) (List._∷_ (7, Rows'.any-gone (Syntax.tyStruct (List._∷_ 112 (List._∷_ 108 (List._∷_ 97 (List._∷_ 110 (List._∷_ 110 (List._∷_ 101 (List._∷_ 100 (List._∷_ 58 (List._∷_ 58 (List._∷_ 67 (List._∷_ 111 (List._∷_ 108 (List._∷_ 117 (List._∷_ 109 (List._∷_ 110 (List._∷_ 82 (List._∷_ 101 (List._∷_ 97 (List._∷_ 100 List.[]))))))))))))))))))) (Syntax.tcons (ColumnMetadataRow.ty) (Syntax.tcons (Syntax.tyInt Syntax.w64) Syntax.tnil)))) (List._∷_ (8, Rows'.any-gone (ColumnMetadataRow.ty)) (List._∷_ (9, Rows'.any-gone Syntax.tyBool) (List._∷_ (10, Rows'.any-gone (Syntax.tyInt Syntax.w64)) (List._∷_ (11, Rows'.any-gone Syntax.tyPtr) List.[])))))))))))
 
 abbrev pub t17 : List.List Row.Entry
-t17 = List._∷_ (0, Rows'.sc-here Row.sUnit) (List._∷_ (1, Rows'.sslice (Referent.rtF (Referent.fInt Syntax.w8)) (Syntax.tyRef (Syntax.named 0) Syntax.imm (Syntax.tyInt Syntax.w8)) 0) (List._∷_ (2, Rows'.any-gone (Syntax.tyStruct (List._∷_ 112 (List._∷_ 108 (List._∷_ 97 (List._∷_ 110 (List._∷_ 58 (List._∷_ 58 (List._∷_ 80 (List._∷_ 108 (List._∷_ 97 (List._∷_ 110 List.[])))))))))) (Syntax.tcons (Syntax.tyEnum (List._∷_ 112 (List._∷_ 108 (List._∷_ 97 (List._∷_ 110 (List._∷_ 58 (List._∷_ 58 (List._∷_ 76 (List._∷_ 97 (List._∷_ 121 (List._∷_ 111 (List._∷_ 117 (List._∷_ 116 List.[])))))))))))) (Syntax.ttcons Syntax.tnil (Syntax.ttcons Syntax.tnil (Syntax.ttcons Syntax.tnil Syntax.ttnil)))) (Syntax.tcons (Syntax.tyEnum (List._∷_ 102 (List._∷_ 105 (List._∷_ 101 (List._∷_ 108 (List._∷_ 100 (List._∷_ 58 (List._∷_ 58 (List._∷_ 66 (List._∷_ 121 (List._∷_ 116 (List._∷_ 101 (List._∷_ 79 (List._∷_ 114 (List._∷_ 100 (List._∷_ 101 (List._∷_ 114 List.[])))))))))))))))) (Syntax.ttcons Syntax.tnil (Syntax.ttcons Syntax.tnil Syntax.ttnil))) (Syntax.tcons Syntax.tyBool (Syntax.tcons (Syntax.tyInt Syntax.w64) (Syntax.tcons (Syntax.tyInt Syntax.w64) (Syntax.tcons (Syntax.tyInt Syntax.w64) (Syntax.tcons (Syntax.tyInt Syntax.w64) (Syntax.tcons (Syntax.tyEnum (List._∷_ 111 (List._∷_ 117 (List._∷_ 116 (List._∷_ 99 (List._∷_ 111 (List._∷_ 109 (List._∷_ 101 (List._∷_ 58 (List._∷_ 58 (List._∷_ 79 (List._∷_ 117 (List._∷_ 116 (List._∷_ 99 (List._∷_ 111 (List._∷_ 109 (List._∷_ 101 List.[])))))))))))))))) (Syntax.ttcons Syntax.tnil (Syntax.ttcons Syntax.tnil (Syntax.ttcons (Syntax.tcons (Syntax.tyInt Syntax.w64) (Syntax.tcons (Syntax.tyInt Syntax.w64) Syntax.tnil)) (Syntax.ttcons Syntax.tnil (Syntax.ttcons (Syntax.tcons (Syntax.tyInt Syntax.w16) Syntax.tnil) (Syntax.ttcons Syntax.tnil (Syntax.ttcons (Syntax.tcons (Syntax.tyInt Syntax.w64) Syntax.tnil) (Syntax.ttcons Syntax.tnil Syntax.ttnil))))))))) Syntax.tnil)))))))))) (List._∷_ (3, Mut.mslice (ColumnMetadataRow.RT) (Syntax.tyRef (Syntax.named 1) Syntax.mut ColumnMetadataRow.named) 1) (List._∷_ (4, Rows'.any-gone (Syntax.tyInt Syntax.w64)) (List._∷_ (5, Rows'.any-gone (Syntax.tyInt Syntax.w64)) (List._∷_ (6, Rows'.sc-here (Row.sInt Syntax.w64)) (List._∷_ (7, Rows'.any-gone (Syntax.tyStruct (List._∷_ 112 (List._∷_ 108 (List._∷_ 97 (List._∷_ 110 (List._∷_ 110 (List._∷_ 101 (List._∷_ 100 (List._∷_ 58 (List._∷_ 58 (List._∷_ 67 (List._∷_ 111 (List._∷_ 108 (List._∷_ 117 (List._∷_ 109 (List._∷_ 110 (List._∷_ 82 (List._∷_ 101 (List._∷_ 97 (List._∷_ 100 List.[]))))))))))))))))))) (Syntax.tcons (ColumnMetadataRow.ty) (Syntax.tcons (Syntax.tyInt Syntax.w64) Syntax.tnil)))) (List._∷_ (8, Rows'.any-gone (ColumnMetadataRow.ty)) (List._∷_ (9, Rows'.any-gone Syntax.tyBool) (List._∷_ (10, Rows'.any-gone (Syntax.tyInt Syntax.w64)) (List._∷_ (11, Rows'.any-gone Syntax.tyPtr) List.[])))))))))))
+t17 = List._∷_ (0, Rows'.sc-here Row.sUnit) (List._∷_ (1, Rows'.sslice (Referent.rtF (Referent.fInt Syntax.w8)) (Syntax.tyRef (Syntax.named 0) Syntax.imm (Syntax.tyInt Syntax.w8)) 0) (List._∷_ (2, Rows'.any-gone (Syntax.tyStruct (List._∷_ 112 (List._∷_ 108 (List._∷_ 97 (List._∷_ 110 (List._∷_ 58 (List._∷_ 58 (List._∷_ 80 (List._∷_ 108 (List._∷_ 97 (List._∷_ 110 List.[])))))))))) (Syntax.tcons (Syntax.tyEnum (List._∷_ 112 (List._∷_ 108 (List._∷_ 97 (List._∷_ 110 (List._∷_ 58 (List._∷_ 58 (List._∷_ 76 (List._∷_ 97 (List._∷_ 121 (List._∷_ 111 (List._∷_ 117 (List._∷_ 116 List.[])))))))))))) (Syntax.ttcons Syntax.tnil (Syntax.ttcons Syntax.tnil (Syntax.ttcons Syntax.tnil Syntax.ttnil)))) (Syntax.tcons (Syntax.tyEnum (List._∷_ 102 (List._∷_ 105 (List._∷_ 101 (List._∷_ 108 (List._∷_ 100 (List._∷_ 58 (List._∷_ 58 (List._∷_ 66 (List._∷_ 121 (List._∷_ 116 (List._∷_ 101 (List._∷_ 79 (List._∷_ 114 (List._∷_ 100 (List._∷_ 101 (List._∷_ 114 List.[])))))))))))))))) (Syntax.ttcons Syntax.tnil (Syntax.ttcons Syntax.tnil Syntax.ttnil))) (Syntax.tcons Syntax.tyBool (Syntax.tcons (Syntax.tyInt Syntax.w64) (Syntax.tcons (Syntax.tyInt Syntax.w64) (Syntax.tcons (Syntax.tyInt Syntax.w64) (Syntax.tcons (Syntax.tyInt Syntax.w64) (Syntax.tcons (Syntax.tyEnum (List._∷_ 111 (List._∷_ 117 (List._∷_ 116 (List._∷_ 99 (List._∷_ 111 (List._∷_ 109 (List._∷_ 101 (List._∷_ 58 (List._∷_ 58 (List._∷_ 79 (List._∷_ 117 (List._∷_ 116 (List._∷_ 99 (List._∷_ 111 (List._∷_ 109 (List._∷_ 101 List.[])))))))))))))))) (Syntax.ttcons Syntax.tnil (Syntax.ttcons Syntax.tnil (Syntax.ttcons (Syntax.tcons (Syntax.tyInt Syntax.w64) (Syntax.tcons (Syntax.tyInt Syntax.w64) Syntax.tnil)) (Syntax.ttcons Syntax.tnil (Syntax.ttcons (Syntax.tcons (Syntax.tyInt Syntax.w16) Syntax.tnil) (Syntax.ttcons Syntax.tnil (Syntax.ttcons (Syntax.tcons (Syntax.tyInt Syntax.w64) Syntax.tnil) (Syntax.ttcons Syntax.tnil (Syntax.ttcons (Syntax.tcons (Syntax.tyInt Syntax.w16) Syntax.tnil) Syntax.ttnil)))))))))) Syntax.tnil)))))))))) (List._∷_ (3, Mut.mslice (ColumnMetadataRow.RT) (Syntax.tyRef (Syntax.named 1) Syntax.mut ColumnMetadataRow.named) 1) (List._∷_ (4, Rows'.any-gone (Syntax.tyInt Syntax.w64)) (List._∷_ (5, Rows'.any-gone (Syntax.tyInt Syntax.w64)) (List._∷_ (6, Rows'.sc-here (Row.sInt Syntax.w64)) (List._∷_ (7, Rows'.any-gone (Syntax.tyStruct (List._∷_ 112 (List._∷_ 108 (List._∷_ 97 (List._∷_ 110 (List._∷_ 110 (List._∷_ 101 (List._∷_ 100 (List._∷_ 58 (List._∷_ 58 (List._∷_ 67 (List._∷_ 111 (List._∷_ 108 (List._∷_ 117 (List._∷_ 109 (List._∷_ 110 (List._∷_ 82 (List._∷_ 101 (List._∷_ 97 (List._∷_ 100 List.[]))))))))))))))))))) (Syntax.tcons (ColumnMetadataRow.ty) (Syntax.tcons (Syntax.tyInt Syntax.w64) Syntax.tnil)))) (List._∷_ (8, Rows'.any-gone (ColumnMetadataRow.ty)) (List._∷_ (9, Rows'.any-gone Syntax.tyBool) (List._∷_ (10, Rows'.any-gone (Syntax.tyInt Syntax.w64)) (List._∷_ (11, Rows'.any-gone Syntax.tyPtr) List.[])))))))))))
 
 abbrev pub T0 : Row.Cx
 T0 = record { locals = t0; slots = List.[] }
@@ -367,7 +367,7 @@ module _ (claims· : Claims) where
   s5 = Scalar.n-room T7 9 Syntax.tyBool
 
   abbrev s6 : Typed.Mo T7 → Typed.Mo T10
-  s6 = Scalar.n-room T7 2 (Syntax.tyStruct (List._∷_ 112 (List._∷_ 108 (List._∷_ 97 (List._∷_ 110 (List._∷_ 58 (List._∷_ 58 (List._∷_ 80 (List._∷_ 108 (List._∷_ 97 (List._∷_ 110 List.[])))))))))) (Syntax.tcons (Syntax.tyEnum (List._∷_ 112 (List._∷_ 108 (List._∷_ 97 (List._∷_ 110 (List._∷_ 58 (List._∷_ 58 (List._∷_ 76 (List._∷_ 97 (List._∷_ 121 (List._∷_ 111 (List._∷_ 117 (List._∷_ 116 List.[])))))))))))) (Syntax.ttcons Syntax.tnil (Syntax.ttcons Syntax.tnil (Syntax.ttcons Syntax.tnil Syntax.ttnil)))) (Syntax.tcons (Syntax.tyEnum (List._∷_ 102 (List._∷_ 105 (List._∷_ 101 (List._∷_ 108 (List._∷_ 100 (List._∷_ 58 (List._∷_ 58 (List._∷_ 66 (List._∷_ 121 (List._∷_ 116 (List._∷_ 101 (List._∷_ 79 (List._∷_ 114 (List._∷_ 100 (List._∷_ 101 (List._∷_ 114 List.[])))))))))))))))) (Syntax.ttcons Syntax.tnil (Syntax.ttcons Syntax.tnil Syntax.ttnil))) (Syntax.tcons Syntax.tyBool (Syntax.tcons (Syntax.tyInt Syntax.w64) (Syntax.tcons (Syntax.tyInt Syntax.w64) (Syntax.tcons (Syntax.tyInt Syntax.w64) (Syntax.tcons (Syntax.tyInt Syntax.w64) (Syntax.tcons (Syntax.tyEnum (List._∷_ 111 (List._∷_ 117 (List._∷_ 116 (List._∷_ 99 (List._∷_ 111 (List._∷_ 109 (List._∷_ 101 (List._∷_ 58 (List._∷_ 58 (List._∷_ 79 (List._∷_ 117 (List._∷_ 116 (List._∷_ 99 (List._∷_ 111 (List._∷_ 109 (List._∷_ 101 List.[])))))))))))))))) (Syntax.ttcons Syntax.tnil (Syntax.ttcons Syntax.tnil (Syntax.ttcons (Syntax.tcons (Syntax.tyInt Syntax.w64) (Syntax.tcons (Syntax.tyInt Syntax.w64) Syntax.tnil)) (Syntax.ttcons Syntax.tnil (Syntax.ttcons (Syntax.tcons (Syntax.tyInt Syntax.w16) Syntax.tnil) (Syntax.ttcons Syntax.tnil (Syntax.ttcons (Syntax.tcons (Syntax.tyInt Syntax.w64) Syntax.tnil) (Syntax.ttcons Syntax.tnil Syntax.ttnil))))))))) Syntax.tnil)))))))))
+  s6 = Scalar.n-room T7 2 (Syntax.tyStruct (List._∷_ 112 (List._∷_ 108 (List._∷_ 97 (List._∷_ 110 (List._∷_ 58 (List._∷_ 58 (List._∷_ 80 (List._∷_ 108 (List._∷_ 97 (List._∷_ 110 List.[])))))))))) (Syntax.tcons (Syntax.tyEnum (List._∷_ 112 (List._∷_ 108 (List._∷_ 97 (List._∷_ 110 (List._∷_ 58 (List._∷_ 58 (List._∷_ 76 (List._∷_ 97 (List._∷_ 121 (List._∷_ 111 (List._∷_ 117 (List._∷_ 116 List.[])))))))))))) (Syntax.ttcons Syntax.tnil (Syntax.ttcons Syntax.tnil (Syntax.ttcons Syntax.tnil Syntax.ttnil)))) (Syntax.tcons (Syntax.tyEnum (List._∷_ 102 (List._∷_ 105 (List._∷_ 101 (List._∷_ 108 (List._∷_ 100 (List._∷_ 58 (List._∷_ 58 (List._∷_ 66 (List._∷_ 121 (List._∷_ 116 (List._∷_ 101 (List._∷_ 79 (List._∷_ 114 (List._∷_ 100 (List._∷_ 101 (List._∷_ 114 List.[])))))))))))))))) (Syntax.ttcons Syntax.tnil (Syntax.ttcons Syntax.tnil Syntax.ttnil))) (Syntax.tcons Syntax.tyBool (Syntax.tcons (Syntax.tyInt Syntax.w64) (Syntax.tcons (Syntax.tyInt Syntax.w64) (Syntax.tcons (Syntax.tyInt Syntax.w64) (Syntax.tcons (Syntax.tyInt Syntax.w64) (Syntax.tcons (Syntax.tyEnum (List._∷_ 111 (List._∷_ 117 (List._∷_ 116 (List._∷_ 99 (List._∷_ 111 (List._∷_ 109 (List._∷_ 101 (List._∷_ 58 (List._∷_ 58 (List._∷_ 79 (List._∷_ 117 (List._∷_ 116 (List._∷_ 99 (List._∷_ 111 (List._∷_ 109 (List._∷_ 101 List.[])))))))))))))))) (Syntax.ttcons Syntax.tnil (Syntax.ttcons Syntax.tnil (Syntax.ttcons (Syntax.tcons (Syntax.tyInt Syntax.w64) (Syntax.tcons (Syntax.tyInt Syntax.w64) Syntax.tnil)) (Syntax.ttcons Syntax.tnil (Syntax.ttcons (Syntax.tcons (Syntax.tyInt Syntax.w16) Syntax.tnil) (Syntax.ttcons Syntax.tnil (Syntax.ttcons (Syntax.tcons (Syntax.tyInt Syntax.w64) Syntax.tnil) (Syntax.ttcons Syntax.tnil (Syntax.ttcons (Syntax.tcons (Syntax.tyInt Syntax.w16) Syntax.tnil) Syntax.ttnil)))))))))) Syntax.tnil)))))))))
 
   abbrev s7 : Typed.Mo T10 → Typed.Mo T11
   s7 = Scalar.n-room T10 9 Syntax.tyBool
@@ -649,7 +649,7 @@ module _ (claims· : Claims) where
           d3 = Typed.g-pre 𝓤 H A W 𝓣 E G10 G11 b5 Δ4 (Typed.pass T10 T11 s7) at2 (Scalar.g-room 𝓤 H A W E G10 9 Syntax.tyBool (Scalar.room-sc 𝓤 H A W Row.sBool)) d2
 
           d4 : Typed.Typed 𝓤 H A 𝓣 E G7 b5 Δ4 at4
-          d4 = Typed.g-pre 𝓤 H A W 𝓣 E G7 G10 b5 Δ4 (Typed.pass T7 T10 s6) at3 (Scalar.g-room 𝓤 H A W E G7 2 (Syntax.tyStruct (List._∷_ 112 (List._∷_ 108 (List._∷_ 97 (List._∷_ 110 (List._∷_ 58 (List._∷_ 58 (List._∷_ 80 (List._∷_ 108 (List._∷_ 97 (List._∷_ 110 List.[])))))))))) (Syntax.tcons (Syntax.tyEnum (List._∷_ 112 (List._∷_ 108 (List._∷_ 97 (List._∷_ 110 (List._∷_ 58 (List._∷_ 58 (List._∷_ 76 (List._∷_ 97 (List._∷_ 121 (List._∷_ 111 (List._∷_ 117 (List._∷_ 116 List.[])))))))))))) (Syntax.ttcons Syntax.tnil (Syntax.ttcons Syntax.tnil (Syntax.ttcons Syntax.tnil Syntax.ttnil)))) (Syntax.tcons (Syntax.tyEnum (List._∷_ 102 (List._∷_ 105 (List._∷_ 101 (List._∷_ 108 (List._∷_ 100 (List._∷_ 58 (List._∷_ 58 (List._∷_ 66 (List._∷_ 121 (List._∷_ 116 (List._∷_ 101 (List._∷_ 79 (List._∷_ 114 (List._∷_ 100 (List._∷_ 101 (List._∷_ 114 List.[])))))))))))))))) (Syntax.ttcons Syntax.tnil (Syntax.ttcons Syntax.tnil Syntax.ttnil))) (Syntax.tcons Syntax.tyBool (Syntax.tcons (Syntax.tyInt Syntax.w64) (Syntax.tcons (Syntax.tyInt Syntax.w64) (Syntax.tcons (Syntax.tyInt Syntax.w64) (Syntax.tcons (Syntax.tyInt Syntax.w64) (Syntax.tcons (Syntax.tyEnum (List._∷_ 111 (List._∷_ 117 (List._∷_ 116 (List._∷_ 99 (List._∷_ 111 (List._∷_ 109 (List._∷_ 101 (List._∷_ 58 (List._∷_ 58 (List._∷_ 79 (List._∷_ 117 (List._∷_ 116 (List._∷_ 99 (List._∷_ 111 (List._∷_ 109 (List._∷_ 101 List.[])))))))))))))))) (Syntax.ttcons Syntax.tnil (Syntax.ttcons Syntax.tnil (Syntax.ttcons (Syntax.tcons (Syntax.tyInt Syntax.w64) (Syntax.tcons (Syntax.tyInt Syntax.w64) Syntax.tnil)) (Syntax.ttcons Syntax.tnil (Syntax.ttcons (Syntax.tcons (Syntax.tyInt Syntax.w16) Syntax.tnil) (Syntax.ttcons Syntax.tnil (Syntax.ttcons (Syntax.tcons (Syntax.tyInt Syntax.w64) Syntax.tnil) (Syntax.ttcons Syntax.tnil Syntax.ttnil))))))))) Syntax.tnil))))))))) (Local.room-whole 𝓤 H A W (Declared.row Plan.the-type) (Syntax.tyStruct (List._∷_ 112 (List._∷_ 108 (List._∷_ 97 (List._∷_ 110 (List._∷_ 58 (List._∷_ 58 (List._∷_ 80 (List._∷_ 108 (List._∷_ 97 (List._∷_ 110 List.[])))))))))) (Syntax.tcons (Syntax.tyEnum (List._∷_ 112 (List._∷_ 108 (List._∷_ 97 (List._∷_ 110 (List._∷_ 58 (List._∷_ 58 (List._∷_ 76 (List._∷_ 97 (List._∷_ 121 (List._∷_ 111 (List._∷_ 117 (List._∷_ 116 List.[])))))))))))) (Syntax.ttcons Syntax.tnil (Syntax.ttcons Syntax.tnil (Syntax.ttcons Syntax.tnil Syntax.ttnil)))) (Syntax.tcons (Syntax.tyEnum (List._∷_ 102 (List._∷_ 105 (List._∷_ 101 (List._∷_ 108 (List._∷_ 100 (List._∷_ 58 (List._∷_ 58 (List._∷_ 66 (List._∷_ 121 (List._∷_ 116 (List._∷_ 101 (List._∷_ 79 (List._∷_ 114 (List._∷_ 100 (List._∷_ 101 (List._∷_ 114 List.[])))))))))))))))) (Syntax.ttcons Syntax.tnil (Syntax.ttcons Syntax.tnil Syntax.ttnil))) (Syntax.tcons Syntax.tyBool (Syntax.tcons (Syntax.tyInt Syntax.w64) (Syntax.tcons (Syntax.tyInt Syntax.w64) (Syntax.tcons (Syntax.tyInt Syntax.w64) (Syntax.tcons (Syntax.tyInt Syntax.w64) (Syntax.tcons (Syntax.tyEnum (List._∷_ 111 (List._∷_ 117 (List._∷_ 116 (List._∷_ 99 (List._∷_ 111 (List._∷_ 109 (List._∷_ 101 (List._∷_ 58 (List._∷_ 58 (List._∷_ 79 (List._∷_ 117 (List._∷_ 116 (List._∷_ 99 (List._∷_ 111 (List._∷_ 109 (List._∷_ 101 List.[])))))))))))))))) (Syntax.ttcons Syntax.tnil (Syntax.ttcons Syntax.tnil (Syntax.ttcons (Syntax.tcons (Syntax.tyInt Syntax.w64) (Syntax.tcons (Syntax.tyInt Syntax.w64) Syntax.tnil)) (Syntax.ttcons Syntax.tnil (Syntax.ttcons (Syntax.tcons (Syntax.tyInt Syntax.w16) Syntax.tnil) (Syntax.ttcons Syntax.tnil (Syntax.ttcons (Syntax.tcons (Syntax.tyInt Syntax.w64) Syntax.tnil) (Syntax.ttcons Syntax.tnil Syntax.ttnil))))))))) Syntax.tnil))))))))) Path'.refl)) d3
+          d4 = Typed.g-pre 𝓤 H A W 𝓣 E G7 G10 b5 Δ4 (Typed.pass T7 T10 s6) at3 (Scalar.g-room 𝓤 H A W E G7 2 (Syntax.tyStruct (List._∷_ 112 (List._∷_ 108 (List._∷_ 97 (List._∷_ 110 (List._∷_ 58 (List._∷_ 58 (List._∷_ 80 (List._∷_ 108 (List._∷_ 97 (List._∷_ 110 List.[])))))))))) (Syntax.tcons (Syntax.tyEnum (List._∷_ 112 (List._∷_ 108 (List._∷_ 97 (List._∷_ 110 (List._∷_ 58 (List._∷_ 58 (List._∷_ 76 (List._∷_ 97 (List._∷_ 121 (List._∷_ 111 (List._∷_ 117 (List._∷_ 116 List.[])))))))))))) (Syntax.ttcons Syntax.tnil (Syntax.ttcons Syntax.tnil (Syntax.ttcons Syntax.tnil Syntax.ttnil)))) (Syntax.tcons (Syntax.tyEnum (List._∷_ 102 (List._∷_ 105 (List._∷_ 101 (List._∷_ 108 (List._∷_ 100 (List._∷_ 58 (List._∷_ 58 (List._∷_ 66 (List._∷_ 121 (List._∷_ 116 (List._∷_ 101 (List._∷_ 79 (List._∷_ 114 (List._∷_ 100 (List._∷_ 101 (List._∷_ 114 List.[])))))))))))))))) (Syntax.ttcons Syntax.tnil (Syntax.ttcons Syntax.tnil Syntax.ttnil))) (Syntax.tcons Syntax.tyBool (Syntax.tcons (Syntax.tyInt Syntax.w64) (Syntax.tcons (Syntax.tyInt Syntax.w64) (Syntax.tcons (Syntax.tyInt Syntax.w64) (Syntax.tcons (Syntax.tyInt Syntax.w64) (Syntax.tcons (Syntax.tyEnum (List._∷_ 111 (List._∷_ 117 (List._∷_ 116 (List._∷_ 99 (List._∷_ 111 (List._∷_ 109 (List._∷_ 101 (List._∷_ 58 (List._∷_ 58 (List._∷_ 79 (List._∷_ 117 (List._∷_ 116 (List._∷_ 99 (List._∷_ 111 (List._∷_ 109 (List._∷_ 101 List.[])))))))))))))))) (Syntax.ttcons Syntax.tnil (Syntax.ttcons Syntax.tnil (Syntax.ttcons (Syntax.tcons (Syntax.tyInt Syntax.w64) (Syntax.tcons (Syntax.tyInt Syntax.w64) Syntax.tnil)) (Syntax.ttcons Syntax.tnil (Syntax.ttcons (Syntax.tcons (Syntax.tyInt Syntax.w16) Syntax.tnil) (Syntax.ttcons Syntax.tnil (Syntax.ttcons (Syntax.tcons (Syntax.tyInt Syntax.w64) Syntax.tnil) (Syntax.ttcons Syntax.tnil (Syntax.ttcons (Syntax.tcons (Syntax.tyInt Syntax.w16) Syntax.tnil) Syntax.ttnil)))))))))) Syntax.tnil))))))))) (Local.room-whole 𝓤 H A W (Declared.row Plan.the-type) (Syntax.tyStruct (List._∷_ 112 (List._∷_ 108 (List._∷_ 97 (List._∷_ 110 (List._∷_ 58 (List._∷_ 58 (List._∷_ 80 (List._∷_ 108 (List._∷_ 97 (List._∷_ 110 List.[])))))))))) (Syntax.tcons (Syntax.tyEnum (List._∷_ 112 (List._∷_ 108 (List._∷_ 97 (List._∷_ 110 (List._∷_ 58 (List._∷_ 58 (List._∷_ 76 (List._∷_ 97 (List._∷_ 121 (List._∷_ 111 (List._∷_ 117 (List._∷_ 116 List.[])))))))))))) (Syntax.ttcons Syntax.tnil (Syntax.ttcons Syntax.tnil (Syntax.ttcons Syntax.tnil Syntax.ttnil)))) (Syntax.tcons (Syntax.tyEnum (List._∷_ 102 (List._∷_ 105 (List._∷_ 101 (List._∷_ 108 (List._∷_ 100 (List._∷_ 58 (List._∷_ 58 (List._∷_ 66 (List._∷_ 121 (List._∷_ 116 (List._∷_ 101 (List._∷_ 79 (List._∷_ 114 (List._∷_ 100 (List._∷_ 101 (List._∷_ 114 List.[])))))))))))))))) (Syntax.ttcons Syntax.tnil (Syntax.ttcons Syntax.tnil Syntax.ttnil))) (Syntax.tcons Syntax.tyBool (Syntax.tcons (Syntax.tyInt Syntax.w64) (Syntax.tcons (Syntax.tyInt Syntax.w64) (Syntax.tcons (Syntax.tyInt Syntax.w64) (Syntax.tcons (Syntax.tyInt Syntax.w64) (Syntax.tcons (Syntax.tyEnum (List._∷_ 111 (List._∷_ 117 (List._∷_ 116 (List._∷_ 99 (List._∷_ 111 (List._∷_ 109 (List._∷_ 101 (List._∷_ 58 (List._∷_ 58 (List._∷_ 79 (List._∷_ 117 (List._∷_ 116 (List._∷_ 99 (List._∷_ 111 (List._∷_ 109 (List._∷_ 101 List.[])))))))))))))))) (Syntax.ttcons Syntax.tnil (Syntax.ttcons Syntax.tnil (Syntax.ttcons (Syntax.tcons (Syntax.tyInt Syntax.w64) (Syntax.tcons (Syntax.tyInt Syntax.w64) Syntax.tnil)) (Syntax.ttcons Syntax.tnil (Syntax.ttcons (Syntax.tcons (Syntax.tyInt Syntax.w16) Syntax.tnil) (Syntax.ttcons Syntax.tnil (Syntax.ttcons (Syntax.tcons (Syntax.tyInt Syntax.w64) Syntax.tnil) (Syntax.ttcons Syntax.tnil (Syntax.ttcons (Syntax.tcons (Syntax.tyInt Syntax.w16) Syntax.tnil) Syntax.ttnil)))))))))) Syntax.tnil))))))))) Path'.refl)) d3
 
           d5 : Typed.Typed 𝓤 H A 𝓣 E G7 b6 Δ4 at5
           d5 = Scalar.t-cond 𝓤 H A W E 𝓣 G7 9 (λ x. x) b4 b5 Δ4 at1 at4 (Scalar.reads-sc 𝓤 H A W Row.sBool) Path'.refl d1 d4
