@@ -1,0 +1,4 @@
+pub mod ColumnMetadataRow
+pub mod Cutting
+pub mod Summing
+pub mod Known
