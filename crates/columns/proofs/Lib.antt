@@ -1,4 +1,6 @@
 pub mod ColumnMetadataRow
 pub mod Cutting
 pub mod Summing
+pub mod Same
+pub mod Rows
 pub mod Known
