@@ -3,4 +3,5 @@ pub mod Cutting
 pub mod Summing
 pub mod Same
 pub mod Rows
+pub mod Cases
 pub mod Known
