@@ -6,15 +6,13 @@ use mathlib.Core.List.{List, [], _∷_}
 use Prim.Native.Nat.{ℕ, suc, _+_, _%_}
 use native.Mathlib.Omega.{arith}
 use lib.Dec.{T, eqb, eqb→eq}
-use lib.ListN.{length}
 use Rattle.search.specs.Search.{pick, alike}
 use Rattle.search.proofs.Tests.{and-left, and-right, agree, agree-same}
 use Rattle.search.proofs.Alike.{alike-length}
-use Rattle.outcome.specs.Refusal.{isRefused}
 use Rattle.types.specs.declared.ColumnMetadata.{ColumnMetadata}
 use Rattle.types.specs.declared.Db2Type.{Db2Type}
 use Rattle.types.specs.Types.{codeOf}
-use Rattle.columns.specs.Cut.{mostColumns, sameColumn, sameCut}
+use Rattle.columns.specs.Cut.{sameColumn, sameCut}
 use Rattle.columns.specs.Row.{isLarge, isVarying, columnWidth, rowWidth, largeRefusal, rowRefusal, rowAnswer}
 use Rattle.columns.specs.Consistent.{ConsistentColumn, ConsistentFrom, Consistent}
 use Rattle.columns.proofs.Same.{Same, same-parts}

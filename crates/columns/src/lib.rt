@@ -21,7 +21,7 @@ pub struct RowAnswer {
     pub width: usize,
 }
 
-// Whether a row's bytes of one column are read like those of the other.
+// Whether two columns are cut from a row alike.
 fn same_column(c: ColumnMetadata, d: ColumnMetadata) -> bool
     ensures { λ r. ⌜ r ≡ sameColumn c d ⌝ }
 {
@@ -34,7 +34,7 @@ fn same_column(c: ColumnMetadata, d: ColumnMetadata) -> bool
                     & (column::order_number(order) == column::order_number(other)))))
 }
 
-// A large object's bytes do not stand in the row.
+// A row with a column of such a type has no widest.
 fn is_large(db2_type: Db2Type) -> bool
     ensures { λ r. ⌜ r ≡ isLarge «db2_type» ⌝ }
 {
