@@ -7,9 +7,9 @@ use mathlib.Core.List.{List, [], _∷_}
 use mathlib.Core.Bool.{Bool, true, false, _&&_, true≢false, and-eq-true-iff}
 use lib.Dec.{ltb, leb, eqb}
 use lib.ListN.{length, getD}
-use borrow.Author.Tests.{lt-ltb, le-ltb, ltb-true, le-leb, lt-leb, leb-true, eq-eqb, ne-eqb, eqb-true}
+use borrow.Author.Tests.{lt-ltb, le-ltb, ltb-true, le-leb, lt-leb, leb-true, eq-eqb, ne-eqb}
 use Rattle.search.specs.Search.{pick, firstIn}
-use Rattle.search.proofs.Alternatives.{Each, each-none, each-more, firstIn-all}
+use Rattle.search.proofs.Alternatives.{each-none, each-more, firstIn-all}
 use Rattle.codepage.specs.Page.{Page}
 use Rattle.field.specs.declared.StringRead.{StringRead}
 use Rattle.field.specs.Strings.{stringEnd, stringsEnd, noString, stringAt}

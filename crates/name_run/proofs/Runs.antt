@@ -2,12 +2,12 @@
 -- Assumes nothing.
 use Prim.Native.Nat.{ℕ, _+_, _-_, _≤_, _<_}
 use native.Mathlib.Omega.{arith}
-use mathlib.Core.Path.{_≡_, refl, sym, ap, subst, _∙_}
+use mathlib.Core.Path.{_≡_, refl}
 use mathlib.Core.List.{List}
 use mathlib.Core.Bool.{Bool, true, false}
-use lib.Dec.{ltb, leb}
+use lib.Dec.{leb}
 use lib.ListN.{length}
-use borrow.Author.Tests.{lt-ltb, le-ltb, leb-true, leb-false}
+use borrow.Author.Tests.{lt-ltb, le-ltb, leb-false}
 use Rattle.search.specs.Search.{pick}
 use Rattle.search.specs.Walks.{keep, chain, best}
 use Rattle.search.proofs.Best.{best-done, best-all}
@@ -17,7 +17,7 @@ use Rattle.text.specs.declared.Text.{Text}
 use Rattle.name_run.specs.declared.ScannedName.{ScannedName}
 use Rattle.name_run.specs.declared.NameRun.{NameRun}
 use Rattle.name_run.specs.Layout.{isNamedLayout, layoutEnd, scannedNameAt}
-use Rattle.name_run.specs.Run.{nameWalk, nameRunFrom, longer, noNameRun, longestNameRun, runLimit, namesOfRun}
+use Rattle.name_run.specs.Run.{nameWalk, nameRunFrom, longer, noNameRun, longestNameRun, namesOfRun}
 use Rattle.name_run.proofs.Layouts.{scanned-none, scanned-some, scanned-known, layout-ends}
 
 -- every layout of the walk counts

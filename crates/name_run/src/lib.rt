@@ -67,7 +67,10 @@ pub fn scan_descriptor_name(reply: &[u8], offset: usize) -> ScannedName
     let m = field::read_string(reply, offset + 19);
     let s = field::read_string(reply, m.next);
     let comments_end = field::skip_strings(reply, s.next, 4);
-    let extension = descriptor::read_sqldxgrp(reply, descriptor::skip_sqludtgrp(reply, comments_end));
+    let extension = descriptor::read_sqldxgrp(
+        reply,
+        descriptor::skip_sqludtgrp(reply, comments_end),
+    );
     if end < extension.next {
         return no_name();
     }

@@ -1,6 +1,7 @@
 -- The loop walks from layout to layout; each way out is a law of Runs.
 -- Assumes nothing.
 use Prim.Native.Nat.{_-_}
+use native.Mathlib.Omega.{arith}
 use borrow.Author.Needs.{needs}
 use Rattle.search.proofs.Walks.{walking-none}
 use Rattle.codepage.specs.Page.{page037}
@@ -27,7 +28,7 @@ returns c =
     let l = n .before .before in
     let a = l .before .before .args in
     run-stop page037 (a .reply .now) (a .start) (l .loop .count) (l .loop .offset) (l .loop .inv) (n .scan-descriptor-name .result)
-    (n .before .loop-test .taken)
+    (omega (arith, n .before .loop-test .taken))
     (n .scan-descriptor-name .ensures)
     (c .if1 .taken)
 
@@ -37,7 +38,7 @@ loop-again c =
     let l = n .before .before in
     let a = l .before .before .args in
     run-more page037 (a .reply .now) (a .start) (l .loop .count) (l .loop .offset) (l .loop .inv) (n .scan-descriptor-name .result)
-    (n .before .loop-test .taken)
+    (omega (arith, n .before .loop-test .taken))
     (n .scan-descriptor-name .ensures)
     (c .if1 .left)
 
@@ -45,7 +46,7 @@ returns-2 : tie.Need-returns-2 Inv-loop μ-loop
 returns-2 c =
     let l = c .before in
     let a = l .before .before .args in
-    run-done page037 (a .reply .now) (a .start) (l .loop .count) (l .loop .offset) (l .loop .inv) (c .loop-test .left)
+    run-done page037 (a .reply .now) (a .start) (l .loop .count) (l .loop .offset) (l .loop .inv) (omega (arith, c .loop-test .left))
 
 pub name-run-from-spec : {M : Type 1} → statement M
 name-run-from-spec =

@@ -1,6 +1,5 @@
 -- No string, and next 0.
 -- Assumes nothing.
-use mathlib.Core.Path.{refl}
 use borrow.Author.Needs.{needs}
 use Rattle.name_run.proofs.no_name.Statement.{statement}
 use Rattle.name_run.proofs.no_name.Tie as tie

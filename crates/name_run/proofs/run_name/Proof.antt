@@ -1,7 +1,6 @@
 -- A layout that has a name gives it.
 -- Assumes nothing.
-use mathlib.Core.Path.{ap, _∙_}
-use borrow.Author.Needs.{needs}
+use native.Mathlib.Omega.{arith}
 use Rattle.codepage.specs.Page.{page037}
 use Rattle.name_run.proofs.Layouts.{layout-starts, run-name-inside, run-name-text, scanned-known}
 use Rattle.name_run.proofs.run_name.Statement.{statement}
@@ -16,7 +15,8 @@ decode-text-requires : tie.Need-decode-text-requires
 decode-text-requires c κs =
     let r = c .before in
     let b = r .before .before in
-    run-name-inside page037 (b .args .reply .now) (b .args .offset) (b .pre) (r .scan-descriptor-name .result) (r .scan-descriptor-name .ensures)
+    let i = run-name-inside page037 (b .args .reply .now) (b .args .offset) (b .pre) (r .scan-descriptor-name .result) (r .scan-descriptor-name .ensures) in
+    omega (arith, i)
 
 returns : tie.Need-returns
 returns c =

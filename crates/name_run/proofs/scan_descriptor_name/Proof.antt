@@ -40,7 +40,7 @@ returns-3 c =
     (x .read-sqldxgrp .ensures)
     (c .no-name3 .result)
     (c .no-name3 .ensures)
-    (c .before .if3 .taken)
+    (omega (arith, c .before .if3 .taken))
 
 first-name-requires : tie.Need-first-name-requires
 first-name-requires c κs =
@@ -52,6 +52,7 @@ first-name-requires c κs =
     let f = m .before in
     let l = f .before .before in
     let a = l .before .before .args in
+    let i =
     read-inside page037 (a .reply .now) (a .offset) (omega (arith, l .if1 .left)) (f .if2 .left) (m .read-string .result) (t .read-string2 .result)
     (q .skip-strings .result)
     (u .skip-sqludtgrp .result)
@@ -60,7 +61,8 @@ first-name-requires c κs =
     (t .read-string2 .ensures)
     (q .skip-strings .ensures)
     (u .skip-sqludtgrp .ensures)
-    (x .read-sqldxgrp .ensures)
+    (x .read-sqldxgrp .ensures) in
+    search (needs, i .0, i .1 .0, i .1 .1)
 
 returns-4 : tie.Need-returns-4
 returns-4 c =
@@ -82,7 +84,7 @@ returns-4 c =
     (q .skip-strings .ensures)
     (u .skip-sqludtgrp .ensures)
     (x .read-sqldxgrp .ensures)
-    (n .before .if3 .left)
+    (omega (arith, n .before .if3 .left))
     (n .first-name .result)
     (n .first-name .ensures)
     (c .no-name4 .result)
@@ -109,7 +111,7 @@ returns-5 c =
     (q .skip-strings .ensures)
     (u .skip-sqludtgrp .ensures)
     (x .read-sqldxgrp .ensures)
-    (n .before .if3 .left)
+    (omega (arith, n .before .if3 .left))
     (n .first-name .result)
     (n .first-name .ensures)
     (c .if4 .left)
