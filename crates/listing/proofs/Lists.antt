@@ -15,11 +15,12 @@ use Rattle.text.specs.Text.{emptyText}
 use Rattle.candidates.specs.declared.View.{View}
 use Rattle.candidates.specs.Candidates.{stringTextAt, isKept, candidatesIn, candidatesFrom, candidates}
 use Rattle.candidates.specs.View.{shown, shifted, behind, inView, Inside, Within}
+use Rattle.candidates.proofs.Candidates.{none-inside}
 use Rattle.candidates.proofs.Views.{behind-shifted}
 use Rattle.listing.specs.declared.Rule.{Rule}
 use Rattle.listing.specs.declared.Listing.{Listing}
 use Rattle.listing.specs.declared.Cursor.{Cursor}
-use Rattle.listing.specs.Listing.{later, isListed, after, unlisted, listed, listedBy, InsideListing, toCome, WithinCursor}
+use Rattle.listing.specs.Listing.{later, isListed, after, unlisted, listed, listedBy, InsideListing, toCome, cursorAt, WithinCursor}
 
 -- ---- how many there are at most
 
@@ -169,3 +170,21 @@ module _ (s : List ℕ) (rule : Rule) (z₀ : Listing) (v₀ : View) where
     pub looking-over : (x : Text) → eqb (v .first .length) 0 ≡ true → x ≡ emptyText → FoundBy (record { text = x; listing = z; view = v })
     unfolding listed
     looking-over x e f = (t .left ∙ rw (in-view-none s v e, f) refl, record { listing = t .inside; view = t .within })
+
+-- ---- the first cursor
+
+pub first-to-come : (s : List ℕ) (rule : Rule) (v : View) (at : Cursor) → at ≡ cursorAt v → inView s v ≡ candidates s → toCome s rule at ≡ listedBy s rule
+unfolding toCome listedBy
+first-to-come s rule v at e f = rw (e, f) (listed-all s rule v (candidates s) f)
+
+pub first-within : (s : List ℕ) (v : View) (at : Cursor) → at ≡ cursorAt v → Within s v → WithinCursor s at
+first-within s v at e h =
+    subst (WithinCursor s) (sym e) (record { listing = record { first = h .first; last = omega arith }; view = h })
+
+-- a cursor whose texts are all empty lies in any reply
+pub nowhere-within : (s : List ℕ) (t : Text) (at : Cursor) → t ≡ emptyText
+    → at ≡ cursorAt (record { first = t; second = t; third = t; fourth = t; fifth = t; next = 0 }) → WithinCursor s at
+nowhere-within s t at e f =
+    let h : Inside s t = none-inside s t e in
+    first-within s (record { first = t; second = t; third = t; fourth = t; fifth = t; next = 0 }) at f
+    (record { first = h; second = h; third = h; fourth = h; fifth = h; next = omega arith })

@@ -7,6 +7,7 @@ use lib.ListN.{length, getD}
 use Rattle.search.specs.Search.{pick}
 use Rattle.text.specs.declared.Text.{Text}
 use Rattle.text.specs.Text.{emptyText}
+use Rattle.candidates.specs.declared.View.{View}
 use Rattle.candidates.specs.Candidates.{sameText, candidates}
 use Rattle.candidates.specs.View.{inView, Inside, Within}
 use Rattle.listing.specs.declared.Rule.{Rule}
@@ -59,6 +60,10 @@ pub record InsideListing (s : List ℕ) (z : Listing) : Type 0 where
 -- the names that a rule lists from a cursor on (01, Name scan)
 unfoldable pub toCome : List ℕ → Rule → Cursor → List Text
 toCome s rule at = listed s rule (at .listing) (inView s (at .view))
+
+-- the cursor before the first name, at the view of the first candidates (01, Name scan)
+abbrev pub cursorAt : View → Cursor
+cursorAt v = record { text = emptyText; listing = unlisted (v .first); view = v }
 
 -- what holds of a cursor: all that it knows lies in the reply (01, Answers: place, length)
 pub record WithinCursor (s : List ℕ) (at : Cursor) : Type 0 where

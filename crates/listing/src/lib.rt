@@ -1,10 +1,12 @@
 // Which candidates are names, by either of two rules. Each rule goes through the candidates once, and lists some of them.
+ghost use mathlib.Core.List.{List};
 ghost use mathlib.Core.Path.{_≡_};
+ghost use Prim.Native.Nat.{ℕ};
 ghost use lib.ListN.{length};
 ghost use Rattle.candidates.specs.Candidates.{candidates};
 ghost use Rattle.candidates.specs.View.{shown, behind, inView, Inside, Within};
 ghost use Rattle.listing.specs.declared.Rule.the-variants.{Returning, BeforeFirst};
-ghost use Rattle.listing.specs.Listing.{returns, isBefore, isListed, after, unlisted, listedBy, InsideListing, toCome, WithinCursor};
+ghost use Rattle.listing.specs.Listing.{returns, isBefore, isListed, after, unlisted, listedBy, InsideListing, toCome, cursorAt, WithinCursor};
 use candidates::View;
 use text::Text;
 
@@ -216,4 +218,38 @@ pub fn next_listed(reply: &[u8], rule: Rule, from: Cursor) -> Cursor
         listing,
         view,
     }
+}
+
+// Before the first name.
+pub fn first_cursor(view: View) -> Cursor
+    ensures { λ r. ⌜ r ≡ cursorAt view ⌝ }
+{
+    let text = candidates::no_text();
+    let listing = no_listing(view.first);
+    Cursor {
+        text,
+        listing,
+        view,
+    }
+}
+
+// For who lists no names.
+pub fn no_cursor() -> Cursor
+    ensures { λ r. ⌜ ((s : List ℕ) → WithinCursor s r) ⌝ }
+{
+    let none = candidates::no_text();
+    first_cursor(View {
+        first: none,
+        second: none,
+        third: none,
+        fourth: none,
+        fifth: none,
+        next: 0,
+    })
+}
+
+pub fn text_of(cursor: Cursor) -> Text
+    ensures { λ r. ⌜ r ≡ cursor .text ⌝ }
+{
+    cursor.text
 }
