@@ -5,8 +5,8 @@ use mathlib.Core.List.{List, [], _∷_, _++_, append-assoc, append-nil}
 use Prim.Native.Nat.{ℕ, zero, suc, _+_, _-_, _*_, _/_, _<_, _≤_}
 use native.Mathlib.Numerals.{add-one}
 use native.Mathlib.Omega.{arith}
-use lib.ListN.{length, getD, drop, set, length-set, drop-of-length-le}
-use lib.Seq.{drop-cons, drop-set-lt, getD-set-same}
+use lib.ListN.{length, getD, take, drop, set, length-set, length-drop, drop-of-length-le}
+use lib.Seq.{drop-cons, drop-set-lt, getD-set-same, take-all}
 use borrow.Author.Tests.{lt-ltb, le-ltb}
 use Rattle.column_name.specs.Name.{digitOf, digitsOf, generatedName}
 
@@ -33,15 +33,15 @@ pub record Counting (n : ℕ) (cs : List ℕ) (rest at : ℕ) : Type 0 where
 
 pub counting-none : (n : ℕ) (cs : List ℕ) → n < 100000 → length cs ≡ 8 → Counting n cs n 7
 counting-none n cs h l =
-  let z : length cs ≤ 8 = omega arith in
-  record {
-  k = 4;
-  stands = refl;
-  within = omega arith;
-  small = omega arith;
-  long = l;
-  goes-on = rw (drop-of-length-le cs z) (sym (append-nil (digitsOf 5 n)));
-}
+    let z : length cs ≤ 8 = omega arith in
+    record {
+      k = 4;
+      stands = refl;
+      within = omega arith;
+      small = omega arith;
+      long = l;
+      goes-on = rw (drop-of-length-le cs z) (sym (append-nil (digitsOf 5 n)));
+    }
 
 module _ (n : ℕ) (cs : List ℕ) (rest at : ℕ) (c : Counting n cs rest at) (d : ℕ) (e : d ≡ digitOf rest) where
   pub counting-more : 10 ≤ rest → Counting n (set cs at d) (rest / 10) (at - 1)
@@ -59,18 +59,19 @@ module _ (n : ℕ) (cs : List ℕ) (rest at : ℕ) (c : Counting n cs rest at) (
             small = omega arith;
             long = length-set cs at d ∙ c .long;
             goes-on = g
-              ∙ rw (
-                le-ltb rest 10 h,
-                append-assoc (digitsOf (suc k) (rest / 10)) (digitOf rest ∷ []) (drop (at + 1) cs),
-                z,
-                stored cs (drop (at + 1) cs) at (at + 1) d refl (omega (arith, c .long, c .within)) refl,
-                e,
-              ) refl;
+                ∙ rw (
+                  le-ltb rest 10 h,
+                  append-assoc (digitsOf (suc k) (rest / 10)) (digitOf rest ∷ []) (drop (at + 1) cs),
+                  z,
+                  stored cs (drop (at + 1) cs) at (at + 1) d refl (omega (arith, c .long, c .within)) refl,
+                  e,
+                ) refl;
           }
 
   -- the first digit, and COL before it
   pub counting-done : (number : ℕ) → n ≡ number + 1 → rest < 10
-      → drop (at - 3) (set (set (set (set cs at d) (at - 1) 0x4C) (at - 2) 0x4F) (at - 3) 0x43) ≡ generatedName number
+      → (length (set (set (set (set cs at d) (at - 1) 0x4C) (at - 2) 0x4F) (at - 3) 0x43) ≡ 8)
+      × (drop (at - 3) (set (set (set (set cs at d) (at - 1) 0x4C) (at - 2) 0x4F) (at - 3) 0x43) ≡ generatedName number)
   unfolding generatedName
   counting-done number f h =
       let l₁ = set cs at d in
@@ -79,8 +80,15 @@ module _ (n : ℕ) (cs : List ℕ) (rest at : ℕ) (c : Counting n cs rest at) (
       let n₁ : length l₁ ≡ 8 = length-set cs at d ∙ c .long in
       let n₂ : length l₂ ≡ 8 = length-set l₁ (at - 1) 0x4C ∙ n₁ in
       let n₃ : length l₃ ≡ 8 = length-set l₂ (at - 2) 0x4F ∙ n₂ in
-      let g : d ∷ drop (at + 1) cs ≡ digitsOf 5 (number + 1) = rw (e, ← f) (sym (c .goes-on ∙ rw (lt-ltb rest 10 h) refl)) in
-      stored l₃ _ (at - 3) (at - 2) 0x43 (omega (arith, c .stands)) (omega (arith, c .within))
-      (stored l₂ _ (at - 2) (at - 1) 0x4F (omega (arith, c .stands)) (omega (arith, c .within))
-      (stored l₁ _ (at - 1) at 0x4C (omega (arith, c .stands)) (omega (arith, c .within))
-      (stored cs _ at (at + 1) d refl (omega (arith, c .long, c .within)) refl ∙ g)))
+      let g : d ∷ drop (at + 1) cs ≡ digitsOf 5 (number + 1) = rw (e, ← f) (sym (c .goes-on ∙ rw (lt-ltb rest 10 h) refl)) in (
+        length-set l₃ (at - 3) 0x43 ∙ n₃,
+        stored l₃ _ (at - 3) (at - 2) 0x43 (omega (arith, c .stands)) (omega (arith, c .within))
+            (stored l₂ _ (at - 2) (at - 1) 0x4F (omega (arith, c .stands)) (omega (arith, c .within))
+            (stored l₁ _ (at - 1) at 0x4C (omega (arith, c .stands)) (omega (arith, c .within))
+            (stored cs _ at (at + 1) d refl (omega (arith, c .long, c .within)) refl ∙ g))),
+      )
+
+-- the characters as the code lends them
+pub lent-name : (cs : List ℕ) (start number : ℕ) → length cs ≡ 8 → drop start cs ≡ generatedName number
+    → take (8 - start) (drop start cs) ≡ generatedName number
+lent-name cs start number h e = take-all (8 - start) (drop start cs) (omega (arith, length-drop start cs)) ∙ e

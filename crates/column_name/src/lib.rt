@@ -75,7 +75,7 @@ pub struct Generated {
 }
 
 fn generated_name(number: u16) -> Generated
-    ensures within { λ r. ⌜ r .start ≤ 8 ⌝ }
+    ensures within { λ r. ⌜ (r .start ≤ 8) × (length (r .characters) ≡ 8) ⌝ }
     ensures ends { λ r. ⌜ drop (r .start) (r .characters) ≡ generatedName number ⌝ }
 {
     let mut characters = [0; 8];
@@ -168,7 +168,7 @@ pub fn name_text(reply: &[u8], column: ColumnMetadata, buffer: &mut [u8]) -> Nam
         let made = generated_name(column.number);
         let characters = made.characters;
         let start = made.start;
-        return write_text(&characters[start..8], 1, buffer);
+        return write_text(&characters[start..], 1, buffer);
     }
     write_text(own_bytes(reply, name), name.alphabet, buffer)
 }

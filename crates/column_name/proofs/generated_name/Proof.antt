@@ -57,11 +57,11 @@ sub-t13 c = omega (arith, c .before .before .loop .inv .stands)
 returns : tie.Need-returns Inv-loop μ-loop
 returns c =
     let l = c .before .before .loop in
-    let a = c .before .before .before .args in (
-      omega (arith, l .inv .within),
-      counting-done _ (l .characters) (l .rest) (l .at) (l .inv) (c .digit2 .result) (c .digit2 .ensures) (a .number) refl
-      (c .before .loop-test .left),
-    )
+    let a = c .before .before .before .args in
+    let d =
+    counting-done _ (l .characters) (l .rest) (l .at) (l .inv) (c .digit2 .result) (c .digit2 .ensures) (a .number) refl
+    (c .before .loop-test .left) in
+    ((omega (arith, l .inv .within), d .0), d .1)
 
 pub generated-name-spec : {M : Type 1} → statement M
 generated-name-spec =
