@@ -43,7 +43,8 @@ fn own_bytes<'a>(reply: &'a [u8], name: Text) -> &'a [u8]
         return &reply[0..0];
     }
     let place = name.place;
-    let end = place + name.length;
+    let length = name.length;
+    let end = place + length;
     &reply[place..end]
 }
 

@@ -13,18 +13,18 @@ returns c =
 
 add-end : tie.Need-add-end
 add-end c =
-    let s = c .before .before .before in
+    let s = c .before .before in
     omega (arith, lies-within (s .args .reply .now) (s .args .name) (s .pre))
 
 part-result-end-2 : tie.Need-part-result-end-2
 part-result-end-2 c =
-    let s = c .before .before .before in
+    let s = c .before .before in
     omega (arith, lies-within (s .args .reply .now) (s .args .name) (s .pre))
 
 returns-2 : tie.Need-returns-2
 returns-2 c =
-    let a = c .before .before .before .before .args in
-    own-some (a .reply .now) (a .name) (c .before .before .if1 .left)
+    let a = c .before .before .before .args in
+    own-some (a .reply .now) (a .name) (c .before .if1 .left)
 
 pub own-bytes-spec : {M : Type 1} → statement M
 own-bytes-spec =

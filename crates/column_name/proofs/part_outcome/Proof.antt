@@ -9,31 +9,31 @@ use Rattle.column_name.proofs.part_outcome.Tie as tie
 returns : tie.Need-returns
 returns c =
     let a = c .before .args in
-    refuses-long (a .reply .now) (a .name) (c .if1 .taken)
+    refuses-long (a .reply .now) (a .name) (omega (arith, c .if1 .taken))
 
 returns-2 : tie.Need-returns-2
 returns-2 c =
     let d = c .before .before in
     let a = d .before .args in
-    refuses-alphabet (a .reply .now) (a .name) (d .if1 .left) (omega arith)
+    refuses-alphabet (a .reply .now) (a .name) (omega (arith, d .if1 .left)) (omega arith)
 
 returns-3 : tie.Need-returns-3
 returns-3 c =
     let d = c .before .before .before .before in
     let a = d .before .args in
-    refuses-outside (a .reply .now) (a .name) (d .if1 .left) (omega arith) (omega arith)
+    refuses-outside (a .reply .now) (a .name) (omega (arith, d .if1 .left)) (omega arith) (omega arith)
 
 returns-4 : tie.Need-returns-4
 returns-4 c =
     let d = c .before .before .before .before .before .before .before in
     let a = d .before .args in
-    refuses-outside (a .reply .now) (a .name) (d .if1 .left) (omega arith) (omega arith)
+    refuses-outside (a .reply .now) (a .name) (omega (arith, d .if1 .left)) (omega arith) (omega arith)
 
 returns-5 : tie.Need-returns-5
 returns-5 c =
     let d = c .before .before .before .before .before .before .before in
     let a = d .before .args in
-    refuses-none (a .reply .now) (a .name) (d .if1 .left) (omega arith) (omega arith)
+    refuses-none (a .reply .now) (a .name) (omega (arith, d .if1 .left)) (omega arith) (omega arith)
 
 pub part-outcome-spec : {M : Type 1} → statement M
 part-outcome-spec = tie.close (tie.spec returns returns-2 returns-3 (search needs) returns-4 returns-5)

@@ -3,6 +3,7 @@
 use mathlib.Core.Path.{sym, ap, _∙_}
 use mathlib.Core.List.{List}
 use Prim.Native.Nat.{ℕ}
+use native.Mathlib.Omega.{arith}
 use borrow.Author.Needs.{needs}
 use Rattle.search.specs.Search.{over}
 use Rattle.codepage.specs.Page.{page037}
@@ -16,7 +17,7 @@ returns : tie.Need-returns
 returns c =
     let a = c .before .before .before .before .args in
     writes-short (chars page037 (a .alphabet) (a .bytes .now)) (a .buffer .now) _ (sym (chars-length page037 (a .alphabet) (a .bytes .now)))
-    (c .before .if1 .taken)
+    (omega (arith, c .before .if1 .taken))
     (c .refused .result)
     (c .refused .ensures)
 
@@ -26,7 +27,7 @@ returns-2 c =
     let t = w .before .before in
     let a = t .before .before .before .before .args in
     writes-all (chars page037 (a .alphabet) (a .bytes .now)) (a .buffer .now) _ (sym (chars-length page037 (a .alphabet) (a .bytes .now)))
-    (t .before .if1 .left)
+    (omega (arith, t .before .if1 .left))
     (w .write-page037 .last .1 .0)
     (w .write-page037 .ensures ∙ ap (λ (k : ℕ). over (chars page037 k (a .bytes .now)) (a .buffer .now)) (sym (t .if2 .taken)))
 
@@ -36,7 +37,7 @@ returns-3 c =
     let t = w .before .before in
     let a = t .before .before .before .before .args in
     writes-all (chars page037 (a .alphabet) (a .bytes .now)) (a .buffer .now) _ (sym (chars-length page037 (a .alphabet) (a .bytes .now)))
-    (t .before .if1 .left)
+    (omega (arith, t .before .if1 .left))
     (w .copy-bytes .last .1 .0)
     (w .copy-bytes .ensures
     ∙ ap (λ (l : List ℕ). over l (a .buffer .now)) (sym (chars-other page037 (a .alphabet) (a .bytes .now) (t .if2 .left))))
