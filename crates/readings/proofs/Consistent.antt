@@ -1,11 +1,9 @@
 -- What every reading gives is consistent: its columns are made by `columnWith` under the walk's number, whatever their descriptors say.
 -- Assumes nothing.
-use mathlib.Core.Path.{_≡_, refl, subst}
+use mathlib.Core.Path.{refl, subst}
 use mathlib.Core.Bool.{Bool, true, false}
 use mathlib.Core.List.{List, [], _∷_}
-use Prim.Native.Nat.{ℕ, zero, suc, _+_}
-use lib.Dec.{ltb, eqb}
-use lib.ListN.{length}
+use Prim.Native.Nat.{ℕ, zero, suc}
 use Rattle.search.specs.Search.{pick}
 use Rattle.search.specs.Walks.{Walk, chain}
 use Rattle.codepage.specs.Page.{Page}
@@ -15,7 +13,7 @@ use Rattle.types.proofs.Laws.{code-of-type}
 use Rattle.column.specs.declared.Described.{Described}
 use Rattle.column.specs.Column.{columnWith}
 use Rattle.descriptor.specs.Descriptor.{describedAt, columnAt}
-use Rattle.standard.specs.Reading.{countAt, standard}
+use Rattle.standard.specs.Reading.{standard}
 use Rattle.standard.specs.Run.{standardWalk}
 use Rattle.compact.specs.declared.Ends.{Ends}
 use Rattle.compact.specs.Compact.{compactAt, compactColumn, compactWalk}

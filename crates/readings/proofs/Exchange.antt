@@ -1,10 +1,10 @@
 -- An exchange of one column's description changes the cut exactly where that column's own cut changes.
 -- Assumes nothing.
-use mathlib.Core.Path.{_≡_, refl, sym, ap, _∙_}
+use mathlib.Core.Path.{_≡_, refl, ap, _∙_}
 use mathlib.Core.Bool.{true, and-true}
 use mathlib.Core.List.{List, [], _∷_, map}
 use mathlib.Core.Option.{some}
-use Prim.Native.Nat.{ℕ, zero, suc, _≤_, _<_}
+use Prim.Native.Nat.{ℕ, zero, suc, _≤_}
 use native.Mathlib.Omega.{arith}
 use lib.ListN.{length, getElem?}
 use Rattle.search.specs.Search.{alike}
@@ -17,6 +17,7 @@ use Rattle.column.specs.Moved.{moveColumn}
 use Rattle.descriptor.specs.Descriptor.{Complete}
 use Rattle.standard.specs.Reading.{standard}
 use Rattle.standard.specs.Exchange.{withColumn, exchange}
+use Rattle.standard.proofs.Kept.{at-below}
 use Rattle.columns.specs.Cut.{sameColumn, sameCut, cutAnswer}
 use Rattle.columns.proofs.Same.{same-whole, column-refl}
 use Rattle.sqldard.specs.Description.{Description, description}
@@ -24,7 +25,7 @@ use Rattle.sqldard.specs.Exchanged.{newColumn, laterColumn, Exchangeable, ReadE
 use Rattle.sqldard.proofs.Exchange.{reading-exchanged, standard-wins, exchange-theorem}
 use Rattle.readings.specs.Listed.{Listed}
 use Rattle.readings.specs.Cut.{CutAfter}
-use Rattle.readings.proofs.Lists.{standard-listed, reading-listed, same-cut-same-row, readings-compared}
+use Rattle.readings.proofs.Lists.{standard-listed, reading-listed, listed-compared, same-cut-same-row}
 
 -- ---- of `exchange`: x stands in c's place, and f keeps each column's cut
 
@@ -33,15 +34,11 @@ module _ (f : ColumnMetadata → ColumnMetadata) (keeps : (y : ColumnMetadata) �
   map-cut [] = refl
   map-cut (y ∷ ys) = rw (keeps y) (map-cut ys)
 
-  at-cut : (k : ℕ) (x c : ColumnMetadata) (l : List ColumnMetadata) → getElem? l k ≡ some c → alike sameColumn l (exchange k x f l) ≡ sameColumn c x
-  unfolding exchange
-  at-cut k x c [] e = absurd (let z : _≡_ {A = ℕ} 0 1 = cc in omega arith)
-  at-cut zero x c (y ∷ ys) e = let z : y ≡ c = cc e in rw (map-cut ys, z) (and-true (sameColumn c x))
-  at-cut (suc k) x c (y ∷ ys) e = rw (column-refl y) (at-cut k x c ys e)
-
   pub exchange-cut : (k : ℕ) (x c : ColumnMetadata) (l : List ColumnMetadata) → getElem? l k ≡ some c → sameCut l (exchange k x f l) ≡ sameColumn c x
-  unfolding sameCut
-  exchange-cut k x c l e = at-cut k x c l e
+  unfolding sameCut exchange
+  exchange-cut k x c [] e = absurd (let z : _≡_ {A = ℕ} 0 1 = cc in omega arith)
+  exchange-cut zero x c (y ∷ ys) e = let z : y ≡ c = cc e in rw (map-cut ys, z) (and-true (sameColumn c x))
+  exchange-cut (suc k) x c (y ∷ ys) e = rw (column-refl y) (exchange-cut k x c ys e)
 
 -- only places of texts move
 moved-same : (a b : ℕ) (c : ColumnMetadata) → sameColumn c (moveColumn a b c) ≡ true
@@ -56,12 +53,13 @@ module _ (page : Page) (order : ByteOrder) (s : List ℕ) (k : ℕ) (d : List �
       let t : sameCut (standard page order s) l ≡ sameColumn c (newColumn page order s k d) = ap (sameCut (standard page order s)) (r .columns) ∙ exchange-cut (laterColumn order s k d) (moved-same _ _) k (newColumn page order s k d) c (standard page order s) e in
       record {
         cut = t;
-        row = λ x. same-cut-same-row (standard page order s) l (standard-listed page order s) n .rows (t ∙ x);
+        row = λ x. listed-compared (standard page order s) l (standard-listed page order s) n .rows (t ∙ x);
       }
 
-  pub reading-same-cut : k < length (standard page order s) → Complete order d → CutAfter page order s k d c (standard page order (withColumn order s k d))
-  reading-same-cut h full =
-      cut-after _ (reading-exchanged page order s k d h full _ refl) (standard-listed page order (withColumn order s k d))
+  pub reading-same-cut : Complete order d → CutAfter page order s k d c (standard page order (withColumn order s k d))
+  reading-same-cut full =
+      cut-after _ (reading-exchanged page order s k d (at-below (standard page order s) k c e) full _ refl)
+      (standard-listed page order (withColumn order s k d))
 
 -- ---- the entry
 
@@ -77,5 +75,5 @@ module _ (page : Page) (room : ℕ) (s : List ℕ) (k : ℕ) (d : List ℕ) (x :
       ≡ sameColumn c (newColumn page BigEndian s k d)
   exchange-answer h n =
       let old = ap (λ (r : Description). r .columns) (standard-wins page room s n h (x .enough)) in
-      readings-compared page page room room s (withColumn BigEndian s k d) .answers
+      same-cut-same-row page page room room s (withColumn BigEndian s k d) .answers
       ∙ ap (λ (l : List ColumnMetadata). sameCut l (description page room (withColumn BigEndian s k d) .columns)) old ∙ exchange-same-cut .cut

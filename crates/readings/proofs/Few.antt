@@ -3,7 +3,7 @@
 use mathlib.Core.Path.{_≡_, refl, subst}
 use mathlib.Core.Bool.{Bool, true, false}
 use mathlib.Core.List.{List, [], _∷_}
-use Prim.Native.Nat.{ℕ, zero, suc, _+_, _-_, _*_, _≤_, _<_}
+use Prim.Native.Nat.{ℕ, zero, suc, _+_, _-_, _*_, _≤_}
 use native.Mathlib.Nat.{le-refl, le-trans}
 use native.Mathlib.Omega.{arith}
 use lib.Dec.{ltb, leb, eqb}
@@ -18,10 +18,9 @@ use Rattle.field.specs.declared.ByteOrder.{ByteOrder}
 use Rattle.field.specs.declared.ByteOrder.the-variants.{LittleEndian}
 use Rattle.field.specs.Numbers.{number}
 use Rattle.types.specs.declared.ColumnMetadata.{ColumnMetadata}
-use Rattle.standard.specs.Reading.{countAt, countIn, gives, standard}
+use Rattle.standard.specs.Reading.{countIn, gives, standard}
 use Rattle.standard.specs.Run.{standardWalk}
 use Rattle.standard.proofs.Exchange.{gives-in}
-use Rattle.compact_table.specs.declared.Table.{Table}
 use Rattle.compact_table.specs.Table.{nextCompact, tableHere, tableAt, noTable, tableOf}
 use Rattle.compact_table.proofs.Laws.{count-small}
 use Rattle.compact.specs.declared.Ends.{Ends}

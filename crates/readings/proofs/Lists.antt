@@ -20,12 +20,12 @@ use Rattle.standard.specs.Reading.{countAt, standard}
 use Rattle.scan.specs.Scan.{scanColumns}
 use Rattle.plan.specs.Choice.{Reading, reads, refuses, compactColumns, lastColumns, lastReading, hasSome, four, choice}
 use Rattle.columns.specs.Consistent.{ConsistentFrom, Consistent}
-use Rattle.columns.specs.Cut.{mostColumns, sameCut}
-use Rattle.columns.specs.Row.{largeRefusal, rowRefusal}
+use Rattle.columns.specs.Cut.{mostColumns}
+use Rattle.columns.specs.Row.{rowRefusal}
 use Rattle.columns.proofs.Same.{cut-answered}
 use Rattle.columns.proofs.Rows.{same-cut-rows}
 use Rattle.sqldard.specs.Description.{refusedWith, statusOf, answerBy, description, withCodePoint}
-use Rattle.readings.specs.Listed.{Listed, SameRow, Compared}
+use Rattle.readings.specs.Listed.{Listed, Compared}
 use Rattle.readings.proofs.Consistent.{standard-consistent, compact-consistent, scan-consistent, last-consistent}
 use Rattle.readings.proofs.Few.{standard-few, compact-few, scan-few, last-few}
 
@@ -115,7 +115,7 @@ reading-few page room s =
 -- what is consistent and few is listed
 listed : (l : List ColumnMetadata) → Consistent l → length l ≤ mostColumns → Listed l
 unfolding rowRefusal
-listed l c h = record { consistent = c; few = h; row = rw (le-ltb mostColumns (length l) h) refl }
+listed l c h = record { consistent = c; few = omega (arith, h); row = rw (le-ltb mostColumns (length l) h) refl }
 
 pub standard-listed : (page : Page) (order : ByteOrder) (s : List ℕ) → Listed (standard page order s)
 standard-listed page order s = listed _ (standard-consistent page s order) (omega (arith, standard-few page s order))
@@ -128,9 +128,9 @@ code-point-listed page room s point = code-point-all Listed (listed [] none-cons
 
 -- ---- two lists
 
-pub same-cut-same-row : (a b : List ColumnMetadata) → Listed a → Listed b → Compared a b
-same-cut-same-row a b p q =
-    let t = cut-answered a b (p .few) (q .few) in
+pub listed-compared : (a b : List ColumnMetadata) → Listed a → Listed b → Compared a b
+listed-compared a b p q =
+    let t = cut-answered a b (omega (arith, p .few)) (omega (arith, q .few)) in
     record {
       accepts = t .0;
       answers = t .1;
@@ -138,6 +138,6 @@ same-cut-same-row a b p q =
     }
 
 -- of any two replies, whatever the pages and the rooms
-pub readings-compared : (page page′ : Page) (room room′ : ℕ) (s s′ : List ℕ)
+pub same-cut-same-row : (page page′ : Page) (room room′ : ℕ) (s s′ : List ℕ)
     → Compared (description page room s .columns) (description page′ room′ s′ .columns)
-readings-compared page page′ room room′ s s′ = same-cut-same-row _ _ (reading-listed page room s) (reading-listed page′ room′ s′)
+same-cut-same-row page page′ room room′ s s′ = listed-compared _ _ (reading-listed page room s) (reading-listed page′ room′ s′)
