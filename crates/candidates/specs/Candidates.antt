@@ -32,7 +32,11 @@ isCandidate s p =
 
 -- a repeat of the last one kept, less than 8 bytes on (01, Name scan)
 unfoldable pub isNearRepeat : List ℕ → Text → Text → Bool
-isNearRepeat s last t = sameText s t last && ltb (t .place - last .place) 8
+isNearRepeat s last t = ltb (t .place) (last .place + 8) && sameText s t last
+
+-- the candidate whose length stands at p, an empty text where there is none (01, Name scan)
+unfoldable pub candidateAt : List ℕ → ℕ → Text
+candidateAt s p = pick (isCandidate s p) (stringTextAt s p) emptyText
 
 -- a candidate at p that is kept (01, Name scan: is skipped)
 unfoldable pub isKept : List ℕ → Text → ℕ → Bool

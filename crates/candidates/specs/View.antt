@@ -31,9 +31,13 @@ shifted s v =
     let found = nextCandidate s (v .fifth) (v .next) in
     record { first = v .second; second = v .third; third = v .fourth; fourth = v .fifth; fifth = found .text; next = found .next }
 
--- the candidates from a view on: the five in view and those after them (01, Forms that must change: five in view)
+-- the candidates after the first one in view: the other four, and those after them (01, Forms that must change: five in view)
+unfoldable pub behind : List ℕ → View → List Text
+behind s v = shown (v .second) (shown (v .third) (shown (v .fourth) (shown (v .fifth) (candidatesFrom s (v .fifth) (v .next)))))
+
+-- the candidates from a view on (01, Forms that must change: five in view)
 unfoldable pub inView : List ℕ → View → List Text
-inView s v = shown (v .first) (shown (v .second) (shown (v .third) (shown (v .fourth) (shown (v .fifth) (candidatesFrom s (v .fifth) (v .next))))))
+inView s v = shown (v .first) (behind s v)
 
 -- a text's bytes lie in the reply (01, Answers: place, length)
 abbrev pub Inside : List ℕ → Text → Type 0

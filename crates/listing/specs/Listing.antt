@@ -1,5 +1,5 @@
 -- Which candidates are names: two rules, each over the candidates in order (01, Name scan).
-use mathlib.Core.Bool.{Bool, not, _&&_}
+use mathlib.Core.Bool.{Bool, not, _&&_, _||_}
 use mathlib.Core.List.{List, [], _∷_}
 use Prim.Native.Nat.{ℕ, _-_}
 use lib.Dec.{eqb, leb}
@@ -8,6 +8,7 @@ use Rattle.search.specs.Search.{pick}
 use Rattle.text.specs.declared.Text.{Text}
 use Rattle.text.specs.Text.{emptyText}
 use Rattle.candidates.specs.Candidates.{sameText, candidates}
+use Rattle.candidates.specs.View.{Inside}
 use Rattle.listing.specs.declared.Rule.{Rule}
 use Rattle.listing.specs.declared.Rule.the-variants.{Returning, BeforeFirst}
 use Rattle.listing.specs.declared.Listing.{Listing}
@@ -20,7 +21,7 @@ later l k = getD l k emptyText
 unfoldable pub returns : List ℕ → Text → List Text → Bool
 returns s x l =
     leb 4 (length l)
-    && (sameText s x (later l 3) && (not (sameText s x (later l 0)) && (not (sameText s x (later l 1)) && not (sameText s x (later l 2)))))
+    && (sameText s x (later l 3) && not (sameText s x (later l 0) || sameText s x (later l 1) || sameText s x (later l 2)))
 
 -- x is unlike the first candidate, and just before a repeat of it (01, Name scan)
 unfoldable pub isBefore : List ℕ → Text → Text → List Text → Bool
@@ -48,3 +49,8 @@ unlisted first = record { first = first; skip = 0; last = emptyText }
 -- all that a rule lists of a reply (01, Name scan)
 unfoldable pub listedBy : List ℕ → Rule → List Text
 listedBy s rule = listed s rule (unlisted (later (candidates s) 0)) (candidates s)
+
+-- what a rule knows lies in the reply (01, Answers: place, length)
+pub record InsideListing (s : List ℕ) (z : Listing) : Type 0 where
+  pub first : Inside s (z .first)
+  pub last : Inside s (z .last)

@@ -34,7 +34,7 @@ spells-037 = record { c = tt; o = tt; l = tt; digits = tt }
 
 -- ---- characters by bytes
 
-charOf-page : (page : Page) (a b : ℕ) → a ≡ page .alphabet → charIn page b ≡ charOf page a b
+pub charOf-page : (page : Page) (a b : ℕ) → a ≡ page .alphabet → charIn page b ≡ charOf page a b
 unfolding charOf
 charOf-page page a b e = let t : eqb a (page .alphabet) ≡ true = eq-eqb a (page .alphabet) e in rw t refl
 
@@ -84,11 +84,11 @@ module _ (page : Page) (h : SpellsColAsIn037 (page .table)) (a : ℕ) (e : a ≡
 
 -- ---- the ways out of `is_generated`
 
-each-map : (g : ℕ → Bool) (f : ℕ → ℕ) (l : List ℕ) → each g (map f l) ≡ each (λ x. g (f x)) l
+pub each-map : (g : ℕ → Bool) (f : ℕ → ℕ) (l : List ℕ) → each g (map f l) ≡ each (λ x. g (f x)) l
 each-map g f [] = refl
 each-map g f (x ∷ xs) = ap (λ (b : Bool). g (f x) && b) (each-map g f xs)
 
-drop-map : (f : ℕ → ℕ) (n : ℕ) (l : List ℕ) → drop n (map f l) ≡ map f (drop n l)
+pub drop-map : (f : ℕ → ℕ) (n : ℕ) (l : List ℕ) → drop n (map f l) ≡ map f (drop n l)
 drop-map f zero l = refl
 drop-map f (suc n) [] = refl
 drop-map f (suc n) (x ∷ xs) = drop-map f n xs

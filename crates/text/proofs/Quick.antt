@@ -161,14 +161,14 @@ module _ (page : Page) (r : T (rearranged (page .table))) (h : T (blanksAsIn037 
         let w : getD bytes f 0 < 0x80 = ltb→lt (getD bytes f 0) 0x80 (each-at (λ b. ltb b 0x80) bytes 0 (subst T (sym a) tt) f (omega arith)) in
         omega (arith, starts-c bytes f refl g (omega arith)))
 
-    ascii-chars : isAscii bytes ≡ true → textChars page s (textOf page s p c) ≡ chars page 1 bytes
+    pub ascii-chars : isAscii bytes ≡ true → textChars page s (textOf page s p c) ≡ chars page 1 bytes
     ascii-chars a = go (eqb c 0) refl
       where
         go : (z : Bool) → eqb c 0 ≡ z → textChars page s (textOf page s p c) ≡ chars page 1 bytes
         go true u = rw (← decode-none page r h s p c l (eqb-true c 0 u), eqb-true c 0 u) refl
         go false u = rw (← decode-ascii page r h s p c l (eqb-false c 0 u) (rw (lent s p c) a)) refl
 
-    page-chars : isAscii bytes ≡ false → textChars page s (textOf page s p c) ≡ chars page (page .alphabet) (trimmed page bytes)
+    pub page-chars : isAscii bytes ≡ false → textChars page s (textOf page s p c) ≡ chars page (page .alphabet) (trimmed page bytes)
     unfolding trimmed
     page-chars a =
         let f = leading (isBlankIn page) bytes in

@@ -1,0 +1,49 @@
+-- Characters told by their bytes: page 037 passes the test for name characters, and what the test gives of any page that passes it.
+-- Assumes nothing.
+use Prim.Native.Nat.{ℕ, _<_}
+use mathlib.Core.Path.{_≡_, refl, sym, ap, _∙_}
+use mathlib.Core.List.{List}
+use mathlib.Core.Bool.{Bool, _&&_, _||_}
+use lib.ListN.{getD}
+use lib.Dec.{T, eqb, leb}
+use Rattle.search.specs.Search.{below}
+use Rattle.search.proofs.Tests.{agree, agree-same, below-at}
+use Rattle.codepage.specs.Page.{Page, table037, charIn}
+use Rattle.codepage.specs.Blank.{isBlank, isBlankIn}
+use Rattle.text.specs.Chars.{isNameChar}
+use Rattle.text.proofs.Generated.{charOf-page, charOf-other}
+use Rattle.identifier.specs.Identifier.{isBlankOf, isNameOf}
+
+-- the bytes whose characters are name characters, in page 037
+abbrev pub isNameByte : ℕ → Bool
+isNameByte b =
+    (leb 0xC1 b && leb b 0xC9) || (leb 0xD1 b && leb b 0xD9) || (leb 0xE2 b && leb b 0xE9) || (leb 0x81 b && leb b 0x89)
+    || (leb 0x91 b && leb b 0x99) || (leb 0xA2 b && leb b 0xA9) || (leb 0xF0 b && leb b 0xF9) || eqb b 0x6D || eqb b 0x5B || eqb b 0x7B
+    || eqb b 0x7C
+
+-- the table has its name characters at those bytes and nowhere else
+unfoldable pub namesAsIn037 : List ℕ → Bool
+namesAsIn037 t = below 256 (λ b. agree (isNameChar (getD t b 0)) (isNameByte b))
+
+-- page 037 does: computed
+pub names-037 : T (namesAsIn037 table037)
+unfolding namesAsIn037 table037
+names-037 = tt
+
+module _ (page : Page) (a b : ℕ) where
+  pub name-page : T (namesAsIn037 (page .table)) → a ≡ page .alphabet → b < 256 → isNameByte b ≡ isNameOf page a b
+  unfolding namesAsIn037
+  name-page h e m =
+      sym (agree-same (isNameChar (charIn page b)) (isNameByte b)
+      (below-at 256 (λ k. agree (isNameChar (getD (page .table) k 0)) (isNameByte k)) h b m))
+      ∙ ap isNameChar (charOf-page page a b e)
+
+  pub name-other : (r : Bool) → r ≡ isNameChar b → (a ≡ page .alphabet → ⊥) → r ≡ isNameOf page a b
+  name-other r e n = e ∙ ap isNameChar (charOf-other page a b n)
+
+  pub blank-page : (r : Bool) → r ≡ isBlankIn page b → a ≡ page .alphabet → r ≡ isBlankOf page a b
+  unfolding isBlankIn
+  blank-page r e u = e ∙ ap isBlank (charOf-page page a b u)
+
+  pub blank-other : (a ≡ page .alphabet → ⊥) → isBlank b ≡ isBlankOf page a b
+  blank-other n = ap isBlank (charOf-other page a b n)

@@ -1,0 +1,4 @@
+pub mod Trims
+pub mod Bytes
+pub mod Identifiers
+pub mod Cases

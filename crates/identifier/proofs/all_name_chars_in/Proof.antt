@@ -1,0 +1,53 @@
+-- The loop's invariant: the answer is that of the bytes from i on.
+-- Assumes nothing.
+use Prim.Native.Nat.{_≤_, _-_}
+use mathlib.Core.Path.{_≡_, refl, sym, _∙_}
+use native.Mathlib.Omega.{arith}
+use lib.ListN.{length, drop}
+use borrow.Author.Needs.{needs}
+use borrow.Author.Tests.{not-true, not-false}
+use Rattle.search.specs.Search.{each}
+use Rattle.search.proofs.Each.{each-more, each-fails, each-done}
+use Rattle.codepage.specs.Page.{page037}
+use Rattle.identifier.specs.Identifier.{isNameOf}
+use Rattle.identifier.proofs.all_name_chars_in.Statement.{statement}
+use Rattle.identifier.proofs.all_name_chars_in.Tie as tie
+
+abbrev Inv-loop : tie.InvT-loop
+Inv-loop bytes alphabet i₀ i = (i ≤ length bytes) × (each (isNameOf page037 alphabet) bytes ≡ each (isNameOf page037 alphabet) (drop i bytes))
+
+abbrev μ-loop : tie.MeasureT-loop
+μ-loop bytes alphabet i₀ i = length bytes - i
+
+loop-holds : tie.Need-loop-holds Inv-loop μ-loop
+loop-holds c = (omega arith, refl)
+
+returns : tie.Need-returns Inv-loop μ-loop
+returns c =
+    each-fails (isNameOf page037 (c .before .before .before .before .before .before .args .alphabet)) _ 0 _ _ (c .before .before .before .before .loop .inv .1) (c .before .before .before .loop-test .taken)
+    (sym (c .before .is-name-char-in .ensures) ∙ not-true _ (c .if1 .taken))
+
+loop-again : tie.Need-loop-again Inv-loop μ-loop
+loop-again c = (
+  omega arith,
+  each-more (isNameOf page037 (c .before .before .before .before .before .before .args .alphabet)) _ 0 _ _ (c .before .before .before .before .loop .inv .1) (c .before .before .before .loop-test .taken)
+      (sym (c .before .is-name-char-in .ensures) ∙ not-false _ (c .if1 .left)),
+)
+
+returns-2 : tie.Need-returns-2 Inv-loop μ-loop
+returns-2 c = each-done (isNameOf page037 (c .before .before .before .args .alphabet)) _ 0 _ _ (c .before .loop .inv .1) (c .loop-test .left)
+
+pub all-name-chars-in-spec : {M : Type 1} → statement M
+all-name-chars-in-spec =
+    tie.close
+    (tie.spec
+    Inv-loop
+    μ-loop
+    loop-holds
+    (search needs)
+    (search needs)
+    returns
+    (search needs)
+    (search needs)
+    loop-again
+    returns-2)
