@@ -77,7 +77,7 @@ fn name_text(reply: &[u8], name: StringRead) -> Text
     string_text(reply, name)
 }
 
-fn order_number(order: ByteOrder) -> u64
+pub fn order_number(order: ByteOrder) -> u64
     ensures { λ r. ⌜ r ≡ orderNumber order ⌝ }
 {
     match order {

@@ -1,3 +1,4 @@
 pub mod Blank
 pub mod Cut
 pub mod Row
+pub mod Consistent
