@@ -183,3 +183,10 @@ pub fn next_view(reply: &[u8], view: View) -> View
         next: found.next,
     }
 }
+
+// Whether no candidate is in view.
+pub fn is_over(view: View) -> bool
+    ensures { λ r. ⌜ r ≡ eqb (view .first .length) 0 ⌝ }
+{
+    view.first.length == 0
+}

@@ -3,7 +3,7 @@
 use Prim.Native.Nat.{ℕ, _+_, _-_, _≤_, _<_}
 use native.Mathlib.Omega.{arith}
 use mathlib.Core.Path.{_≡_, refl, sym, ap, _∙_}
-use mathlib.Core.List.{List, [], _∷_, map}
+use mathlib.Core.List.{List, [], _∷_}
 use mathlib.Core.Bool.{Bool, true, false, not, _||_, true≢false}
 use lib.ListN.{length, take, drop, length-map}
 use lib.Dec.{T, leb}
@@ -14,7 +14,7 @@ use Rattle.codepage.specs.Rearranged.{rearranged}
 use Rattle.codepage.specs.Blank.{isBlank, isBlankIn}
 use Rattle.codepage.proofs.Pages.{blanksAsIn037}
 use Rattle.text.specs.Chars.{isAscii, isNameChar, charOf, chars}
-use Rattle.text.specs.Text.{leading, kept, trimmedOf, trimmed, placed, textOn, textOf}
+use Rattle.text.specs.Text.{leading, kept, trimmedOf, trimmed, placed, textOn}
 use Rattle.text.specs.Generated.{isGenerated}
 use Rattle.text.proofs.Decode.{lent}
 use Rattle.text.proofs.Generated.{SpellsColAsIn037, charOf-page, charOf-other, each-map}

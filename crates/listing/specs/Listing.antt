@@ -7,11 +7,13 @@ use lib.ListN.{length, getD}
 use Rattle.search.specs.Search.{pick}
 use Rattle.text.specs.declared.Text.{Text}
 use Rattle.text.specs.Text.{emptyText}
+use Rattle.candidates.specs.declared.View.{View}
 use Rattle.candidates.specs.Candidates.{sameText, candidates}
-use Rattle.candidates.specs.View.{Inside}
+use Rattle.candidates.specs.View.{inView, Inside, Within}
 use Rattle.listing.specs.declared.Rule.{Rule}
 use Rattle.listing.specs.declared.Rule.the-variants.{Returning, BeforeFirst}
 use Rattle.listing.specs.declared.Listing.{Listing}
+use Rattle.listing.specs.declared.Cursor.{Cursor}
 
 -- candidate k of those after one; an empty text where there are fewer (01, Name scan)
 abbrev pub later : List Text → ℕ → Text
@@ -54,3 +56,16 @@ listedBy s rule = listed s rule (unlisted (later (candidates s) 0)) (candidates 
 pub record InsideListing (s : List ℕ) (z : Listing) : Type 0 where
   pub first : Inside s (z .first)
   pub last : Inside s (z .last)
+
+-- the names that a rule lists from a cursor on (01, Name scan)
+unfoldable pub toCome : List ℕ → Rule → Cursor → List Text
+toCome s rule at = listed s rule (at .listing) (inView s (at .view))
+
+-- the cursor before the first name, at the view of the first candidates (01, Name scan)
+abbrev pub cursorAt : View → Cursor
+cursorAt v = record { text = emptyText; listing = unlisted (v .first); view = v }
+
+-- what holds of a cursor: all that it knows lies in the reply (01, Answers: place, length)
+pub record WithinCursor (s : List ℕ) (at : Cursor) : Type 0 where
+  pub listing : InsideListing s (at .listing)
+  pub view : Within s (at .view)

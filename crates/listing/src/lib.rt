@@ -1,8 +1,12 @@
 // Which candidates are names, by either of two rules. Each rule goes through the candidates once, and lists some of them.
+ghost use mathlib.Core.List.{List};
 ghost use mathlib.Core.Path.{_≡_};
-ghost use Rattle.candidates.specs.View.{Inside, behind, Within};
+ghost use Prim.Native.Nat.{ℕ};
+ghost use lib.ListN.{length};
+ghost use Rattle.candidates.specs.Candidates.{candidates};
+ghost use Rattle.candidates.specs.View.{shown, behind, inView, Inside, Within};
 ghost use Rattle.listing.specs.declared.Rule.the-variants.{Returning, BeforeFirst};
-ghost use Rattle.listing.specs.Listing.{returns, isBefore, isListed, after, unlisted, InsideListing};
+ghost use Rattle.listing.specs.Listing.{returns, isBefore, isListed, after, unlisted, listedBy, InsideListing, toCome, cursorAt, WithinCursor};
 use candidates::View;
 use text::Text;
 
@@ -124,4 +128,128 @@ fn behind_candidate(listing: Listing, text: Text, listed: bool) -> Listing
         listing.skip - 1
     };
     Listing { first, skip, last }
+}
+
+// Whether the first candidate in view is listed, and what the rule knows behind it.
+pub struct Step {
+    pub listed: bool,
+    pub listing: Listing,
+}
+
+fn list_step(reply: &[u8], rule: Rule, listing: Listing, view: View) -> Step
+    requires { ⌜ InsideListing (now reply) listing ⌝ }
+    requires { ⌜ Within (now reply) view ⌝ }
+    ensures { λ r. ⌜ (r .listed ≡ isListed (now (reply .entry)) rule listing (view .first) (behind (now (reply .entry)) view))
+        × ((r .listing ≡ after listing (view .first) (r .listed)) × (InsideListing (now (reply .entry)) (r .listing))) ⌝ }
+{
+    let text = view.first;
+    let listed = is_listed(reply, rule, listing, view);
+    Step {
+        listed,
+        listing: behind_candidate(listing, text, listed),
+    }
+}
+
+// How many names each rule lists, and the view of the first candidates, from which they are listed again.
+pub struct Counts {
+    pub view: View,
+    pub returning: usize,
+    pub before_first: usize,
+}
+
+// Both rules in one pass.
+pub fn count_names(reply: &[u8]) -> Counts
+    ensures { λ r. ⌜ ((r .returning ≡ length (listedBy (now (reply .entry)) Returning))
+        × (r .«before_first» ≡ length (listedBy (now (reply .entry)) BeforeFirst)))
+        × ((inView (now (reply .entry)) (r .view) ≡ candidates (now (reply .entry))) × (Within (now (reply .entry)) (r .view))) ⌝ }
+{
+    let start = candidates::first_view(reply);
+    let first = start.first;
+    let mut view = start;
+    let mut of_returning = no_listing(first);
+    let mut of_before = no_listing(first);
+    let mut returning = 0;
+    let mut before_first = 0;
+    while !candidates::is_over(view) {
+        let one = list_step(reply, Rule::Returning, of_returning, view);
+        let two = list_step(reply, Rule::BeforeFirst, of_before, view);
+        returning += one.listed as usize;
+        before_first += two.listed as usize;
+        of_returning = one.listing;
+        of_before = two.listing;
+        view = candidates::next_view(reply, view);
+    }
+    Counts {
+        view: start,
+        returning,
+        before_first,
+    }
+}
+
+// Where a list of names has got to: the last name found, an empty text if none, and what the rule knows behind it.
+pub struct Cursor {
+    pub text: Text,
+    pub listing: Listing,
+    pub view: View,
+}
+
+// The next name that the rule lists.
+pub fn next_listed(reply: &[u8], rule: Rule, from: Cursor) -> Cursor
+    requires { ⌜ WithinCursor (now reply) from ⌝ }
+    ensures { λ r. ⌜ (toCome (now (reply .entry)) rule from ≡ shown (r .text) (toCome (now (reply .entry)) rule r)) × (WithinCursor (now (reply .entry)) r) ⌝ }
+{
+    let mut listing = from.listing;
+    let mut view = from.view;
+    while !candidates::is_over(view) {
+        let text = view.first;
+        let step = list_step(reply, rule, listing, view);
+        listing = step.listing;
+        view = candidates::next_view(reply, view);
+        if step.listed {
+            return Cursor {
+                text,
+                listing,
+                view,
+            };
+        }
+    }
+    Cursor {
+        text: candidates::no_text(),
+        listing,
+        view,
+    }
+}
+
+// Before the first name.
+pub fn first_cursor(view: View) -> Cursor
+    ensures { λ r. ⌜ r ≡ cursorAt view ⌝ }
+{
+    let text = candidates::no_text();
+    let listing = no_listing(view.first);
+    Cursor {
+        text,
+        listing,
+        view,
+    }
+}
+
+// For who lists no names.
+pub fn no_cursor() -> Cursor
+    ensures { λ r. ⌜ ((s : List ℕ) → WithinCursor s r) ⌝ }
+{
+    let none = candidates::no_text();
+    first_cursor(View {
+        first: none,
+        second: none,
+        third: none,
+        fourth: none,
+        fifth: none,
+        next: 0,
+    })
+}
+
+pub fn text_of(cursor: Cursor) -> Text
+    ensures { λ r. ⌜ r ≡ cursor .text ⌝ }
+{
+    cursor.text
 }

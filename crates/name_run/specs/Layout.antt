@@ -38,9 +38,11 @@ isNamedLayout page s p e = hasOptions s p && (leb e (length s) && isNameString p
 abbrev pub layoutEnd : List ℕ → ℕ → ℕ
 layoutEnd s p = optEnd lenient s (p + 17)
 
--- the name of the layout at p and what is past it; where it has none, no string, and next is 0 (01, Name scan)
+-- no layout with a name: no string, and next is 0 (01, Name scan)
+abbrev pub noName : ScannedName
+noName = record { name = noString 0; next = 0 }
+
+-- the name of the layout at p and what is past it, if it has one (01, Name scan)
 unfoldable pub scannedNameAt : Page → List ℕ → ℕ → ScannedName
 scannedNameAt page s p =
-    pick (isNamedLayout page s p (layoutEnd s p))
-    (record { name = nameIn page s p; next = layoutEnd s p })
-    (record { name = noString 0; next = 0 })
+    pick (isNamedLayout page s p (layoutEnd s p)) (record { name = nameIn page s p; next = layoutEnd s p }) noName

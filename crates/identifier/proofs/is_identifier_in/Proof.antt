@@ -1,7 +1,6 @@
 -- The four ways out: no bytes, too many, one that is no name character, and the answer that is_generated gives.
 -- Assumes nothing.
 use native.Mathlib.Omega.{arith}
-use mathlib.Core.Path.{_≡_}
 use borrow.Author.Needs.{needs}
 use borrow.Author.Tests.{not-true, not-false}
 use Rattle.codepage.specs.Page.{page037}
