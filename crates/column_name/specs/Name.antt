@@ -2,7 +2,6 @@
 use mathlib.Core.List.{List, [], _∷_, _++_}
 use Prim.Native.Nat.{ℕ, zero, suc, _+_, _/_, _%_}
 use lib.Dec.{eqb, ltb}
-use lib.ListN.{take, drop}
 use Rattle.search.specs.Search.{pick, over}
 use Rattle.codepage.specs.Page.{Page}
 use Rattle.outcome.specs.Refusal.{isRefused}

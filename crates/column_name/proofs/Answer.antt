@@ -1,0 +1,100 @@
+-- The ways out of `write_text` and of `name_text`: what is refused leaves the buffer as it was.
+-- Assumes nothing.
+use mathlib.Core.Path.{_≡_, refl, sym, ap, _∙_}
+use mathlib.Core.Bool.{Bool, true, false}
+use mathlib.Core.List.{List, [], _∷_}
+use Prim.Native.Nat.{ℕ, _<_, _≤_}
+use native.Mathlib.Omega.{arith}
+use lib.Dec.{ltb}
+use lib.ListN.{length}
+use borrow.Author.Tests.{lt-ltb, le-ltb, eq-eqb, ne-eqb}
+use Rattle.search.specs.Search.{pick, over}
+use Rattle.codepage.specs.Page.{Page}
+use Rattle.outcome.specs.Refusal.{refusalOf, isRefused}
+use Rattle.outcome.specs.declared.Outcome.{Outcome}
+use Rattle.outcome.specs.declared.Outcome.the-variants.{Accepted, RoomTooShort}
+use Rattle.text.specs.Chars.{chars}
+use Rattle.types.specs.declared.ColumnMetadata.{ColumnMetadata}
+use Rattle.column_name.specs.Part.{partRefusal, ownBytes}
+use Rattle.column_name.specs.Room.{roomRefusal, roomLength, roomWritten}
+use Rattle.column_name.specs.Name.{generatedName, nameOf, nameRefusal, nameLength, nameWritten}
+use Rattle.column_name.specs.declared.NameText.{NameText}
+
+-- the answer m to a text that is to be written, with the buffer b as it is left
+abbrev pub Writes : List ℕ → List ℕ → NameText → List ℕ → Type 0
+Writes text buffer m b =
+    (refusalOf (m .outcome) ≡ roomRefusal text (length buffer))
+    × ((m .length ≡ roomLength text (length buffer)) × (b ≡ roomWritten text buffer))
+
+module _ (text buffer : List ℕ) (n : ℕ) (e : n ≡ length text) where
+  pub writes-short : length buffer < n → (m : NameText) → (m .outcome ≡ RoomTooShort n) × (m .length ≡ 0) → Writes text buffer m buffer
+  unfolding roomRefusal roomLength roomWritten
+  writes-short h m q =
+      let k : ltb (length buffer) (length text) ≡ true = lt-ltb (length buffer) (length text) (omega arith) in (
+        ap refusalOf (q .0) ∙ rw (k, e) refl,
+        (q .1 ∙ rw k refl, rw k refl),
+      )
+
+  pub writes-all : n ≤ length buffer → (b : List ℕ) → b ≡ over text buffer → Writes text buffer (record { outcome = Accepted; length = n }) b
+  unfolding roomRefusal roomLength roomWritten
+  writes-all h b w =
+      let k : ltb (length buffer) (length text) ≡ false = le-ltb (length buffer) (length text) (omega arith) in
+      (rw k refl, (e ∙ rw k refl, w ∙ rw k refl))
+
+-- the answer m to a column's name, with the buffer b as it is left
+abbrev pub Answers : Page → List ℕ → ColumnMetadata → List ℕ → NameText → List ℕ → Type 0
+Answers page s c buffer m b =
+    (refusalOf (m .outcome) ≡ nameRefusal page s c (length buffer))
+    × ((m .length ≡ nameLength page s c (length buffer)) × (b ≡ nameWritten page s c buffer))
+
+-- a text is refused where there is no room for it
+refused-room : (text : List ℕ) (room : ℕ) → isRefused (roomRefusal text room) ≡ ltb room (length text)
+unfolding roomRefusal
+refused-room text room = go (ltb room (length text)) (length text)
+  where
+    go : (b : Bool) (n : ℕ) → isRefused (pick b (6 ∷ n ∷ []) (0 ∷ [])) ≡ b
+    go true n = refl
+    go false n = refl
+
+module _ (page : Page) (s : List ℕ) (c : ColumnMetadata) where
+  pub name-generated : c .name .alphabet ≡ 0 → generatedName (c .number) ≡ nameOf page s c
+  unfolding nameOf
+  name-generated h = sym (rw (eq-eqb (c .name .alphabet) 0 h) refl)
+
+  pub name-own : (c .name .alphabet ≡ 0 → ⊥) → (bytes : List ℕ) → bytes ≡ ownBytes s (c .name) → chars page (c .name .alphabet) bytes ≡ nameOf page s c
+  unfolding nameOf
+  name-own h bytes e = rw e (sym (rw (ne-eqb (c .name .alphabet) 0 h) refl))
+
+  -- a name that has its bytes is answered as its text is
+  module _ (z : isRefused (partRefusal s (c .name)) ≡ false) where
+    refuses-as : (room : ℕ) → nameRefusal page s c room ≡ roomRefusal (nameOf page s c) room
+    unfolding nameRefusal roomRefusal
+    refuses-as room = rw z refl
+
+    refused-as : (room : ℕ) → isRefused (nameRefusal page s c room) ≡ ltb room (length (nameOf page s c))
+    refused-as room = ap isRefused (refuses-as room) ∙ refused-room (nameOf page s c) room
+
+    long-as : (room : ℕ) → nameLength page s c room ≡ roomLength (nameOf page s c) room
+    unfolding nameLength roomLength
+    long-as room = rw (refused-as room) refl
+
+    written-as : (buffer : List ℕ) → nameWritten page s c buffer ≡ roomWritten (nameOf page s c) buffer
+    unfolding nameWritten roomWritten
+    written-as buffer = rw (refused-as (length buffer)) refl
+
+  module _ (buffer : List ℕ) (m : NameText) where
+    pub answers-refused : (o : Outcome) → refusalOf o ≡ partRefusal s (c .name) → isRefused (refusalOf o) ≡ true
+        → (m .outcome ≡ o) × (m .length ≡ 0) → Answers page s c buffer m buffer
+    unfolding nameRefusal nameLength nameWritten
+    answers-refused o e z q =
+        let y : isRefused (partRefusal s (c .name)) ≡ true = rw e at z in (
+          ap refusalOf (q .0) ∙ e ∙ rw y refl,
+          (q .1 ∙ rw (y, y) refl, rw (y, y) refl),
+        )
+
+    pub answers-text : isRefused (partRefusal s (c .name)) ≡ false → (text : List ℕ) → text ≡ nameOf page s c → (b : List ℕ) → Writes text buffer m b
+        → Answers page s c buffer m b
+    answers-text z text t b w = (
+      w .0 ∙ rw t (sym (refuses-as z (length buffer))),
+      (w .1 .0 ∙ rw t (sym (long-as z (length buffer))), w .1 .1 ∙ rw t (sym (written-as z buffer))),
+    )

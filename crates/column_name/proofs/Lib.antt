@@ -1,0 +1,5 @@
+pub mod Part
+pub mod Written
+pub mod Digits
+pub mod Answer
+pub mod Cases
