@@ -5,6 +5,7 @@ use field::ByteOrder;
 use outcome::Outcome;
 use text::Text;
 use types::ColumnMetadata;
+use types::Db2Type;
 
 // What lent bytes hold beforehand, so that it is seen where more than the text was written.
 const MARK: u8 = 0xAA;
@@ -95,21 +96,25 @@ fn column_in(payload: &[u8]) -> ColumnMetadata
         length: field::u32_at(payload, 6, ByteOrder::BigEndian) as usize,
         alphabet: payload[10],
     };
-    let blank = column::blank_column();
+    let none = Text {
+        place: 0,
+        length: 0,
+        alphabet: 1,
+    };
     ColumnMetadata {
         number: field::u16_at(payload, 0, ByteOrder::BigEndian),
-        db2_type: blank.db2_type,
-        drda_type: blank.drda_type,
-        length: blank.length,
-        nullable: blank.nullable,
-        precision: blank.precision,
-        scale: blank.scale,
-        ccsid: blank.ccsid,
-        byte_order: blank.byte_order,
+        db2_type: Db2Type::SmallInt,
+        drda_type: 0,
+        length: 0,
+        nullable: false,
+        precision: 0,
+        scale: 0,
+        ccsid: 0,
+        byte_order: ByteOrder::BigEndian,
         name,
-        label: blank.label,
-        base_table_name: blank.base_table_name,
-        schema_name: blank.schema_name,
+        label: none,
+        base_table_name: none,
+        schema_name: none,
     }
 }
 
