@@ -186,19 +186,6 @@ def wrong_place(reply, description, places):
     return None
 
 
-def wrong_name_place(reply, names, places):
-    """The same for a line of n and the line of N: each name stands at its place."""
-    if not names.startswith(b'OK '):
-        return None if places == names else 'refused otherwise'
-    texts, words = (line.decode().rstrip('\n').split(' ')[1:] for line in (names, places))
-    if words[0] != texts[0] or len(words) != len(texts):
-        return 'another count'
-    for number, (text, place) in enumerate(zip(texts[1:], words[1:])):
-        if not stands(reply, text, place):
-            return f'name {number} is not at {place}'
-    return None
-
-
 def named_cases(reply, description, places):
     """Cases of T and U for the columns of a list, by its lines of D and d, and their answers.
 

@@ -1,6 +1,6 @@
 //! The oracle's driver: reads cases from standard input, asks the unchanged Rust, and writes
-//! one line of docs/ANSWERS.md for each, for the entries D, L, P, S, s, G, N, M, T, U, C, W, Q
-//! and R.
+//! one line of docs/ANSWERS.md for each, for the entries D, L, P, S, s, G, N, n, M, T, U, C, W,
+//! Q and R.
 //!
 //! Built with the Rust's private functions made public (`--cfg open`), it also speaks B, which is
 //! no entry: the standard big-endian reading alone, with its refusals, printed as D.
@@ -19,12 +19,15 @@
 //! - s: the Rust does not say where a message stands. The driver walks to the strings itself
 //!   (`message_strings`), asks as for M which text is not empty, and stops if that text is not
 //!   the message that the Rust read from the whole reply.
+//! - n: the Rust does not say where names stand. The driver finds them itself (places.rs), and
+//!   stops if their texts are not the names that the Rust lists.
 //!
 //! A panic of the Rust gives the line `TRAP`; the one known is the overflow of the scan's score.
 
 #[allow(dead_code)] // reads cases, writes none
 mod frame;
 mod model;
+mod places;
 
 use db2_proto::ddm::DdmObject;
 use db2_proto::fdoca::ByteOrder;
@@ -37,6 +40,7 @@ use db2_proto::replies::sqldard::{
 use db2_proto::ProtoError;
 use frame::Next;
 use model::Name;
+use places::Text;
 use std::io::{self, BufReader, BufWriter, Write};
 use std::panic::{self, AssertUnwindSafe};
 use std::process::{self, ExitCode};
@@ -161,6 +165,9 @@ fn answer(entry: u8, payload: &[u8], line: &mut Vec<u8>) -> bool {
         }),
         b'N' => limited(line, payload, |line| {
             ask(line, || Ok(scan_column_names(payload)), put_names)
+        }),
+        b'n' => limited(line, payload, |line| {
+            ask(line, || Ok(name_places(payload)), put_name_places)
         }),
         b'C' => {
             let Some((length, rest)) = payload.split_first_chunk::<4>() else {
@@ -386,6 +393,16 @@ fn message_strings(reply: &[u8]) -> Vec<(usize, usize)> {
     strings.split_off(1) // the first is SQLRDBNAME
 }
 
+/// Where the names that the Rust lists stand.
+fn name_places(reply: &[u8]) -> Vec<Text> {
+    let places = places::names(reply);
+    let found: Vec<String> = places.iter().map(|text| text.characters(reply)).collect();
+    if found != scan_column_names(reply) {
+        stop("the names found are not those that the Rust lists");
+    }
+    places
+}
+
 /// Asks the Rust and writes what it gives, its refusal, or TRAP.
 fn ask<T>(
     line: &mut Vec<u8>,
@@ -451,6 +468,17 @@ fn put_names(line: &mut Vec<u8>, names: Vec<String>) {
     for name in &names {
         line.push(b' ');
         put_text(line, name);
+    }
+}
+
+fn put_name_places(line: &mut Vec<u8>, names: Vec<Text>) {
+    if names.len() > TEXTS_LENT {
+        return put(line, &format!("E6 {}", names.len()));
+    }
+    put(line, &format!("OK n={}", names.len()));
+    for name in &names {
+        let place = format!(" {}/{}/{}", name.place, name.length, name.alphabet);
+        put(line, &place);
     }
 }
 
