@@ -36,10 +36,10 @@ noNameRun = record { start = 0; count = 0 }
 unfoldable pub longestNameRun : Page → List ℕ → NameRun
 longestNameRun page s = best longer (nameRunFrom page s) 0 (length s - 20) noNameRun
 
--- how many of its layouts are read: up to 512, none where there is no run (01, Forms that must change: read again)
-abbrev pub runLimit : NameRun → ℕ
-runLimit run = pick (leb 1 (run .count)) 512 0
+-- how many layouts of a run are read, by its count: up to 512, none where there is no run (01, Forms that must change: read again)
+abbrev pub runLimit : ℕ → ℕ
+runLimit count = pick (leb 1 count) 512 0
 
 -- the names of a run, read again from its start (01, Forms that must change: Best run)
 unfoldable pub namesOfRun : Page → List ℕ → NameRun → List Text
-namesOfRun page s run = chain (nameWalk page s) (runLimit run) 0 (run .start)
+namesOfRun page s run = chain (nameWalk page s) (runLimit (run .count)) 0 (run .start)

@@ -1,2 +1,3 @@
 pub mod Blank
 pub mod Names
+pub mod Decision

@@ -29,9 +29,13 @@ pub record NameScan : Type 0 where
   pub refusal : List ℕ
   pub names : List Text
 
+-- a refusal: no names (01, Numbers of refusal)
+abbrev pub refusedWith : List ℕ → NameScan
+refusedWith refusal = record { refusal = refusal; names = [] }
+
 -- 5 over 65,536 bytes; 6 with the count needed, to who lends `room` texts; else the names (01, Numbers of refusal: name scan)
 unfoldable pub nameScan : Page → ℕ → List ℕ → NameScan
 nameScan page room s =
-    pick (ltb 65536 (length s)) (record { refusal = 5 ∷ []; names = [] })
-    (pick (ltb room (length (columnNames page s))) (record { refusal = 6 ∷ length (columnNames page s) ∷ []; names = [] })
+    pick (ltb 65536 (length s)) (refusedWith (5 ∷ []))
+    (pick (ltb room (length (columnNames page s))) (refusedWith (6 ∷ length (columnNames page s) ∷ []))
     (record { refusal = 0 ∷ []; names = columnNames page s }))

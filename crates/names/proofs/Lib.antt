@@ -1,0 +1,5 @@
+pub mod TextRow
+pub mod Known
+pub mod Choosing
+pub mod Deciding
+pub mod Listed
