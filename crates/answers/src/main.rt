@@ -19,6 +19,8 @@ fn put_answer(out: &mut [u8], used: usize, entry: u8, payload: &[u8], room: &mut
         b'S' => cards::put_status_alone(out, used, payload, room),
         b's' => cards::put_message_place(out, used, payload),
         b'G' => cards::put_group(out, used, payload, room),
+        b'N' => name_output::put_names(out, used, payload),
+        b'n' => name_output::put_name_places(out, used, payload),
         b'M' => text_output::put_message_text(out, used, payload, room),
         b'T' => text_output::put_name_text(out, used, payload, room),
         b'U' => text_output::put_name_part(out, used, payload),

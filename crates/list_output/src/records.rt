@@ -1,6 +1,7 @@
 // Records in a payload, 50 bytes each, as docs/ANSWERS.md lays them out: columns that no reply needs to hold.
+ghost use mathlib.Core.Bool.{true};
 ghost use mathlib.Core.Path.{_≡_};
-ghost use Prim.Native.Nat.{_+_, _≤_};
+ghost use Prim.Native.Nat.{_+_, _≤_, _%_};
 ghost use lib.ListN.{length};
 ghost use Rattle.field.specs.Numbers.{number};
 ghost use Rattle.field.specs.declared.ByteOrder.the-variants.{BigEndian};
@@ -63,7 +64,9 @@ fn is_record(bytes: &[u8], at: usize) -> bool
 }
 
 // Whether they are records and nothing else.
-pub fn are_records(bytes: &[u8]) -> bool {
+pub fn are_records(bytes: &[u8]) -> bool
+    ensures { λ r. ⌜ (r ≡ true → length (now (bytes .entry)) % 50 ≡ 0) ⌝ }
+{
     let mut at = 0;
     while at < bytes.len() {
         if bytes.len() - at < 50 {

@@ -118,7 +118,13 @@ fn column_in(payload: &[u8]) -> ColumnMetadata
     }
 }
 
-fn put_name(out: &mut [u8], used: usize, reply: &[u8], column: ColumnMetadata, lent: &mut [u8]) -> usize
+fn put_name(
+    out: &mut [u8],
+    used: usize,
+    reply: &[u8],
+    column: ColumnMetadata,
+    lent: &mut [u8],
+) -> usize
     requires { ⌜ used ≤ length (now out) ⌝ }
     ensures { λ r. ⌜ r ≤ length (now (out .exit)) ⌝ }
 {
