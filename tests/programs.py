@@ -186,6 +186,25 @@ def wrong_place(reply, description, places):
     return None
 
 
+def named_cases(reply, description, places):
+    """Cases of T and U for the columns of a list, by its lines of D and d, and their answers.
+
+    T has to give the name that D prints, U the place that d prints. Each is asked with just the
+    room that the name takes, and every other one with a byte less.
+    """
+    words = places.decode().rstrip('\n').split(' ')[2:]
+    for column, place in zip(columns_of(description)[1], words[::4]):
+        number, name = int(column[0]), column[1]
+        start, length, alphabet = map(int, place.split('/'))
+        head = struct.pack('>HIIB', number, start, length, alphabet)
+        needed = 0 if name == '-' else len(name) // 2
+        short = number % 2 == 1 and needed > 0
+        answer = f'E6 {needed}' if short else f'OK {name}'
+        yield (framed('T', head + struct.pack('>H', needed - short) + reply), answer)
+        part = f'{start}/{length}' if alphabet > 0 and length > 0 else '0/0'
+        yield framed('U', head + reply), f'OK {part}'
+
+
 def stands(reply, text, place):
     """Whether a text, in hex, stands at place/length/alphabet; an empty one is 0/0/1."""
     if text == '-':

@@ -1,5 +1,6 @@
 //! The oracle's driver: reads cases from standard input, asks the unchanged Rust, and writes
-//! one line of docs/ANSWERS.md for each, for the entries D, L, P, S, s, G, N and M.
+//! one line of docs/ANSWERS.md for each, for the entries D, L, P, S, s, G, N, n, M, T, U, C, W,
+//! Q and R.
 //!
 //! Built with the Rust's private functions made public (`--cfg open`), it also speaks B, which is
 //! no entry: the standard big-endian reading alone, with its refusals, printed as D.
@@ -7,7 +8,8 @@
 //! What is not the Rust's but this project's own:
 //! - refusal 5 (over 65,536 bytes), a limit that the Rust does not have;
 //! - refusal 6, the size of the lists and of the message's room that a caller lends;
-//! - refusal 7, a message beyond the reply: the Rust has no entry for a message alone.
+//! - refusal 7, a message beyond the reply: the Rust has no entry for a message alone;
+//! - T, U, Q and R whole, and of C and W all but the lists: a model of the paper (model.rs).
 //!
 //! What the Rust keeps to itself, and how it is asked:
 //! - M: the Rust's message decoder is private, so the bytes are put into a SQLCARD as its
@@ -17,11 +19,15 @@
 //! - s: the Rust does not say where a message stands. The driver walks to the strings itself
 //!   (`message_strings`), asks as for M which text is not empty, and stops if that text is not
 //!   the message that the Rust read from the whole reply.
+//! - n: the Rust does not say where names stand. The driver finds them itself (places.rs), and
+//!   stops if their texts are not the names that the Rust lists.
 //!
 //! A panic of the Rust gives the line `TRAP`; the one known is the overflow of the scan's score.
 
 #[allow(dead_code)] // reads cases, writes none
 mod frame;
+mod model;
+mod places;
 
 use db2_proto::ddm::DdmObject;
 use db2_proto::fdoca::ByteOrder;
@@ -33,6 +39,8 @@ use db2_proto::replies::sqldard::{
 };
 use db2_proto::ProtoError;
 use frame::Next;
+use model::Name;
+use places::Text;
 use std::io::{self, BufReader, BufWriter, Write};
 use std::panic::{self, AssertUnwindSafe};
 use std::process::{self, ExitCode};
@@ -77,8 +85,8 @@ fn run() -> io::Result<bool> {
     Ok(true)
 }
 
-/// Writes the answer to one case; false if there is no such entry, or too little in front of the
-/// reply: P's code point, L's number of records, M's three numbers.
+/// Writes the answer to one case; false if there is no such entry, or the payload is not what it
+/// takes: too little in front of the reply, or no records.
 fn answer(entry: u8, payload: &[u8], line: &mut Vec<u8>) -> bool {
     match entry {
         b'D' => description(line, payload, RECORDS_LENT, || parse_sqldard_data(payload)),
@@ -158,9 +166,70 @@ fn answer(entry: u8, payload: &[u8], line: &mut Vec<u8>) -> bool {
         b'N' => limited(line, payload, |line| {
             ask(line, || Ok(scan_column_names(payload)), put_names)
         }),
-        _ => return false,
+        b'n' => limited(line, payload, |line| {
+            ask(line, || Ok(name_places(payload)), put_name_places)
+        }),
+        b'C' => {
+            let Some((length, rest)) = payload.split_first_chunk::<4>() else {
+                return false;
+            };
+            let length = u32::from_be_bytes(*length) as usize;
+            let Some((first, second)) = rest.split_at_checked(length) else {
+                return false;
+            };
+            ask(
+                line,
+                || Ok((list(first), list(second))),
+                |line, (a, b)| put(line, &model::same_cut(&a, &b)),
+            );
+        }
+        b'W' => ask(
+            line,
+            || Ok(list(payload)),
+            |line, list| put(line, &model::widest_row(&list)),
+        ),
+        _ => return model_answer(entry, payload, line).is_some(),
     }
     true
+}
+
+/// The same for the entries that the Rust is not asked.
+fn model_answer(entry: u8, payload: &[u8], line: &mut Vec<u8>) -> Option<()> {
+    match entry {
+        b'T' => {
+            let (name, rest) = Name::read(payload)?;
+            let (room, reply) = rest.split_first_chunk::<2>()?;
+            match name.text(reply, u16::from_be_bytes(*room)) {
+                Err(refusal) => put(line, &refusal),
+                Ok(text) => {
+                    put(line, "OK ");
+                    put_text(line, &text);
+                }
+            }
+        }
+        b'U' => {
+            let (name, reply) = Name::read(payload)?;
+            put(line, &name.part(reply));
+        }
+        b'Q' => {
+            let (a, b) = model::two_lists(payload)?;
+            put(line, &model::same_cut(&a, &b));
+        }
+        b'R' => put(line, &model::widest_row(&model::records(payload)?)),
+        _ => return None,
+    }
+    Some(())
+}
+
+/// The list that D gives for a reply, none where it refuses.
+fn list(reply: &[u8]) -> Vec<model::Column> {
+    if reply.len() > LONGEST_REPLY {
+        return Vec::new();
+    }
+    match parse_sqldard_data(reply) {
+        Ok(dard) => dard.columns.iter().map(model::Column::of_rust).collect(),
+        Err(_) => Vec::new(),
+    }
 }
 
 /// The list that `read` gives, or refusal 6 if it is longer than the `lent` records.
@@ -324,6 +393,16 @@ fn message_strings(reply: &[u8]) -> Vec<(usize, usize)> {
     strings.split_off(1) // the first is SQLRDBNAME
 }
 
+/// Where the names that the Rust lists stand.
+fn name_places(reply: &[u8]) -> Vec<Text> {
+    let places = places::names(reply);
+    let found: Vec<String> = places.iter().map(|text| text.characters(reply)).collect();
+    if found != scan_column_names(reply) {
+        stop("the names found are not those that the Rust lists");
+    }
+    places
+}
+
 /// Asks the Rust and writes what it gives, its refusal, or TRAP.
 fn ask<T>(
     line: &mut Vec<u8>,
@@ -389,6 +468,17 @@ fn put_names(line: &mut Vec<u8>, names: Vec<String>) {
     for name in &names {
         line.push(b' ');
         put_text(line, name);
+    }
+}
+
+fn put_name_places(line: &mut Vec<u8>, names: Vec<Text>) {
+    if names.len() > TEXTS_LENT {
+        return put(line, &format!("E6 {}", names.len()));
+    }
+    put(line, &format!("OK n={}", names.len()));
+    for name in &names {
+        let place = format!(" {}/{}/{}", name.place, name.length, name.alphabet);
+        put(line, &place);
     }
 }
 

@@ -3,8 +3,18 @@
 
 use std::io::{self, Read, Write};
 
-/// The longest payload of the entries spoken here.
+/// The longest payload of entries that take replies, so that some over the limit can be tried.
 pub const LONGEST: usize = 70_000;
+
+/// The longest payload of Q and R: two lists just over the limit, and some bytes more.
+pub const LONGEST_RECORDS: usize = 420_000;
+
+fn longest(entry: u8) -> usize {
+    match entry {
+        b'Q' | b'R' => LONGEST_RECORDS,
+        _ => LONGEST,
+    }
+}
 
 /// What stands next on the stream. `Bad` is a case that ends early or is too long.
 pub enum Next {
@@ -22,7 +32,7 @@ pub fn read(input: &mut impl Read, payload: &mut Vec<u8>) -> io::Result<Next> {
         _ => return Ok(Next::Bad),
     }
     let length = u32::from_be_bytes([head[1], head[2], head[3], head[4]]) as usize;
-    if length > LONGEST {
+    if length > longest(head[0]) {
         return Ok(Next::Bad);
     }
     payload.resize(length, 0);
@@ -34,7 +44,7 @@ pub fn read(input: &mut impl Read, payload: &mut Vec<u8>) -> io::Result<Next> {
 
 pub fn write(output: &mut impl Write, entry: u8, payload: &[u8]) -> io::Result<()> {
     // An exchange is no entry's case: it holds a description beside a reply.
-    assert!(entry == b'x' || payload.len() <= LONGEST);
+    assert!(entry == b'x' || payload.len() <= longest(entry));
     output.write_all(&[entry])?;
     output.write_all(&(payload.len() as u32).to_be_bytes())?;
     output.write_all(payload)

@@ -1,9 +1,9 @@
-//! Writes cases of docs/ANSWERS.md for the entries D, d, L, P, S, s, G, N and M, made from a seed.
+//! Writes cases of docs/ANSWERS.md, for all of its entries, made from a seed.
 //!
 //!     generate SEED COUNT [ENTRIES] [--from CASE] [--progress]
 //!
-//! SEED is any number below 2^64. Each case is for one of ENTRIES (some of DdLPSGNMs, default
-//! DPSGN), all equally often. The same SEED and ENTRIES give the same cases on every machine;
+//! SEED is any number below 2^64. Each case is for one of ENTRIES (some of DdLPSGNnMsTUCWQR,
+//! default DPSGN), all equally often. The same SEED and ENTRIES give the same cases on every machine;
 //! --from starts at a later case than 0, so that one case can be made again without those before
 //! it. Progress goes to standard error once a second if that is a terminal, or with --progress.
 //! ENTRIES may be x instead, which is no entry: exchanges of a column's description, of which
@@ -12,26 +12,28 @@
 //! Half of the cases of S, s and G are SQLCAs on the edges of their fields (cards.rs). What the
 //! others hold, in 10,000 of each entry:
 //!
-//! | family     | DdLP | S, s |    G |    N | replies                                           |
+//! | family     | DdLP | S, s |    G | N, n | replies                                           |
 //! |------------|-----:|-----:|-----:|-----:|---------------------------------------------------|
-//! | standard   | 3200 |  400 |  900 |  900 | every group present or absent, BE and LE          |
-//! | compact    | 1500 |  150 |  150 |  300 | compact tables, with and without FF, names to 65  |
-//! | last       |  650 |  150 |  150 |  200 | FF FF FF, unknown types, the FF before the count  |
-//! | scan       | 1450 |  150 |  150 |  600 | runs behind other bytes, equal, negative scores   |
+//! | standard   | 3200 |  400 |  900 |  700 | every group present or absent, BE and LE          |
+//! | compact    | 1500 |  150 |  150 |  200 | compact tables, with and without FF, names to 65  |
+//! | last       |  650 |  150 |  150 |  100 | FF FF FF, unknown types, the FF before the count  |
+//! | scan       | 1450 |  150 |  150 |  400 | runs behind other bytes, equal, negative scores   |
 //! | two        |  550 |   50 |   50 |  100 | a list without names and another reply behind it  |
 //! | counts     |  450 |   46 |   46 |  100 | counts on the edges with few descriptors          |
 //! | many       |   40 |    4 |    4 |   40 | 256 to 514 descriptors                            |
-//! | candidates |  150 |  100 |  100 | 3300 | strings that the name scan takes, and repeats     |
-//! | layouts    |  250 |  100 |  100 | 2400 | layouts of any type, names in m, s and extension  |
-//! | sqlca      |  500 | 7030 | 6530 |  200 | a SQLCA alone, whole or cut, codes and messages   |
-//! | small      | 1115 | 1790 | 1790 | 1837 | every size from 0 to 64                           |
+//! | candidates |  150 |  100 |  100 | 1600 | strings that the name scan takes, and repeats     |
+//! | layouts    |  250 |  100 |  100 | 1300 | layouts of any type, names in m, s and extension  |
+//! | sqlca      |  500 | 7030 | 6530 |  100 | a SQLCA alone, whole or cut, codes and messages   |
+//! | small      | 1115 | 1790 | 1790 | 1327 | every size from 0 to 64                           |
 //! | longest    |    3 |   10 |   10 |    3 | 65,534 to 65,536 bytes (slow in the Rust)         |
 //! | nearly     |   60 |    - |    - |    - | one name, almost COL and digits, names behind it  |
 //! | full       |   50 |    - |    - |    - | lists of 511 to 513, by the last reader to 800    |
-//! | filled     |   12 |    - |    - |    - | other families, filled up to 65,535 to 65,537     |
+//! | filled     |   12 |    - |    - |   10 | other families, filled up to 65,535 to 65,537     |
+//! | repeats    |    - |    - |    - | 2000 | candidates on the edges, repeats as N asks        |
+//! | runs       |    - |    - |    - | 2000 | runs of layouts, equally long, names on the edges |
 //! | too long   |   20 |   20 |   20 |   20 | 65,537 to 65,540 bytes, and 70,000                |
 //!
-//! Of all but the last six, 35 in 100 are damaged by one to three edits, and so are 15 in 100 of
+//! Of all but the last eight, 35 in 100 are damaged by one to three edits, and so are 15 in 100 of
 //! the SQLCAs on the edges. P has the right code point in 92 of 100. L lends as many records as
 //! the count says, one less or one more, a number up to 17 or next to 256, 512 and 4,095, or all
 //! 4,096. `target/oracle/reach` tells how often each reading is reached.
@@ -39,13 +41,20 @@
 //! M has a message of its own making (messages.rs): in 10,000, 9,930 of 0 to some 300 bytes, 40
 //! longer ones, 10 in replies up to the limit, 20 in replies beyond it. A quarter asks for
 //! another part of the reply, at its end or beyond it; rooms are about the text's length.
+//!
+//! T and U have names of their own making (named.rs), places, numbers and rooms on the edges. C
+//! and W have half of their replies made for them (lists.rs), lists alike but for one thing and
+//! lists with a width, the others from the families above; Q and R have records (lists.rs).
 
 mod cards;
 mod exchanges;
 #[allow(dead_code)] // writes cases, reads none
 mod frame;
 mod groups;
+mod lists;
 mod messages;
+mod named;
+mod names;
 mod random;
 mod replies;
 mod texts;
@@ -55,7 +64,7 @@ use std::io::{self, BufWriter, IsTerminal, Write};
 use std::process::ExitCode;
 use std::time::{Duration, Instant};
 
-const ENTRIES: &str = "DdLPSGNMs";
+const ENTRIES: &str = "DdLPSGNnMsTUCWQR";
 const EXCHANGES: &str = "x";
 const DEFAULT_ENTRIES: &str = "DPSGN";
 const SQLDARD: u16 = 0x2411;
@@ -66,7 +75,7 @@ const USAGE: &str = "usage: generate SEED COUNT [ENTRIES] [--from CASE] [--progr
 type Maker = fn(&mut Random) -> Vec<u8>;
 
 /// The rows of the table above that can be damaged, then the others.
-const MAKERS: [Maker; 15] = [
+const MAKERS: [Maker; 17] = [
     replies::standard,
     replies::compact,
     replies::last,
@@ -82,21 +91,23 @@ const MAKERS: [Maker; 15] = [
     replies::nearly_generated,
     replies::full,
     replies::filled,
+    names::repeats,
+    names::runs,
 ];
 const DAMAGED_MAKERS: usize = 10;
 
 /// The columns of the table above.
-const DESCRIPTION: [usize; 16] = [
-    3200, 1500, 650, 1450, 550, 450, 40, 150, 250, 500, 1115, 3, 60, 50, 12, 20,
+const DESCRIPTION: [usize; 18] = [
+    3200, 1500, 650, 1450, 550, 450, 40, 150, 250, 500, 1115, 3, 60, 50, 12, 0, 0, 20,
 ];
-const STATUS: [usize; 16] = [
-    400, 150, 150, 150, 50, 46, 4, 100, 100, 7030, 1790, 10, 0, 0, 0, 20,
+const STATUS: [usize; 18] = [
+    400, 150, 150, 150, 50, 46, 4, 100, 100, 7030, 1790, 10, 0, 0, 0, 0, 0, 20,
 ];
-const GROUP: [usize; 16] = [
-    900, 150, 150, 150, 50, 46, 4, 100, 100, 6530, 1790, 10, 0, 0, 0, 20,
+const GROUP: [usize; 18] = [
+    900, 150, 150, 150, 50, 46, 4, 100, 100, 6530, 1790, 10, 0, 0, 0, 0, 0, 20,
 ];
-const NAMES: [usize; 16] = [
-    900, 300, 200, 600, 100, 100, 40, 3300, 2400, 200, 1837, 3, 0, 0, 0, 20,
+const NAMES: [usize; 18] = [
+    700, 200, 100, 400, 100, 100, 40, 1600, 1300, 100, 1327, 3, 0, 0, 10, 2000, 2000, 20,
 ];
 
 fn reply(r: &mut Random, entry: u8) -> Vec<u8> {
@@ -110,7 +121,7 @@ fn reply(r: &mut Random, entry: u8) -> Vec<u8> {
     let weights = match entry {
         b'S' | b's' => &STATUS,
         b'G' => &GROUP,
-        b'N' => &NAMES,
+        b'N' | b'n' => &NAMES,
         _ => &DESCRIPTION,
     };
     let family = r.weighted(weights);
@@ -130,6 +141,12 @@ fn case(r: &mut Random, request: &Request) -> (u8, Vec<u8>) {
     let payload = match entry {
         b'x' => exchanges::exchange(r),
         b'M' => messages::case(r),
+        b'T' => named::case(r, true),
+        b'U' => named::case(r, false),
+        b'Q' => lists::two_lists(r),
+        b'R' => lists::records(r),
+        b'C' => lists::two_replies(r, |r| reply(r, entry)),
+        b'W' if r.chance(50) => lists::row(r),
         b'P' => {
             let code_point = code_point(r);
             [&code_point.to_be_bytes()[..], &reply(r, entry)].concat()

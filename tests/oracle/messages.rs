@@ -244,7 +244,7 @@ fn short_filler(r: &mut Random) -> Vec<u8> {
 
 /// Another part of the reply than the message, one at its end or just beyond, or one far
 /// beyond, where sums and places cut to 32 or 16 bits would lie in the reply again.
-fn part(r: &mut Random, size: u32, place: u32, length: u32) -> (u32, u32) {
+pub fn part(r: &mut Random, size: u32, place: u32, length: u32) -> (u32, u32) {
     let any = r.below(size as usize + 1) as u32;
     let inside = r.below((size - any) as usize + 1) as u32;
     match r.weighted(&[30, 25, 25, 20]) {

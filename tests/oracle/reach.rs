@@ -2,12 +2,15 @@
 //! met on the way.
 //!
 //!     generate SEED COUNT D | reach
+//!     generate SEED COUNT N | reach
 //!
-//! Reads cases of D, d, L and P, and writes for each line of `FEATURES` how many replies have it
-//! and how many that is in 100,000. Linked to the Rust with its private functions made public.
+//! Reads cases of D, d, L and P, or of N and n, and writes for each line of `FEATURES` (for N and
+//! n those of reach_names.rs) how many replies have it and how many that is in 100,000. Linked to
+//! the Rust with its private functions made public.
 
 #[allow(dead_code)] // reads cases, writes none
 mod frame;
+mod reach_names;
 
 use db2_proto::fdoca::ByteOrder::{self, BigEndian, LittleEndian};
 use db2_proto::replies::sqldard::{
@@ -82,14 +85,24 @@ const FEATURES: [&str; 58] = [
 ];
 
 struct Reach {
+    features: &'static [&'static str],
     replies: u64,
-    counts: [u64; FEATURES.len()],
-    seen: [bool; FEATURES.len()],
+    counts: Vec<u64>,
+    seen: Vec<bool>,
 }
 
 impl Reach {
+    fn of(features: &'static [&'static str]) -> Self {
+        Reach {
+            features,
+            replies: 0,
+            counts: vec![0; features.len()],
+            seen: vec![false; features.len()],
+        }
+    }
+
     fn hit(&mut self, name: &str) {
-        match FEATURES.iter().position(|feature| *feature == name) {
+        match self.features.iter().position(|feature| *feature == name) {
             Some(place) => self.seen[place] = true,
             None => unreachable!("no such feature: {name}"),
         }
@@ -361,21 +374,34 @@ impl Reach {
     }
 
     fn end_of_reply(&mut self) {
-        self.replies += 1;
         let all_generated = ["standard BE", "compact", "standard LE"]
             .map(|reading| format!("{reading}, all generated"));
         let below = self.seen(&["scan: a score below zero".into()]);
         if below && (self.seen(&all_generated) || self.seen(&["last, columns".into()])) {
             self.hit("scan: a score below zero, another wins");
         }
+        self.count();
+    }
+
+    /// Counts what was seen in one reply.
+    fn count(&mut self) {
+        self.replies += 1;
         for (count, seen) in self.counts.iter_mut().zip(&mut self.seen) {
             *count += u64::from(*seen);
             *seen = false;
         }
     }
 
+    fn tell(&self) {
+        for (feature, count) in self.features.iter().zip(&self.counts) {
+            let share = count * 100_000 / self.replies.max(1);
+            println!("{count:>8} {share:>8}  {feature}");
+        }
+        println!("{:>8}           replies", self.replies);
+    }
+
     fn seen(&self, names: &[String]) -> bool {
-        let mut both = FEATURES.iter().zip(&self.seen);
+        let mut both = self.features.iter().zip(&self.seen);
         both.any(|(feature, seen)| *seen && names.iter().any(|name| name == feature))
     }
 }
@@ -413,14 +439,16 @@ fn strings(bytes: &[u8], at: &mut usize, count: usize) -> Vec<Vec<u8>> {
 fn main() -> ExitCode {
     let mut input = BufReader::with_capacity(1 << 20, io::stdin().lock());
     let mut payload = Vec::new();
-    let mut reach = Reach {
-        replies: 0,
-        counts: [0; FEATURES.len()],
-        seen: [false; FEATURES.len()],
-    };
+    let mut reach = Reach::of(&FEATURES);
+    let mut names = Reach::of(&reach_names::FEATURES);
     loop {
         match frame::read(&mut input, &mut payload) {
             Ok(Next::End) => break,
+            Ok(Next::Case(b'N' | b'n')) => {
+                reach_names::reply(&mut names, &payload);
+                names.count();
+                continue;
+            }
             Ok(Next::Case(b'D' | b'd')) => reach.reply(&payload),
             Ok(Next::Case(b'P')) if payload.starts_with(&[0x24, 0x11]) => {
                 reach.reply(&payload[2..])
@@ -428,16 +456,16 @@ fn main() -> ExitCode {
             Ok(Next::Case(b'P')) => reach.hit("another code point"),
             Ok(Next::Case(b'L')) if payload.len() >= 2 => reach.reply(&payload[2..]),
             _ => {
-                eprintln!("reach: not a stream of cases of D, d, L and P");
+                eprintln!("reach: not a stream of cases of D, d, L and P, or of N and n");
                 return ExitCode::FAILURE;
             }
         }
         reach.end_of_reply();
     }
-    for (feature, count) in FEATURES.iter().zip(reach.counts) {
-        let share = count * 100_000 / reach.replies.max(1);
-        println!("{count:>8} {share:>8}  {feature}");
+    for told in [reach, names] {
+        if told.replies > 0 {
+            told.tell();
+        }
     }
-    println!("{:>8}           replies", reach.replies);
     ExitCode::SUCCESS
 }

@@ -108,7 +108,7 @@ pub fn standard(r: &mut Random) -> Vec<u8> {
 }
 
 /// Takes flags off the end: one may be missing there, or the last two of a descriptor.
-fn drop_flags(r: &mut Random, out: &mut Vec<u8>) {
+pub fn drop_flags(r: &mut Random, out: &mut Vec<u8>) {
     let flags = out.iter().rev().take_while(|byte| **byte == 0xFF).count();
     out.truncate(out.len() - r.between(0, flags.min(2)));
 }

@@ -56,7 +56,7 @@ fn blanks(r: &mut Random, text: &mut Vec<u8>) {
 }
 
 /// `inner`, in page 037, between blanks.
-fn in_blanks(r: &mut Random, inner: &[u8]) -> Vec<u8> {
+pub fn in_blanks(r: &mut Random, inner: &[u8]) -> Vec<u8> {
     let mut text = Vec::new();
     blanks(r, &mut text);
     text.extend_from_slice(inner);

@@ -1,7 +1,6 @@
 // Answers cases: reads them from standard input and writes a line for each, as docs/ANSWERS.md says.
 mod cards;
 mod input;
-mod texts;
 
 ghost use Prim.Native.Nat.{_≤_};
 ghost use lib.ListN.{length};
@@ -20,7 +19,15 @@ fn put_answer(out: &mut [u8], used: usize, entry: u8, payload: &[u8], room: &mut
         b'S' => cards::put_status_alone(out, used, payload, room),
         b's' => cards::put_message_place(out, used, payload),
         b'G' => cards::put_group(out, used, payload, room),
-        b'M' => texts::put_message_text(out, used, payload, room),
+        b'N' => name_output::put_names(out, used, payload),
+        b'n' => name_output::put_name_places(out, used, payload),
+        b'M' => text_output::put_message_text(out, used, payload, room),
+        b'T' => text_output::put_name_text(out, used, payload, room),
+        b'U' => text_output::put_name_part(out, used, payload),
+        b'C' => list_output::put_same_cut(out, used, payload),
+        b'W' => list_output::put_widest_row(out, used, payload),
+        b'Q' => list_output::put_same_cut_of_records(out, used, payload),
+        b'R' => list_output::put_widest_row_of_records(out, used, payload),
         _ => output::put_bad(out, used),
     }
 }
@@ -62,9 +69,9 @@ fn all_cases(out: &mut [u8], payload: &mut [u8], room: &mut [u8]) {
 
 fn main() {
     let mut out = [0u8; 65_536];
-    // The longest payload that is taken. Q and R, once they are here, need 420,000.
-    let mut payload = [0u8; 70_000];
-    // What M lends, and where a status record's message is written to be printed.
+    // The longest payload that is taken.
+    let mut payload = [0u8; 420_000];
+    // What M and T lend, and where a status record's message is written to be printed.
     let mut room = [0u8; 65_536];
     all_cases(&mut out, &mut payload, &mut room);
 }

@@ -21,7 +21,7 @@ fn put_page037(out: &mut [u8], used: usize, bytes: &[u8]) -> usize
 }
 
 // A blank and a text's characters in hex: `-` where it is empty, `?` where it is not in the reply.
-fn put_text(out: &mut [u8], used: usize, reply: &[u8], text: Text) -> usize
+pub fn put_text(out: &mut [u8], used: usize, reply: &[u8], text: Text) -> usize
     requires { ⌜ used ≤ length (now out) ⌝ }
     ensures { λ r. ⌜ r ≤ length (now (out .exit)) ⌝ }
 {
@@ -134,7 +134,7 @@ fn put_column(out: &mut [u8], used: usize, reply: &[u8], column: ColumnMetadata)
 }
 
 // ` place/length/alphabet`.
-fn put_text_place(out: &mut [u8], used: usize, text: Text) -> usize
+pub fn put_text_place(out: &mut [u8], used: usize, text: Text) -> usize
     requires { ⌜ used ≤ length (now out) ⌝ }
     ensures { λ r. ⌜ r ≤ length (now (out .exit)) ⌝ }
 {

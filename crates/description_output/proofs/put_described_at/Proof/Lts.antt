@@ -67,7 +67,7 @@ abbrev pub r : Kinds.RK 3
 r = Num.rNum Syntax.w64
 
 abbrev pub xs : List.List Syntax.Ty
-xs = List._∷_ (ColumnMetadataRow.ty) (List._∷_ (Syntax.tyArray (ColumnMetadataRow.ty) 4096) (List._∷_ (Syntax.tyStruct (List._∷_ 115 (List._∷_ 113 (List._∷_ 108 (List._∷_ 100 (List._∷_ 97 (List._∷_ 114 (List._∷_ 100 (List._∷_ 58 (List._∷_ 58 (List._∷_ 83 (List._∷_ 113 (List._∷_ 108 (List._∷_ 100 (List._∷_ 97 (List._∷_ 114 (List._∷_ 100 (List._∷_ 65 (List._∷_ 110 (List._∷_ 115 (List._∷_ 119 (List._∷_ 101 (List._∷_ 114 List.[])))))))))))))))))))))) (Syntax.tcons (Syntax.tyEnum (List._∷_ 111 (List._∷_ 117 (List._∷_ 116 (List._∷_ 99 (List._∷_ 111 (List._∷_ 109 (List._∷_ 101 (List._∷_ 58 (List._∷_ 58 (List._∷_ 79 (List._∷_ 117 (List._∷_ 116 (List._∷_ 99 (List._∷_ 111 (List._∷_ 109 (List._∷_ 101 List.[])))))))))))))))) (Syntax.ttcons Syntax.tnil (Syntax.ttcons Syntax.tnil (Syntax.ttcons (Syntax.tcons (Syntax.tyInt Syntax.w64) (Syntax.tcons (Syntax.tyInt Syntax.w64) Syntax.tnil)) (Syntax.ttcons Syntax.tnil (Syntax.ttcons (Syntax.tcons (Syntax.tyInt Syntax.w16) Syntax.tnil) (Syntax.ttcons Syntax.tnil (Syntax.ttcons (Syntax.tcons (Syntax.tyInt Syntax.w64) Syntax.tnil) (Syntax.ttcons Syntax.tnil Syntax.ttnil))))))))) (Syntax.tcons (Syntax.tyStruct (List._∷_ 115 (List._∷_ 113 (List._∷_ 108 (List._∷_ 99 (List._∷_ 97 (List._∷_ 114 (List._∷_ 100 (List._∷_ 58 (List._∷_ 58 (List._∷_ 83 (List._∷_ 113 (List._∷_ 108 (List._∷_ 67 (List._∷_ 97 (List._∷_ 114 (List._∷_ 100 List.[])))))))))))))))) (Syntax.tcons Syntax.tyBool (Syntax.tcons (Syntax.tyInt Syntax.w32) (Syntax.tcons (Syntax.tyArray (Syntax.tyInt Syntax.w8) 5) (Syntax.tcons (Syntax.tyArray (Syntax.tyInt Syntax.w8) 8) (Syntax.tcons (Syntax.tyInt Syntax.w8) (Syntax.tcons (Syntax.tyArray (Syntax.tyInt Syntax.w32) 6) (Syntax.tcons (Syntax.tyInt Syntax.w64) (Syntax.tcons (Syntax.tyInt Syntax.w32) (Syntax.tcons (Syntax.tyArray (Syntax.tyInt Syntax.w8) 11) (Syntax.tcons (Syntax.tyInt Syntax.w64) (Syntax.tcons (Syntax.tyInt Syntax.w64) Syntax.tnil)))))))))))) (Syntax.tcons (Syntax.tyInt Syntax.w64) Syntax.tnil)))) (List._∷_ (Syntax.tyInt Syntax.w64) (List._∷_ (Syntax.tyInt Syntax.w64) (List._∷_ (Syntax.tyRef Syntax.erased Syntax.mut (Syntax.tyArray ColumnMetadataRow.named 4096)) (List._∷_ (Syntax.tyStruct (List._∷_ 38 (List._∷_ 91 (List._∷_ 93 List.[]))) (Syntax.tcons (Syntax.tyRef Syntax.erased Syntax.mut ColumnMetadataRow.named) (Syntax.tcons (Syntax.tyInt Syntax.w64) Syntax.tnil))) (List._∷_ (Syntax.tyRef Syntax.erased Syntax.mut (Syntax.tyInt Syntax.w8)) (List._∷_ (Syntax.tyStruct (List._∷_ 38 (List._∷_ 91 (List._∷_ 93 List.[]))) (Syntax.tcons (Syntax.tyRef Syntax.erased Syntax.mut (Syntax.tyInt Syntax.w8)) (Syntax.tcons (Syntax.tyInt Syntax.w64) Syntax.tnil))) (List._∷_ (Syntax.tyRef Syntax.erased Syntax.mut (Syntax.tyInt Syntax.w8)) (List._∷_ (Syntax.tyStruct (List._∷_ 38 (List._∷_ 91 (List._∷_ 93 List.[]))) (Syntax.tcons (Syntax.tyRef Syntax.erased Syntax.mut (Syntax.tyInt Syntax.w8)) (Syntax.tcons (Syntax.tyInt Syntax.w64) Syntax.tnil))) (List._∷_ (Syntax.tyRef Syntax.erased Syntax.mut (Syntax.tyInt Syntax.w8)) (List._∷_ (Syntax.tyStruct (List._∷_ 38 (List._∷_ 91 (List._∷_ 93 List.[]))) (Syntax.tcons (Syntax.tyRef Syntax.erased Syntax.mut (Syntax.tyInt Syntax.w8)) (Syntax.tcons (Syntax.tyInt Syntax.w64) Syntax.tnil))) (List._∷_ (Syntax.tyRef Syntax.erased Syntax.imm (Syntax.tyArray ColumnMetadataRow.named 4096)) (List._∷_ (Syntax.tyStruct (List._∷_ 38 (List._∷_ 91 (List._∷_ 93 List.[]))) (Syntax.tcons (Syntax.tyRef Syntax.erased Syntax.imm ColumnMetadataRow.named) (Syntax.tcons (Syntax.tyInt Syntax.w64) Syntax.tnil))) List.[]))))))))))))))
+xs = List._∷_ (ColumnMetadataRow.ty) (List._∷_ (Syntax.tyArray (ColumnMetadataRow.ty) 4096) (List._∷_ (Syntax.tyStruct (List._∷_ 115 (List._∷_ 113 (List._∷_ 108 (List._∷_ 100 (List._∷_ 97 (List._∷_ 114 (List._∷_ 100 (List._∷_ 58 (List._∷_ 58 (List._∷_ 83 (List._∷_ 113 (List._∷_ 108 (List._∷_ 100 (List._∷_ 97 (List._∷_ 114 (List._∷_ 100 (List._∷_ 65 (List._∷_ 110 (List._∷_ 115 (List._∷_ 119 (List._∷_ 101 (List._∷_ 114 List.[])))))))))))))))))))))) (Syntax.tcons (Syntax.tyEnum (List._∷_ 111 (List._∷_ 117 (List._∷_ 116 (List._∷_ 99 (List._∷_ 111 (List._∷_ 109 (List._∷_ 101 (List._∷_ 58 (List._∷_ 58 (List._∷_ 79 (List._∷_ 117 (List._∷_ 116 (List._∷_ 99 (List._∷_ 111 (List._∷_ 109 (List._∷_ 101 List.[])))))))))))))))) (Syntax.ttcons Syntax.tnil (Syntax.ttcons Syntax.tnil (Syntax.ttcons (Syntax.tcons (Syntax.tyInt Syntax.w64) (Syntax.tcons (Syntax.tyInt Syntax.w64) Syntax.tnil)) (Syntax.ttcons Syntax.tnil (Syntax.ttcons (Syntax.tcons (Syntax.tyInt Syntax.w16) Syntax.tnil) (Syntax.ttcons Syntax.tnil (Syntax.ttcons (Syntax.tcons (Syntax.tyInt Syntax.w64) Syntax.tnil) (Syntax.ttcons Syntax.tnil (Syntax.ttcons (Syntax.tcons (Syntax.tyInt Syntax.w16) Syntax.tnil) Syntax.ttnil)))))))))) (Syntax.tcons (Syntax.tyStruct (List._∷_ 115 (List._∷_ 113 (List._∷_ 108 (List._∷_ 99 (List._∷_ 97 (List._∷_ 114 (List._∷_ 100 (List._∷_ 58 (List._∷_ 58 (List._∷_ 83 (List._∷_ 113 (List._∷_ 108 (List._∷_ 67 (List._∷_ 97 (List._∷_ 114 (List._∷_ 100 List.[])))))))))))))))) (Syntax.tcons Syntax.tyBool (Syntax.tcons (Syntax.tyInt Syntax.w32) (Syntax.tcons (Syntax.tyArray (Syntax.tyInt Syntax.w8) 5) (Syntax.tcons (Syntax.tyArray (Syntax.tyInt Syntax.w8) 8) (Syntax.tcons (Syntax.tyInt Syntax.w8) (Syntax.tcons (Syntax.tyArray (Syntax.tyInt Syntax.w32) 6) (Syntax.tcons (Syntax.tyInt Syntax.w64) (Syntax.tcons (Syntax.tyInt Syntax.w32) (Syntax.tcons (Syntax.tyArray (Syntax.tyInt Syntax.w8) 11) (Syntax.tcons (Syntax.tyInt Syntax.w64) (Syntax.tcons (Syntax.tyInt Syntax.w64) Syntax.tnil)))))))))))) (Syntax.tcons (Syntax.tyInt Syntax.w64) Syntax.tnil)))) (List._∷_ (Syntax.tyInt Syntax.w64) (List._∷_ (Syntax.tyInt Syntax.w64) (List._∷_ (Syntax.tyRef Syntax.erased Syntax.mut (Syntax.tyArray ColumnMetadataRow.named 4096)) (List._∷_ (Syntax.tyStruct (List._∷_ 38 (List._∷_ 91 (List._∷_ 93 List.[]))) (Syntax.tcons (Syntax.tyRef Syntax.erased Syntax.mut ColumnMetadataRow.named) (Syntax.tcons (Syntax.tyInt Syntax.w64) Syntax.tnil))) (List._∷_ (Syntax.tyRef Syntax.erased Syntax.mut (Syntax.tyInt Syntax.w8)) (List._∷_ (Syntax.tyStruct (List._∷_ 38 (List._∷_ 91 (List._∷_ 93 List.[]))) (Syntax.tcons (Syntax.tyRef Syntax.erased Syntax.mut (Syntax.tyInt Syntax.w8)) (Syntax.tcons (Syntax.tyInt Syntax.w64) Syntax.tnil))) (List._∷_ (Syntax.tyRef Syntax.erased Syntax.mut (Syntax.tyInt Syntax.w8)) (List._∷_ (Syntax.tyStruct (List._∷_ 38 (List._∷_ 91 (List._∷_ 93 List.[]))) (Syntax.tcons (Syntax.tyRef Syntax.erased Syntax.mut (Syntax.tyInt Syntax.w8)) (Syntax.tcons (Syntax.tyInt Syntax.w64) Syntax.tnil))) (List._∷_ (Syntax.tyRef Syntax.erased Syntax.mut (Syntax.tyInt Syntax.w8)) (List._∷_ (Syntax.tyStruct (List._∷_ 38 (List._∷_ 91 (List._∷_ 93 List.[]))) (Syntax.tcons (Syntax.tyRef Syntax.erased Syntax.mut (Syntax.tyInt Syntax.w8)) (Syntax.tcons (Syntax.tyInt Syntax.w64) Syntax.tnil))) (List._∷_ (Syntax.tyRef Syntax.erased Syntax.imm (Syntax.tyArray ColumnMetadataRow.named 4096)) (List._∷_ (Syntax.tyStruct (List._∷_ 38 (List._∷_ 91 (List._∷_ 93 List.[]))) (Syntax.tcons (Syntax.tyRef Syntax.erased Syntax.imm ColumnMetadataRow.named) (Syntax.tcons (Syntax.tyInt Syntax.w64) Syntax.tnil))) List.[]))))))))))))))
 
 abbrev pub m : Nat.ℕ
 m = 5
@@ -205,31 +205,31 @@ abbrev pub Claims : Type 1
 Claims = Kinds.In 0 ps·0 × Kinds.Out 0 ps·0 r·0 × Kinds.In 2 ps·1 × Kinds.Out 2 ps·1 r·1 × Kinds.In 3 ps·2 × Kinds.Out 3 ps·2 r·2 × Kinds.In 3 ps·3 × Kinds.Out 3 ps·3 r·3
 
 abbrev pub t0 : List.List Row.Entry
-t0 = List._∷_ (0, Rows'.any-gone (Syntax.tyInt Syntax.w64)) (List._∷_ (1, Mut.mslice (Referent.rtF (Referent.fInt Syntax.w8)) (Syntax.tyRef (Syntax.named 0) Syntax.mut (Syntax.tyInt Syntax.w8)) 0) (List._∷_ (2, Rows'.sc-here (Row.sInt Syntax.w64)) (List._∷_ (3, Rows'.sc-here (Row.sInt Syntax.w16)) (List._∷_ (4, Rows'.sslice (Referent.rtF (Referent.fInt Syntax.w8)) (Syntax.tyRef (Syntax.named 1) Syntax.imm (Syntax.tyInt Syntax.w8)) 1) (List._∷_ (5, Mut.mslice (Referent.rtF (Referent.fInt Syntax.w8)) (Syntax.tyRef (Syntax.named 2) Syntax.mut (Syntax.tyInt Syntax.w8)) 2) (List._∷_ (6, Rows'.any-gone (ColumnMetadataRow.ty)) (List._∷_ (7, Rows'.any-gone (Syntax.tyArray (ColumnMetadataRow.ty) 4096)) (List._∷_ (8, Rows'.any-gone (Syntax.tyStruct (List._∷_ 115 (List._∷_ 113 (List._∷_ 108 (List._∷_ 100 (List._∷_ 97 (List._∷_ 114 (List._∷_ 100 (List._∷_ 58 (List._∷_ 58 (List._∷_ 83 (List._∷_ 113 (List._∷_ 108 (List._∷_ 100 (List._∷_ 97 (List._∷_ 114 (List._∷_ 100 (List._∷_ 65 (List._∷_ 110 (List._∷_ 115 (List._∷_ 119 (List._∷_ 101 (List._∷_ 114 List.[])))))))))))))))))))))) (Syntax.tcons (Syntax.tyEnum (List._∷_ 111 (List._∷_ 117 (List._∷_ 116 (List._∷_ 99 (List._∷_ 111 (List._∷_ 109 (List._∷_ 101 (List._∷_ 58 (List._∷_ 58 (List._∷_ 79 (List._∷_ 117 (List._∷_ 116 (List._∷_ 99 (List._∷_ 111 (List._∷_ 109 (List._∷_ 101 List.[])))))))))))))))) (Syntax.ttcons Syntax.tnil (Syntax.ttcons Syntax.tnil (Syntax.ttcons (Syntax.tcons (Syntax.tyInt Syntax.w64) (Syntax.tcons (Syntax.tyInt Syntax.w64) Syntax.tnil)) (Syntax.ttcons Syntax.tnil (Syntax.ttcons (Syntax.tcons (Syntax.tyInt Syntax.w16) Syntax.tnil) (Syntax.ttcons Syntax.tnil (Syntax.ttcons (Syntax.tcons (Syntax.tyInt Syntax.w64) Syntax.tnil) (Syntax.ttcons Syntax.tnil Syntax.ttnil))))))))) (Syntax.tcons (Syntax.tyStruct (List._∷_ 115 (List._∷_ 113 (List._∷_ 108 (List._∷_ 99 (List._∷_ 97 (List._∷_ 114 (List._∷_ 100 (List._∷_ 58 (List._∷_ 58 (List._∷_ 83 (List._∷_ 113 (List._∷_ 108 (List._∷_ 67 (List._∷_ 97 (List._∷_ 114 (List._∷_ 100 List.[])))))))))))))))) (Syntax.tcons Syntax.tyBool (Syntax.tcons (Syntax.tyInt Syntax.w32) (Syntax.tcons (Syntax.tyArray (Syntax.tyInt Syntax.w8) 5) (Syntax.tcons (Syntax.tyArray (Syntax.tyInt Syntax.w8) 8) (Syntax.tcons (Syntax.tyInt Syntax.w8) (Syntax.tcons (Syntax.tyArray (Syntax.tyInt Syntax.w32) 6) (Syntax.tcons (Syntax.tyInt Syntax.w64) (Syntax.tcons (Syntax.tyInt Syntax.w32) (Syntax.tcons (Syntax.tyArray (Syntax.tyInt Syntax.w8) 11) (Syntax.tcons (Syntax.tyInt Syntax.w64) (Syntax.tcons (Syntax.tyInt Syntax.w64) Syntax.tnil)))))))))))) (Syntax.tcons (Syntax.tyInt Syntax.w64) Syntax.tnil))))) (List._∷_ (9, Rows'.any-gone (Syntax.tyInt Syntax.w64)) (List._∷_ (10, Rows'.any-gone (Syntax.tyInt Syntax.w64)) (List._∷_ (11, Rows'.any-gone (Syntax.tyRef Syntax.erased Syntax.mut (Syntax.tyArray ColumnMetadataRow.named 4096))) (List._∷_ (12, Rows'.any-gone (Syntax.tyStruct (List._∷_ 38 (List._∷_ 91 (List._∷_ 93 List.[]))) (Syntax.tcons (Syntax.tyRef Syntax.erased Syntax.mut ColumnMetadataRow.named) (Syntax.tcons (Syntax.tyInt Syntax.w64) Syntax.tnil)))) (List._∷_ (13, Rows'.any-gone (Syntax.tyRef Syntax.erased Syntax.mut (Syntax.tyInt Syntax.w8))) (List._∷_ (14, Rows'.any-gone (Syntax.tyStruct (List._∷_ 38 (List._∷_ 91 (List._∷_ 93 List.[]))) (Syntax.tcons (Syntax.tyRef Syntax.erased Syntax.mut (Syntax.tyInt Syntax.w8)) (Syntax.tcons (Syntax.tyInt Syntax.w64) Syntax.tnil)))) (List._∷_ (15, Rows'.any-gone (Syntax.tyRef Syntax.erased Syntax.mut (Syntax.tyInt Syntax.w8))) List.[])))))))))))))))
+t0 = List._∷_ (0, Rows'.any-gone (Syntax.tyInt Syntax.w64)) (List._∷_ (1, Mut.mslice (Referent.rtF (Referent.fInt Syntax.w8)) (Syntax.tyRef (Syntax.named 0) Syntax.mut (Syntax.tyInt Syntax.w8)) 0) (List._∷_ (2, Rows'.sc-here (Row.sInt Syntax.w64)) (List._∷_ (3, Rows'.sc-here (Row.sInt Syntax.w16)) (List._∷_ (4, Rows'.sslice (Referent.rtF (Referent.fInt Syntax.w8)) (Syntax.tyRef (Syntax.named 1) Syntax.imm (Syntax.tyInt Syntax.w8)) 1) (List._∷_ (5, Mut.mslice (Referent.rtF (Referent.fInt Syntax.w8)) (Syntax.tyRef (Syntax.named 2) Syntax.mut (Syntax.tyInt Syntax.w8)) 2) (List._∷_ (6, Rows'.any-gone (ColumnMetadataRow.ty)) (List._∷_ (7, Rows'.any-gone (Syntax.tyArray (ColumnMetadataRow.ty) 4096)) (List._∷_ (8, Rows'.any-gone (Syntax.tyStruct (List._∷_ 115 (List._∷_ 113 (List._∷_ 108 (List._∷_ 100 (List._∷_ 97 (List._∷_ 114 (List._∷_ 100 (List._∷_ 58 (List._∷_ 58 (List._∷_ 83 (List._∷_ 113 (List._∷_ 108 (List._∷_ 100 (List._∷_ 97 (List._∷_ 114 (List._∷_ 100 (List._∷_ 65 (List._∷_ 110 (List._∷_ 115 (List._∷_ 119 (List._∷_ 101 (List._∷_ 114 List.[])))))))))))))))))))))) (Syntax.tcons (Syntax.tyEnum (List._∷_ 111 (List._∷_ 117 (List._∷_ 116 (List._∷_ 99 (List._∷_ 111 (List._∷_ 109 (List._∷_ 101 (List._∷_ 58 (List._∷_ 58 (List._∷_ 79 (List._∷_ 117 (List._∷_ 116 (List._∷_ 99 (List._∷_ 111 (List._∷_ 109 (List._∷_ 101 List.[])))))))))))))))) (Syntax.ttcons Syntax.tnil (Syntax.ttcons Syntax.tnil (Syntax.ttcons (Syntax.tcons (Syntax.tyInt Syntax.w64) (Syntax.tcons (Syntax.tyInt Syntax.w64) Syntax.tnil)) (Syntax.ttcons Syntax.tnil (Syntax.ttcons (Syntax.tcons (Syntax.tyInt Syntax.w16) Syntax.tnil) (Syntax.ttcons Syntax.tnil (Syntax.ttcons (Syntax.tcons (Syntax.tyInt Syntax.w64) Syntax.tnil) (Syntax.ttcons Syntax.tnil (Syntax.ttcons (Syntax.tcons (Syntax.tyInt Syntax.w16) Syntax.tnil) Syntax.ttnil)))))))))) (Syntax.tcons (Syntax.tyStruct (List._∷_ 115 (List._∷_ 113 (List._∷_ 108 (List._∷_ 99 (List._∷_ 97 (List._∷_ 114 (List._∷_ 100 (List._∷_ 58 (List._∷_ 58 (List._∷_ 83 (List._∷_ 113 (List._∷_ 108 (List._∷_ 67 (List._∷_ 97 (List._∷_ 114 (List._∷_ 100 List.[])))))))))))))))) (Syntax.tcons Syntax.tyBool (Syntax.tcons (Syntax.tyInt Syntax.w32) (Syntax.tcons (Syntax.tyArray (Syntax.tyInt Syntax.w8) 5) (Syntax.tcons (Syntax.tyArray (Syntax.tyInt Syntax.w8) 8) (Syntax.tcons (Syntax.tyInt Syntax.w8) (Syntax.tcons (Syntax.tyArray (Syntax.tyInt Syntax.w32) 6) (Syntax.tcons (Syntax.tyInt Syntax.w64) (Syntax.tcons (Syntax.tyInt Syntax.w32) (Syntax.tcons (Syntax.tyArray (Syntax.tyInt Syntax.w8) 11) (Syntax.tcons (Syntax.tyInt Syntax.w64) (Syntax.tcons (Syntax.tyInt Syntax.w64) Syntax.tnil)))))))))))) (Syntax.tcons (Syntax.tyInt Syntax.w64) Syntax.tnil))))) (List._∷_ (9, Rows'.any-gone (Syntax.tyInt Syntax.w64)) (List._∷_ (10, Rows'.any-gone (Syntax.tyInt Syntax.w64)) (List._∷_ (11, Rows'.any-gone (Syntax.tyRef Syntax.erased Syntax.mut (Syntax.tyArray ColumnMetadataRow.named 4096))) (List._∷_ (12, Rows'.any-gone (Syntax.tyStruct (List._∷_ 38 (List._∷_ 91 (List._∷_ 93 List.[]))) (Syntax.tcons (Syntax.tyRef Syntax.erased Syntax.mut ColumnMetadataRow.named) (Syntax.tcons (Syntax.tyInt Syntax.w64) Syntax.tnil)))) (List._∷_ (13, Rows'.any-gone (Syntax.tyRef Syntax.erased Syntax.mut (Syntax.tyInt Syntax.w8))) (List._∷_ (14, Rows'.any-gone (Syntax.tyStruct (List._∷_ 38 (List._∷_ 91 (List._∷_ 93 List.[]))) (Syntax.tcons (Syntax.tyRef Syntax.erased Syntax.mut (Syntax.tyInt Syntax.w8)) (Syntax.tcons (Syntax.tyInt Syntax.w64) Syntax.tnil)))) (List._∷_ (15, Rows'.any-gone (Syntax.tyRef Syntax.erased Syntax.mut (Syntax.tyInt Syntax.w8))) List.[])))))))))))))))
 
 abbrev pub t1 : List.List Row.Entry
 t1 = List._∷_ (16, Rows'.any-gone (Syntax.tyStruct (List._∷_ 38 (List._∷_ 91 (List._∷_ 93 List.[]))) (Syntax.tcons (Syntax.tyRef Syntax.erased Syntax.mut (Syntax.tyInt Syntax.w8)) (Syntax.tcons (Syntax.tyInt Syntax.w64) Syntax.tnil)))) (List._∷_ (17, Rows'.any-gone (Syntax.tyRef Syntax.erased Syntax.mut (Syntax.tyInt Syntax.w8))) (List._∷_ (18, Rows'.any-gone (Syntax.tyStruct (List._∷_ 38 (List._∷_ 91 (List._∷_ 93 List.[]))) (Syntax.tcons (Syntax.tyRef Syntax.erased Syntax.mut (Syntax.tyInt Syntax.w8)) (Syntax.tcons (Syntax.tyInt Syntax.w64) Syntax.tnil)))) (List._∷_ (19, Rows'.any-gone (Syntax.tyRef Syntax.erased Syntax.imm (Syntax.tyArray ColumnMetadataRow.named 4096))) (List._∷_ (20, Rows'.any-gone (Syntax.tyStruct (List._∷_ 38 (List._∷_ 91 (List._∷_ 93 List.[]))) (Syntax.tcons (Syntax.tyRef Syntax.erased Syntax.imm ColumnMetadataRow.named) (Syntax.tcons (Syntax.tyInt Syntax.w64) Syntax.tnil)))) List.[]))))
 
 abbrev pub t2 : List.List Row.Entry
-t2 = List._∷_ (0, Rows'.sc-here (Row.sInt Syntax.w64)) (List._∷_ (1, Mut.mslice (Referent.rtF (Referent.fInt Syntax.w8)) (Syntax.tyRef (Syntax.named 0) Syntax.mut (Syntax.tyInt Syntax.w8)) 0) (List._∷_ (2, Rows'.any-gone (Syntax.tyInt Syntax.w64)) (List._∷_ (3, Rows'.any-gone (Syntax.tyInt Syntax.w16)) (List._∷_ (4, Rows'.sslice (Referent.rtF (Referent.fInt Syntax.w8)) (Syntax.tyRef (Syntax.named 1) Syntax.imm (Syntax.tyInt Syntax.w8)) 1) (List._∷_ (5, Mut.mslice (Referent.rtF (Referent.fInt Syntax.w8)) (Syntax.tyRef (Syntax.named 2) Syntax.mut (Syntax.tyInt Syntax.w8)) 2) (List._∷_ (6, Rows'.any-gone (ColumnMetadataRow.ty)) (List._∷_ (7, Rows'.any-gone (Syntax.tyArray (ColumnMetadataRow.ty) 4096)) (List._∷_ (8, Rows'.any-gone (Syntax.tyStruct (List._∷_ 115 (List._∷_ 113 (List._∷_ 108 (List._∷_ 100 (List._∷_ 97 (List._∷_ 114 (List._∷_ 100 (List._∷_ 58 (List._∷_ 58 (List._∷_ 83 (List._∷_ 113 (List._∷_ 108 (List._∷_ 100 (List._∷_ 97 (List._∷_ 114 (List._∷_ 100 (List._∷_ 65 (List._∷_ 110 (List._∷_ 115 (List._∷_ 119 (List._∷_ 101 (List._∷_ 114 List.[])))))))))))))))))))))) (Syntax.tcons (Syntax.tyEnum (List._∷_ 111 (List._∷_ 117 (List._∷_ 116 (List._∷_ 99 (List._∷_ 111 (List._∷_ 109 (List._∷_ 101 (List._∷_ 58 (List._∷_ 58 (List._∷_ 79 (List._∷_ 117 (List._∷_ 116 (List._∷_ 99 (List._∷_ 111 (List._∷_ 109 (List._∷_ 101 List.[])))))))))))))))) (Syntax.ttcons Syntax.tnil (Syntax.ttcons Syntax.tnil (Syntax.ttcons (Syntax.tcons (Syntax.tyInt Syntax.w64) (Syntax.tcons (Syntax.tyInt Syntax.w64) Syntax.tnil)) (Syntax.ttcons Syntax.tnil (Syntax.ttcons (Syntax.tcons (Syntax.tyInt Syntax.w16) Syntax.tnil) (Syntax.ttcons Syntax.tnil (Syntax.ttcons (Syntax.tcons (Syntax.tyInt Syntax.w64) Syntax.tnil) (Syntax.ttcons Syntax.tnil Syntax.ttnil))))))))) (Syntax.tcons (Syntax.tyStruct (List._∷_ 115 (List._∷_ 113 (List._∷_ 108 (List._∷_ 99 (List._∷_ 97 (List._∷_ 114 (List._∷_ 100 (List._∷_ 58 (List._∷_ 58 (List._∷_ 83 (List._∷_ 113 (List._∷_ 108 (List._∷_ 67 (List._∷_ 97 (List._∷_ 114 (List._∷_ 100 List.[])))))))))))))))) (Syntax.tcons Syntax.tyBool (Syntax.tcons (Syntax.tyInt Syntax.w32) (Syntax.tcons (Syntax.tyArray (Syntax.tyInt Syntax.w8) 5) (Syntax.tcons (Syntax.tyArray (Syntax.tyInt Syntax.w8) 8) (Syntax.tcons (Syntax.tyInt Syntax.w8) (Syntax.tcons (Syntax.tyArray (Syntax.tyInt Syntax.w32) 6) (Syntax.tcons (Syntax.tyInt Syntax.w64) (Syntax.tcons (Syntax.tyInt Syntax.w32) (Syntax.tcons (Syntax.tyArray (Syntax.tyInt Syntax.w8) 11) (Syntax.tcons (Syntax.tyInt Syntax.w64) (Syntax.tcons (Syntax.tyInt Syntax.w64) Syntax.tnil)))))))))))) (Syntax.tcons (Syntax.tyInt Syntax.w64) Syntax.tnil))))) (List._∷_ (9, Rows'.any-gone (Syntax.tyInt Syntax.w64)) (List._∷_ (10, Rows'.any-gone (Syntax.tyInt Syntax.w64)) (List._∷_ (11, Rows'.any-gone (Syntax.tyRef Syntax.erased Syntax.mut (Syntax.tyArray ColumnMetadataRow.named 4096))) (List._∷_ (12, Rows'.any-gone (Syntax.tyStruct (List._∷_ 38 (List._∷_ 91 (List._∷_ 93 List.[]))) (Syntax.tcons (Syntax.tyRef Syntax.erased Syntax.mut ColumnMetadataRow.named) (Syntax.tcons (Syntax.tyInt Syntax.w64) Syntax.tnil)))) (List._∷_ (13, Rows'.any-gone (Syntax.tyRef Syntax.erased Syntax.mut (Syntax.tyInt Syntax.w8))) (List._∷_ (14, Rows'.any-gone (Syntax.tyStruct (List._∷_ 38 (List._∷_ 91 (List._∷_ 93 List.[]))) (Syntax.tcons (Syntax.tyRef Syntax.erased Syntax.mut (Syntax.tyInt Syntax.w8)) (Syntax.tcons (Syntax.tyInt Syntax.w64) Syntax.tnil)))) (List._∷_ (15, Rows'.any-gone (Syntax.tyRef Syntax.erased Syntax.mut (Syntax.tyInt Syntax.w8))) List.[])))))))))))))))
+t2 = List._∷_ (0, Rows'.sc-here (Row.sInt Syntax.w64)) (List._∷_ (1, Mut.mslice (Referent.rtF (Referent.fInt Syntax.w8)) (Syntax.tyRef (Syntax.named 0) Syntax.mut (Syntax.tyInt Syntax.w8)) 0) (List._∷_ (2, Rows'.any-gone (Syntax.tyInt Syntax.w64)) (List._∷_ (3, Rows'.any-gone (Syntax.tyInt Syntax.w16)) (List._∷_ (4, Rows'.sslice (Referent.rtF (Referent.fInt Syntax.w8)) (Syntax.tyRef (Syntax.named 1) Syntax.imm (Syntax.tyInt Syntax.w8)) 1) (List._∷_ (5, Mut.mslice (Referent.rtF (Referent.fInt Syntax.w8)) (Syntax.tyRef (Syntax.named 2) Syntax.mut (Syntax.tyInt Syntax.w8)) 2) (List._∷_ (6, Rows'.any-gone (ColumnMetadataRow.ty)) (List._∷_ (7, Rows'.any-gone (Syntax.tyArray (ColumnMetadataRow.ty) 4096)) (List._∷_ (8, Rows'.any-gone (Syntax.tyStruct (List._∷_ 115 (List._∷_ 113 (List._∷_ 108 (List._∷_ 100 (List._∷_ 97 (List._∷_ 114 (List._∷_ 100 (List._∷_ 58 (List._∷_ 58 (List._∷_ 83 (List._∷_ 113 (List._∷_ 108 (List._∷_ 100 (List._∷_ 97 (List._∷_ 114 (List._∷_ 100 (List._∷_ 65 (List._∷_ 110 (List._∷_ 115 (List._∷_ 119 (List._∷_ 101 (List._∷_ 114 List.[])))))))))))))))))))))) (Syntax.tcons (Syntax.tyEnum (List._∷_ 111 (List._∷_ 117 (List._∷_ 116 (List._∷_ 99 (List._∷_ 111 (List._∷_ 109 (List._∷_ 101 (List._∷_ 58 (List._∷_ 58 (List._∷_ 79 (List._∷_ 117 (List._∷_ 116 (List._∷_ 99 (List._∷_ 111 (List._∷_ 109 (List._∷_ 101 List.[])))))))))))))))) (Syntax.ttcons Syntax.tnil (Syntax.ttcons Syntax.tnil (Syntax.ttcons (Syntax.tcons (Syntax.tyInt Syntax.w64) (Syntax.tcons (Syntax.tyInt Syntax.w64) Syntax.tnil)) (Syntax.ttcons Syntax.tnil (Syntax.ttcons (Syntax.tcons (Syntax.tyInt Syntax.w16) Syntax.tnil) (Syntax.ttcons Syntax.tnil (Syntax.ttcons (Syntax.tcons (Syntax.tyInt Syntax.w64) Syntax.tnil) (Syntax.ttcons Syntax.tnil (Syntax.ttcons (Syntax.tcons (Syntax.tyInt Syntax.w16) Syntax.tnil) Syntax.ttnil)))))))))) (Syntax.tcons (Syntax.tyStruct (List._∷_ 115 (List._∷_ 113 (List._∷_ 108 (List._∷_ 99 (List._∷_ 97 (List._∷_ 114 (List._∷_ 100 (List._∷_ 58 (List._∷_ 58 (List._∷_ 83 (List._∷_ 113 (List._∷_ 108 (List._∷_ 67 (List._∷_ 97 (List._∷_ 114 (List._∷_ 100 List.[])))))))))))))))) (Syntax.tcons Syntax.tyBool (Syntax.tcons (Syntax.tyInt Syntax.w32) (Syntax.tcons (Syntax.tyArray (Syntax.tyInt Syntax.w8) 5) (Syntax.tcons (Syntax.tyArray (Syntax.tyInt Syntax.w8) 8) (Syntax.tcons (Syntax.tyInt Syntax.w8) (Syntax.tcons (Syntax.tyArray (Syntax.tyInt Syntax.w32) 6) (Syntax.tcons (Syntax.tyInt Syntax.w64) (Syntax.tcons (Syntax.tyInt Syntax.w32) (Syntax.tcons (Syntax.tyArray (Syntax.tyInt Syntax.w8) 11) (Syntax.tcons (Syntax.tyInt Syntax.w64) (Syntax.tcons (Syntax.tyInt Syntax.w64) Syntax.tnil)))))))))))) (Syntax.tcons (Syntax.tyInt Syntax.w64) Syntax.tnil))))) (List._∷_ (9, Rows'.any-gone (Syntax.tyInt Syntax.w64)) (List._∷_ (10, Rows'.any-gone (Syntax.tyInt Syntax.w64)) (List._∷_ (11, Rows'.any-gone (Syntax.tyRef Syntax.erased Syntax.mut (Syntax.tyArray ColumnMetadataRow.named 4096))) (List._∷_ (12, Rows'.any-gone (Syntax.tyStruct (List._∷_ 38 (List._∷_ 91 (List._∷_ 93 List.[]))) (Syntax.tcons (Syntax.tyRef Syntax.erased Syntax.mut ColumnMetadataRow.named) (Syntax.tcons (Syntax.tyInt Syntax.w64) Syntax.tnil)))) (List._∷_ (13, Rows'.any-gone (Syntax.tyRef Syntax.erased Syntax.mut (Syntax.tyInt Syntax.w8))) (List._∷_ (14, Rows'.any-gone (Syntax.tyStruct (List._∷_ 38 (List._∷_ 91 (List._∷_ 93 List.[]))) (Syntax.tcons (Syntax.tyRef Syntax.erased Syntax.mut (Syntax.tyInt Syntax.w8)) (Syntax.tcons (Syntax.tyInt Syntax.w64) Syntax.tnil)))) (List._∷_ (15, Rows'.any-gone (Syntax.tyRef Syntax.erased Syntax.mut (Syntax.tyInt Syntax.w8))) List.[])))))))))))))))
 
 abbrev pub t3 : List.List Row.Entry
-t3 = List._∷_ (0, Rows'.any-gone (Syntax.tyInt Syntax.w64)) (List._∷_ (1, Mut.mslice (Referent.rtF (Referent.fInt Syntax.w8)) (Syntax.tyRef (Syntax.named 0) Syntax.mut (Syntax.tyInt Syntax.w8)) 0) (List._∷_ (2, Rows'.sc-here (Row.sInt Syntax.w64)) (List._∷_ (3, Rows'.sc-here (Row.sInt Syntax.w16)) (List._∷_ (4, Rows'.sslice (Referent.rtF (Referent.fInt Syntax.w8)) (Syntax.tyRef (Syntax.named 1) Syntax.imm (Syntax.tyInt Syntax.w8)) 1) (List._∷_ (5, Mut.mslice (Referent.rtF (Referent.fInt Syntax.w8)) (Syntax.tyRef (Syntax.named 2) Syntax.mut (Syntax.tyInt Syntax.w8)) 2) (List._∷_ (6, ColumnMetadataRow.row) (List._∷_ (7, Rows'.any-gone (Syntax.tyArray (ColumnMetadataRow.ty) 4096)) (List._∷_ (8, Rows'.any-gone (Syntax.tyStruct (List._∷_ 115 (List._∷_ 113 (List._∷_ 108 (List._∷_ 100 (List._∷_ 97 (List._∷_ 114 (List._∷_ 100 (List._∷_ 58 (List._∷_ 58 (List._∷_ 83 (List._∷_ 113 (List._∷_ 108 (List._∷_ 100 (List._∷_ 97 (List._∷_ 114 (List._∷_ 100 (List._∷_ 65 (List._∷_ 110 (List._∷_ 115 (List._∷_ 119 (List._∷_ 101 (List._∷_ 114 List.[])))))))))))))))))))))) (Syntax.tcons (Syntax.tyEnum (List._∷_ 111 (List._∷_ 117 (List._∷_ 116 (List._∷_ 99 (List._∷_ 111 (List._∷_ 109 (List._∷_ 101 (List._∷_ 58 (List._∷_ 58 (List._∷_ 79 (List._∷_ 117 (List._∷_ 116 (List._∷_ 99 (List._∷_ 111 (List._∷_ 109 (List._∷_ 101 List.[])))))))))))))))) (Syntax.ttcons Syntax.tnil (Syntax.ttcons Syntax.tnil (Syntax.ttcons (Syntax.tcons (Syntax.tyInt Syntax.w64) (Syntax.tcons (Syntax.tyInt Syntax.w64) Syntax.tnil)) (Syntax.ttcons Syntax.tnil (Syntax.ttcons (Syntax.tcons (Syntax.tyInt Syntax.w16) Syntax.tnil) (Syntax.ttcons Syntax.tnil (Syntax.ttcons (Syntax.tcons (Syntax.tyInt Syntax.w64) Syntax.tnil) (Syntax.ttcons Syntax.tnil Syntax.ttnil))))))))) (Syntax.tcons (Syntax.tyStruct (List._∷_ 115 (List._∷_ 113 (List._∷_ 108 (List._∷_ 99 (List._∷_ 97 (List._∷_ 114 (List._∷_ 100 (List._∷_ 58 (List._∷_ 58 (List._∷_ 83 (List._∷_ 113 (List._∷_ 108 (List._∷_ 67 (List._∷_ 97 (List._∷_ 114 (List._∷_ 100 List.[])))))))))))))))) (Syntax.tcons Syntax.tyBool (Syntax.tcons (Syntax.tyInt Syntax.w32) (Syntax.tcons (Syntax.tyArray (Syntax.tyInt Syntax.w8) 5) (Syntax.tcons (Syntax.tyArray (Syntax.tyInt Syntax.w8) 8) (Syntax.tcons (Syntax.tyInt Syntax.w8) (Syntax.tcons (Syntax.tyArray (Syntax.tyInt Syntax.w32) 6) (Syntax.tcons (Syntax.tyInt Syntax.w64) (Syntax.tcons (Syntax.tyInt Syntax.w32) (Syntax.tcons (Syntax.tyArray (Syntax.tyInt Syntax.w8) 11) (Syntax.tcons (Syntax.tyInt Syntax.w64) (Syntax.tcons (Syntax.tyInt Syntax.w64) Syntax.tnil)))))))))))) (Syntax.tcons (Syntax.tyInt Syntax.w64) Syntax.tnil))))) (List._∷_ (9, Rows'.any-gone (Syntax.tyInt Syntax.w64)) (List._∷_ (10, Rows'.any-gone (Syntax.tyInt Syntax.w64)) (List._∷_ (11, Rows'.any-gone (Syntax.tyRef Syntax.erased Syntax.mut (Syntax.tyArray ColumnMetadataRow.named 4096))) (List._∷_ (12, Rows'.any-gone (Syntax.tyStruct (List._∷_ 38 (List._∷_ 91 (List._∷_ 93 List.[]))) (Syntax.tcons (Syntax.tyRef Syntax.erased Syntax.mut ColumnMetadataRow.named) (Syntax.tcons (Syntax.tyInt Syntax.w64) Syntax.tnil)))) (List._∷_ (13, Rows'.any-gone (Syntax.tyRef Syntax.erased Syntax.mut (Syntax.tyInt Syntax.w8))) (List._∷_ (14, Rows'.any-gone (Syntax.tyStruct (List._∷_ 38 (List._∷_ 91 (List._∷_ 93 List.[]))) (Syntax.tcons (Syntax.tyRef Syntax.erased Syntax.mut (Syntax.tyInt Syntax.w8)) (Syntax.tcons (Syntax.tyInt Syntax.w64) Syntax.tnil)))) (List._∷_ (15, Rows'.any-gone (Syntax.tyRef Syntax.erased Syntax.mut (Syntax.tyInt Syntax.w8))) List.[])))))))))))))))
+t3 = List._∷_ (0, Rows'.any-gone (Syntax.tyInt Syntax.w64)) (List._∷_ (1, Mut.mslice (Referent.rtF (Referent.fInt Syntax.w8)) (Syntax.tyRef (Syntax.named 0) Syntax.mut (Syntax.tyInt Syntax.w8)) 0) (List._∷_ (2, Rows'.sc-here (Row.sInt Syntax.w64)) (List._∷_ (3, Rows'.sc-here (Row.sInt Syntax.w16)) (List._∷_ (4, Rows'.sslice (Referent.rtF (Referent.fInt Syntax.w8)) (Syntax.tyRef (Syntax.named 1) Syntax.imm (Syntax.tyInt Syntax.w8)) 1) (List._∷_ (5, Mut.mslice (Referent.rtF (Referent.fInt Syntax.w8)) (Syntax.tyRef (Syntax.named 2) Syntax.mut (Syntax.tyInt Syntax.w8)) 2) (List._∷_ (6, ColumnMetadataRow.row) (List._∷_ (7, Rows'.any-gone (Syntax.tyArray (ColumnMetadataRow.ty) 4096)) (List._∷_ (8, Rows'.any-gone (Syntax.tyStruct (List._∷_ 115 (List._∷_ 113 (List._∷_ 108 (List._∷_ 100 (List._∷_ 97 (List._∷_ 114 (List._∷_ 100 (List._∷_ 58 (List._∷_ 58 (List._∷_ 83 (List._∷_ 113 (List._∷_ 108 (List._∷_ 100 (List._∷_ 97 (List._∷_ 114 (List._∷_ 100 (List._∷_ 65 (List._∷_ 110 (List._∷_ 115 (List._∷_ 119 (List._∷_ 101 (List._∷_ 114 List.[])))))))))))))))))))))) (Syntax.tcons (Syntax.tyEnum (List._∷_ 111 (List._∷_ 117 (List._∷_ 116 (List._∷_ 99 (List._∷_ 111 (List._∷_ 109 (List._∷_ 101 (List._∷_ 58 (List._∷_ 58 (List._∷_ 79 (List._∷_ 117 (List._∷_ 116 (List._∷_ 99 (List._∷_ 111 (List._∷_ 109 (List._∷_ 101 List.[])))))))))))))))) (Syntax.ttcons Syntax.tnil (Syntax.ttcons Syntax.tnil (Syntax.ttcons (Syntax.tcons (Syntax.tyInt Syntax.w64) (Syntax.tcons (Syntax.tyInt Syntax.w64) Syntax.tnil)) (Syntax.ttcons Syntax.tnil (Syntax.ttcons (Syntax.tcons (Syntax.tyInt Syntax.w16) Syntax.tnil) (Syntax.ttcons Syntax.tnil (Syntax.ttcons (Syntax.tcons (Syntax.tyInt Syntax.w64) Syntax.tnil) (Syntax.ttcons Syntax.tnil (Syntax.ttcons (Syntax.tcons (Syntax.tyInt Syntax.w16) Syntax.tnil) Syntax.ttnil)))))))))) (Syntax.tcons (Syntax.tyStruct (List._∷_ 115 (List._∷_ 113 (List._∷_ 108 (List._∷_ 99 (List._∷_ 97 (List._∷_ 114 (List._∷_ 100 (List._∷_ 58 (List._∷_ 58 (List._∷_ 83 (List._∷_ 113 (List._∷_ 108 (List._∷_ 67 (List._∷_ 97 (List._∷_ 114 (List._∷_ 100 List.[])))))))))))))))) (Syntax.tcons Syntax.tyBool (Syntax.tcons (Syntax.tyInt Syntax.w32) (Syntax.tcons (Syntax.tyArray (Syntax.tyInt Syntax.w8) 5) (Syntax.tcons (Syntax.tyArray (Syntax.tyInt Syntax.w8) 8) (Syntax.tcons (Syntax.tyInt Syntax.w8) (Syntax.tcons (Syntax.tyArray (Syntax.tyInt Syntax.w32) 6) (Syntax.tcons (Syntax.tyInt Syntax.w64) (Syntax.tcons (Syntax.tyInt Syntax.w32) (Syntax.tcons (Syntax.tyArray (Syntax.tyInt Syntax.w8) 11) (Syntax.tcons (Syntax.tyInt Syntax.w64) (Syntax.tcons (Syntax.tyInt Syntax.w64) Syntax.tnil)))))))))))) (Syntax.tcons (Syntax.tyInt Syntax.w64) Syntax.tnil))))) (List._∷_ (9, Rows'.any-gone (Syntax.tyInt Syntax.w64)) (List._∷_ (10, Rows'.any-gone (Syntax.tyInt Syntax.w64)) (List._∷_ (11, Rows'.any-gone (Syntax.tyRef Syntax.erased Syntax.mut (Syntax.tyArray ColumnMetadataRow.named 4096))) (List._∷_ (12, Rows'.any-gone (Syntax.tyStruct (List._∷_ 38 (List._∷_ 91 (List._∷_ 93 List.[]))) (Syntax.tcons (Syntax.tyRef Syntax.erased Syntax.mut ColumnMetadataRow.named) (Syntax.tcons (Syntax.tyInt Syntax.w64) Syntax.tnil)))) (List._∷_ (13, Rows'.any-gone (Syntax.tyRef Syntax.erased Syntax.mut (Syntax.tyInt Syntax.w8))) (List._∷_ (14, Rows'.any-gone (Syntax.tyStruct (List._∷_ 38 (List._∷_ 91 (List._∷_ 93 List.[]))) (Syntax.tcons (Syntax.tyRef Syntax.erased Syntax.mut (Syntax.tyInt Syntax.w8)) (Syntax.tcons (Syntax.tyInt Syntax.w64) Syntax.tnil)))) (List._∷_ (15, Rows'.any-gone (Syntax.tyRef Syntax.erased Syntax.mut (Syntax.tyInt Syntax.w8))) List.[])))))))))))))))
 
 abbrev pub t4 : List.List Row.Entry
-t4 = List._∷_ (0, Rows'.any-gone (Syntax.tyInt Syntax.w64)) (List._∷_ (1, Mut.mslice (Referent.rtF (Referent.fInt Syntax.w8)) (Syntax.tyRef (Syntax.named 0) Syntax.mut (Syntax.tyInt Syntax.w8)) 0) (List._∷_ (2, Rows'.sc-here (Row.sInt Syntax.w64)) (List._∷_ (3, Rows'.sc-here (Row.sInt Syntax.w16)) (List._∷_ (4, Rows'.sslice (Referent.rtF (Referent.fInt Syntax.w8)) (Syntax.tyRef (Syntax.named 1) Syntax.imm (Syntax.tyInt Syntax.w8)) 1) (List._∷_ (5, Mut.mslice (Referent.rtF (Referent.fInt Syntax.w8)) (Syntax.tyRef (Syntax.named 2) Syntax.mut (Syntax.tyInt Syntax.w8)) 2) (List._∷_ (6, ColumnMetadataRow.row) (List._∷_ (7, Rows'.whole (Array'.Array (ColumnMetadataRow.RT) 4096)) (List._∷_ (8, Rows'.any-gone (Syntax.tyStruct (List._∷_ 115 (List._∷_ 113 (List._∷_ 108 (List._∷_ 100 (List._∷_ 97 (List._∷_ 114 (List._∷_ 100 (List._∷_ 58 (List._∷_ 58 (List._∷_ 83 (List._∷_ 113 (List._∷_ 108 (List._∷_ 100 (List._∷_ 97 (List._∷_ 114 (List._∷_ 100 (List._∷_ 65 (List._∷_ 110 (List._∷_ 115 (List._∷_ 119 (List._∷_ 101 (List._∷_ 114 List.[])))))))))))))))))))))) (Syntax.tcons (Syntax.tyEnum (List._∷_ 111 (List._∷_ 117 (List._∷_ 116 (List._∷_ 99 (List._∷_ 111 (List._∷_ 109 (List._∷_ 101 (List._∷_ 58 (List._∷_ 58 (List._∷_ 79 (List._∷_ 117 (List._∷_ 116 (List._∷_ 99 (List._∷_ 111 (List._∷_ 109 (List._∷_ 101 List.[])))))))))))))))) (Syntax.ttcons Syntax.tnil (Syntax.ttcons Syntax.tnil (Syntax.ttcons (Syntax.tcons (Syntax.tyInt Syntax.w64) (Syntax.tcons (Syntax.tyInt Syntax.w64) Syntax.tnil)) (Syntax.ttcons Syntax.tnil (Syntax.ttcons (Syntax.tcons (Syntax.tyInt Syntax.w16) Syntax.tnil) (Syntax.ttcons Syntax.tnil (Syntax.ttcons (Syntax.tcons (Syntax.tyInt Syntax.w64) Syntax.tnil) (Syntax.ttcons Syntax.tnil Syntax.ttnil))))))))) (Syntax.tcons (Syntax.tyStruct (List._∷_ 115 (List._∷_ 113 (List._∷_ 108 (List._∷_ 99 (List._∷_ 97 (List._∷_ 114 (List._∷_ 100 (List._∷_ 58 (List._∷_ 58 (List._∷_ 83 (List._∷_ 113 (List._∷_ 108 (List._∷_ 67 (List._∷_ 97 (List._∷_ 114 (List._∷_ 100 List.[])))))))))))))))) (Syntax.tcons Syntax.tyBool (Syntax.tcons (Syntax.tyInt Syntax.w32) (Syntax.tcons (Syntax.tyArray (Syntax.tyInt Syntax.w8) 5) (Syntax.tcons (Syntax.tyArray (Syntax.tyInt Syntax.w8) 8) (Syntax.tcons (Syntax.tyInt Syntax.w8) (Syntax.tcons (Syntax.tyArray (Syntax.tyInt Syntax.w32) 6) (Syntax.tcons (Syntax.tyInt Syntax.w64) (Syntax.tcons (Syntax.tyInt Syntax.w32) (Syntax.tcons (Syntax.tyArray (Syntax.tyInt Syntax.w8) 11) (Syntax.tcons (Syntax.tyInt Syntax.w64) (Syntax.tcons (Syntax.tyInt Syntax.w64) Syntax.tnil)))))))))))) (Syntax.tcons (Syntax.tyInt Syntax.w64) Syntax.tnil))))) (List._∷_ (9, Rows'.any-gone (Syntax.tyInt Syntax.w64)) (List._∷_ (10, Rows'.any-gone (Syntax.tyInt Syntax.w64)) (List._∷_ (11, Rows'.any-gone (Syntax.tyRef Syntax.erased Syntax.mut (Syntax.tyArray ColumnMetadataRow.named 4096))) (List._∷_ (12, Rows'.any-gone (Syntax.tyStruct (List._∷_ 38 (List._∷_ 91 (List._∷_ 93 List.[]))) (Syntax.tcons (Syntax.tyRef Syntax.erased Syntax.mut ColumnMetadataRow.named) (Syntax.tcons (Syntax.tyInt Syntax.w64) Syntax.tnil)))) (List._∷_ (13, Rows'.any-gone (Syntax.tyRef Syntax.erased Syntax.mut (Syntax.tyInt Syntax.w8))) (List._∷_ (14, Rows'.any-gone (Syntax.tyStruct (List._∷_ 38 (List._∷_ 91 (List._∷_ 93 List.[]))) (Syntax.tcons (Syntax.tyRef Syntax.erased Syntax.mut (Syntax.tyInt Syntax.w8)) (Syntax.tcons (Syntax.tyInt Syntax.w64) Syntax.tnil)))) (List._∷_ (15, Rows'.any-gone (Syntax.tyRef Syntax.erased Syntax.mut (Syntax.tyInt Syntax.w8))) List.[])))))))))))))))
+t4 = List._∷_ (0, Rows'.any-gone (Syntax.tyInt Syntax.w64)) (List._∷_ (1, Mut.mslice (Referent.rtF (Referent.fInt Syntax.w8)) (Syntax.tyRef (Syntax.named 0) Syntax.mut (Syntax.tyInt Syntax.w8)) 0) (List._∷_ (2, Rows'.sc-here (Row.sInt Syntax.w64)) (List._∷_ (3, Rows'.sc-here (Row.sInt Syntax.w16)) (List._∷_ (4, Rows'.sslice (Referent.rtF (Referent.fInt Syntax.w8)) (Syntax.tyRef (Syntax.named 1) Syntax.imm (Syntax.tyInt Syntax.w8)) 1) (List._∷_ (5, Mut.mslice (Referent.rtF (Referent.fInt Syntax.w8)) (Syntax.tyRef (Syntax.named 2) Syntax.mut (Syntax.tyInt Syntax.w8)) 2) (List._∷_ (6, ColumnMetadataRow.row) (List._∷_ (7, Rows'.whole (Array'.Array (ColumnMetadataRow.RT) 4096)) (List._∷_ (8, Rows'.any-gone (Syntax.tyStruct (List._∷_ 115 (List._∷_ 113 (List._∷_ 108 (List._∷_ 100 (List._∷_ 97 (List._∷_ 114 (List._∷_ 100 (List._∷_ 58 (List._∷_ 58 (List._∷_ 83 (List._∷_ 113 (List._∷_ 108 (List._∷_ 100 (List._∷_ 97 (List._∷_ 114 (List._∷_ 100 (List._∷_ 65 (List._∷_ 110 (List._∷_ 115 (List._∷_ 119 (List._∷_ 101 (List._∷_ 114 List.[])))))))))))))))))))))) (Syntax.tcons (Syntax.tyEnum (List._∷_ 111 (List._∷_ 117 (List._∷_ 116 (List._∷_ 99 (List._∷_ 111 (List._∷_ 109 (List._∷_ 101 (List._∷_ 58 (List._∷_ 58 (List._∷_ 79 (List._∷_ 117 (List._∷_ 116 (List._∷_ 99 (List._∷_ 111 (List._∷_ 109 (List._∷_ 101 List.[])))))))))))))))) (Syntax.ttcons Syntax.tnil (Syntax.ttcons Syntax.tnil (Syntax.ttcons (Syntax.tcons (Syntax.tyInt Syntax.w64) (Syntax.tcons (Syntax.tyInt Syntax.w64) Syntax.tnil)) (Syntax.ttcons Syntax.tnil (Syntax.ttcons (Syntax.tcons (Syntax.tyInt Syntax.w16) Syntax.tnil) (Syntax.ttcons Syntax.tnil (Syntax.ttcons (Syntax.tcons (Syntax.tyInt Syntax.w64) Syntax.tnil) (Syntax.ttcons Syntax.tnil (Syntax.ttcons (Syntax.tcons (Syntax.tyInt Syntax.w16) Syntax.tnil) Syntax.ttnil)))))))))) (Syntax.tcons (Syntax.tyStruct (List._∷_ 115 (List._∷_ 113 (List._∷_ 108 (List._∷_ 99 (List._∷_ 97 (List._∷_ 114 (List._∷_ 100 (List._∷_ 58 (List._∷_ 58 (List._∷_ 83 (List._∷_ 113 (List._∷_ 108 (List._∷_ 67 (List._∷_ 97 (List._∷_ 114 (List._∷_ 100 List.[])))))))))))))))) (Syntax.tcons Syntax.tyBool (Syntax.tcons (Syntax.tyInt Syntax.w32) (Syntax.tcons (Syntax.tyArray (Syntax.tyInt Syntax.w8) 5) (Syntax.tcons (Syntax.tyArray (Syntax.tyInt Syntax.w8) 8) (Syntax.tcons (Syntax.tyInt Syntax.w8) (Syntax.tcons (Syntax.tyArray (Syntax.tyInt Syntax.w32) 6) (Syntax.tcons (Syntax.tyInt Syntax.w64) (Syntax.tcons (Syntax.tyInt Syntax.w32) (Syntax.tcons (Syntax.tyArray (Syntax.tyInt Syntax.w8) 11) (Syntax.tcons (Syntax.tyInt Syntax.w64) (Syntax.tcons (Syntax.tyInt Syntax.w64) Syntax.tnil)))))))))))) (Syntax.tcons (Syntax.tyInt Syntax.w64) Syntax.tnil))))) (List._∷_ (9, Rows'.any-gone (Syntax.tyInt Syntax.w64)) (List._∷_ (10, Rows'.any-gone (Syntax.tyInt Syntax.w64)) (List._∷_ (11, Rows'.any-gone (Syntax.tyRef Syntax.erased Syntax.mut (Syntax.tyArray ColumnMetadataRow.named 4096))) (List._∷_ (12, Rows'.any-gone (Syntax.tyStruct (List._∷_ 38 (List._∷_ 91 (List._∷_ 93 List.[]))) (Syntax.tcons (Syntax.tyRef Syntax.erased Syntax.mut ColumnMetadataRow.named) (Syntax.tcons (Syntax.tyInt Syntax.w64) Syntax.tnil)))) (List._∷_ (13, Rows'.any-gone (Syntax.tyRef Syntax.erased Syntax.mut (Syntax.tyInt Syntax.w8))) (List._∷_ (14, Rows'.any-gone (Syntax.tyStruct (List._∷_ 38 (List._∷_ 91 (List._∷_ 93 List.[]))) (Syntax.tcons (Syntax.tyRef Syntax.erased Syntax.mut (Syntax.tyInt Syntax.w8)) (Syntax.tcons (Syntax.tyInt Syntax.w64) Syntax.tnil)))) (List._∷_ (15, Rows'.any-gone (Syntax.tyRef Syntax.erased Syntax.mut (Syntax.tyInt Syntax.w8))) List.[])))))))))))))))
 
 abbrev pub t5 : List.List Row.Entry
-t5 = List._∷_ (0, Rows'.any-gone (Syntax.tyInt Syntax.w64)) (List._∷_ (1, Mut.mslice (Referent.rtF (Referent.fInt Syntax.w8)) (Syntax.tyRef (Syntax.named 0) Syntax.mut (Syntax.tyInt Syntax.w8)) 0) (List._∷_ (2, Rows'.sc-here (Row.sInt Syntax.w64)) (List._∷_ (3, Rows'.sc-here (Row.sInt Syntax.w16)) (List._∷_ (4, Rows'.sslice (Referent.rtF (Referent.fInt Syntax.w8)) (Syntax.tyRef (Syntax.named 1) Syntax.imm (Syntax.tyInt Syntax.w8)) 1) (List._∷_ (5, Mut.mslice (Referent.rtF (Referent.fInt Syntax.w8)) (Syntax.tyRef (Syntax.named 2) Syntax.mut (Syntax.tyInt Syntax.w8)) 2) (List._∷_ (6, ColumnMetadataRow.row) (List._∷_ (7, Rows.arrF (ColumnMetadataRow.RT) 4096 0) (List._∷_ (8, Rows'.any-gone (Syntax.tyStruct (List._∷_ 115 (List._∷_ 113 (List._∷_ 108 (List._∷_ 100 (List._∷_ 97 (List._∷_ 114 (List._∷_ 100 (List._∷_ 58 (List._∷_ 58 (List._∷_ 83 (List._∷_ 113 (List._∷_ 108 (List._∷_ 100 (List._∷_ 97 (List._∷_ 114 (List._∷_ 100 (List._∷_ 65 (List._∷_ 110 (List._∷_ 115 (List._∷_ 119 (List._∷_ 101 (List._∷_ 114 List.[])))))))))))))))))))))) (Syntax.tcons (Syntax.tyEnum (List._∷_ 111 (List._∷_ 117 (List._∷_ 116 (List._∷_ 99 (List._∷_ 111 (List._∷_ 109 (List._∷_ 101 (List._∷_ 58 (List._∷_ 58 (List._∷_ 79 (List._∷_ 117 (List._∷_ 116 (List._∷_ 99 (List._∷_ 111 (List._∷_ 109 (List._∷_ 101 List.[])))))))))))))))) (Syntax.ttcons Syntax.tnil (Syntax.ttcons Syntax.tnil (Syntax.ttcons (Syntax.tcons (Syntax.tyInt Syntax.w64) (Syntax.tcons (Syntax.tyInt Syntax.w64) Syntax.tnil)) (Syntax.ttcons Syntax.tnil (Syntax.ttcons (Syntax.tcons (Syntax.tyInt Syntax.w16) Syntax.tnil) (Syntax.ttcons Syntax.tnil (Syntax.ttcons (Syntax.tcons (Syntax.tyInt Syntax.w64) Syntax.tnil) (Syntax.ttcons Syntax.tnil Syntax.ttnil))))))))) (Syntax.tcons (Syntax.tyStruct (List._∷_ 115 (List._∷_ 113 (List._∷_ 108 (List._∷_ 99 (List._∷_ 97 (List._∷_ 114 (List._∷_ 100 (List._∷_ 58 (List._∷_ 58 (List._∷_ 83 (List._∷_ 113 (List._∷_ 108 (List._∷_ 67 (List._∷_ 97 (List._∷_ 114 (List._∷_ 100 List.[])))))))))))))))) (Syntax.tcons Syntax.tyBool (Syntax.tcons (Syntax.tyInt Syntax.w32) (Syntax.tcons (Syntax.tyArray (Syntax.tyInt Syntax.w8) 5) (Syntax.tcons (Syntax.tyArray (Syntax.tyInt Syntax.w8) 8) (Syntax.tcons (Syntax.tyInt Syntax.w8) (Syntax.tcons (Syntax.tyArray (Syntax.tyInt Syntax.w32) 6) (Syntax.tcons (Syntax.tyInt Syntax.w64) (Syntax.tcons (Syntax.tyInt Syntax.w32) (Syntax.tcons (Syntax.tyArray (Syntax.tyInt Syntax.w8) 11) (Syntax.tcons (Syntax.tyInt Syntax.w64) (Syntax.tcons (Syntax.tyInt Syntax.w64) Syntax.tnil)))))))))))) (Syntax.tcons (Syntax.tyInt Syntax.w64) Syntax.tnil))))) (List._∷_ (9, Rows'.any-gone (Syntax.tyInt Syntax.w64)) (List._∷_ (10, Rows'.any-gone (Syntax.tyInt Syntax.w64)) (List._∷_ (11, Rows'.any-gone (Syntax.tyRef Syntax.erased Syntax.mut (Syntax.tyArray ColumnMetadataRow.named 4096))) (List._∷_ (12, Rows'.any-gone (Syntax.tyStruct (List._∷_ 38 (List._∷_ 91 (List._∷_ 93 List.[]))) (Syntax.tcons (Syntax.tyRef Syntax.erased Syntax.mut ColumnMetadataRow.named) (Syntax.tcons (Syntax.tyInt Syntax.w64) Syntax.tnil)))) (List._∷_ (13, Rows'.any-gone (Syntax.tyRef Syntax.erased Syntax.mut (Syntax.tyInt Syntax.w8))) (List._∷_ (14, Rows'.any-gone (Syntax.tyStruct (List._∷_ 38 (List._∷_ 91 (List._∷_ 93 List.[]))) (Syntax.tcons (Syntax.tyRef Syntax.erased Syntax.mut (Syntax.tyInt Syntax.w8)) (Syntax.tcons (Syntax.tyInt Syntax.w64) Syntax.tnil)))) (List._∷_ (15, Rows'.any-gone (Syntax.tyRef Syntax.erased Syntax.mut (Syntax.tyInt Syntax.w8))) List.[])))))))))))))))
+t5 = List._∷_ (0, Rows'.any-gone (Syntax.tyInt Syntax.w64)) (List._∷_ (1, Mut.mslice (Referent.rtF (Referent.fInt Syntax.w8)) (Syntax.tyRef (Syntax.named 0) Syntax.mut (Syntax.tyInt Syntax.w8)) 0) (List._∷_ (2, Rows'.sc-here (Row.sInt Syntax.w64)) (List._∷_ (3, Rows'.sc-here (Row.sInt Syntax.w16)) (List._∷_ (4, Rows'.sslice (Referent.rtF (Referent.fInt Syntax.w8)) (Syntax.tyRef (Syntax.named 1) Syntax.imm (Syntax.tyInt Syntax.w8)) 1) (List._∷_ (5, Mut.mslice (Referent.rtF (Referent.fInt Syntax.w8)) (Syntax.tyRef (Syntax.named 2) Syntax.mut (Syntax.tyInt Syntax.w8)) 2) (List._∷_ (6, ColumnMetadataRow.row) (List._∷_ (7, Rows.arrF (ColumnMetadataRow.RT) 4096 0) (List._∷_ (8, Rows'.any-gone (Syntax.tyStruct (List._∷_ 115 (List._∷_ 113 (List._∷_ 108 (List._∷_ 100 (List._∷_ 97 (List._∷_ 114 (List._∷_ 100 (List._∷_ 58 (List._∷_ 58 (List._∷_ 83 (List._∷_ 113 (List._∷_ 108 (List._∷_ 100 (List._∷_ 97 (List._∷_ 114 (List._∷_ 100 (List._∷_ 65 (List._∷_ 110 (List._∷_ 115 (List._∷_ 119 (List._∷_ 101 (List._∷_ 114 List.[])))))))))))))))))))))) (Syntax.tcons (Syntax.tyEnum (List._∷_ 111 (List._∷_ 117 (List._∷_ 116 (List._∷_ 99 (List._∷_ 111 (List._∷_ 109 (List._∷_ 101 (List._∷_ 58 (List._∷_ 58 (List._∷_ 79 (List._∷_ 117 (List._∷_ 116 (List._∷_ 99 (List._∷_ 111 (List._∷_ 109 (List._∷_ 101 List.[])))))))))))))))) (Syntax.ttcons Syntax.tnil (Syntax.ttcons Syntax.tnil (Syntax.ttcons (Syntax.tcons (Syntax.tyInt Syntax.w64) (Syntax.tcons (Syntax.tyInt Syntax.w64) Syntax.tnil)) (Syntax.ttcons Syntax.tnil (Syntax.ttcons (Syntax.tcons (Syntax.tyInt Syntax.w16) Syntax.tnil) (Syntax.ttcons Syntax.tnil (Syntax.ttcons (Syntax.tcons (Syntax.tyInt Syntax.w64) Syntax.tnil) (Syntax.ttcons Syntax.tnil (Syntax.ttcons (Syntax.tcons (Syntax.tyInt Syntax.w16) Syntax.tnil) Syntax.ttnil)))))))))) (Syntax.tcons (Syntax.tyStruct (List._∷_ 115 (List._∷_ 113 (List._∷_ 108 (List._∷_ 99 (List._∷_ 97 (List._∷_ 114 (List._∷_ 100 (List._∷_ 58 (List._∷_ 58 (List._∷_ 83 (List._∷_ 113 (List._∷_ 108 (List._∷_ 67 (List._∷_ 97 (List._∷_ 114 (List._∷_ 100 List.[])))))))))))))))) (Syntax.tcons Syntax.tyBool (Syntax.tcons (Syntax.tyInt Syntax.w32) (Syntax.tcons (Syntax.tyArray (Syntax.tyInt Syntax.w8) 5) (Syntax.tcons (Syntax.tyArray (Syntax.tyInt Syntax.w8) 8) (Syntax.tcons (Syntax.tyInt Syntax.w8) (Syntax.tcons (Syntax.tyArray (Syntax.tyInt Syntax.w32) 6) (Syntax.tcons (Syntax.tyInt Syntax.w64) (Syntax.tcons (Syntax.tyInt Syntax.w32) (Syntax.tcons (Syntax.tyArray (Syntax.tyInt Syntax.w8) 11) (Syntax.tcons (Syntax.tyInt Syntax.w64) (Syntax.tcons (Syntax.tyInt Syntax.w64) Syntax.tnil)))))))))))) (Syntax.tcons (Syntax.tyInt Syntax.w64) Syntax.tnil))))) (List._∷_ (9, Rows'.any-gone (Syntax.tyInt Syntax.w64)) (List._∷_ (10, Rows'.any-gone (Syntax.tyInt Syntax.w64)) (List._∷_ (11, Rows'.any-gone (Syntax.tyRef Syntax.erased Syntax.mut (Syntax.tyArray ColumnMetadataRow.named 4096))) (List._∷_ (12, Rows'.any-gone (Syntax.tyStruct (List._∷_ 38 (List._∷_ 91 (List._∷_ 93 List.[]))) (Syntax.tcons (Syntax.tyRef Syntax.erased Syntax.mut ColumnMetadataRow.named) (Syntax.tcons (Syntax.tyInt Syntax.w64) Syntax.tnil)))) (List._∷_ (13, Rows'.any-gone (Syntax.tyRef Syntax.erased Syntax.mut (Syntax.tyInt Syntax.w8))) (List._∷_ (14, Rows'.any-gone (Syntax.tyStruct (List._∷_ 38 (List._∷_ 91 (List._∷_ 93 List.[]))) (Syntax.tcons (Syntax.tyRef Syntax.erased Syntax.mut (Syntax.tyInt Syntax.w8)) (Syntax.tcons (Syntax.tyInt Syntax.w64) Syntax.tnil)))) (List._∷_ (15, Rows'.any-gone (Syntax.tyRef Syntax.erased Syntax.mut (Syntax.tyInt Syntax.w8))) List.[])))))))))))))))
 
 abbrev pub t6 : List.List Row.Entry
-t6 = List._∷_ (0, Rows'.any-gone (Syntax.tyInt Syntax.w64)) (List._∷_ (1, Mut.mslice (Referent.rtF (Referent.fInt Syntax.w8)) (Syntax.tyRef (Syntax.named 0) Syntax.mut (Syntax.tyInt Syntax.w8)) 0) (List._∷_ (2, Rows'.sc-here (Row.sInt Syntax.w64)) (List._∷_ (3, Rows'.sc-here (Row.sInt Syntax.w16)) (List._∷_ (4, Rows'.sslice (Referent.rtF (Referent.fInt Syntax.w8)) (Syntax.tyRef (Syntax.named 1) Syntax.imm (Syntax.tyInt Syntax.w8)) 1) (List._∷_ (5, Mut.mslice (Referent.rtF (Referent.fInt Syntax.w8)) (Syntax.tyRef (Syntax.named 2) Syntax.mut (Syntax.tyInt Syntax.w8)) 2) (List._∷_ (6, Rows'.any-gone (ColumnMetadataRow.ty)) (List._∷_ (7, Rows.arrF (ColumnMetadataRow.RT) 4096 0) (List._∷_ (8, Rows'.any-gone (Syntax.tyStruct (List._∷_ 115 (List._∷_ 113 (List._∷_ 108 (List._∷_ 100 (List._∷_ 97 (List._∷_ 114 (List._∷_ 100 (List._∷_ 58 (List._∷_ 58 (List._∷_ 83 (List._∷_ 113 (List._∷_ 108 (List._∷_ 100 (List._∷_ 97 (List._∷_ 114 (List._∷_ 100 (List._∷_ 65 (List._∷_ 110 (List._∷_ 115 (List._∷_ 119 (List._∷_ 101 (List._∷_ 114 List.[])))))))))))))))))))))) (Syntax.tcons (Syntax.tyEnum (List._∷_ 111 (List._∷_ 117 (List._∷_ 116 (List._∷_ 99 (List._∷_ 111 (List._∷_ 109 (List._∷_ 101 (List._∷_ 58 (List._∷_ 58 (List._∷_ 79 (List._∷_ 117 (List._∷_ 116 (List._∷_ 99 (List._∷_ 111 (List._∷_ 109 (List._∷_ 101 List.[])))))))))))))))) (Syntax.ttcons Syntax.tnil (Syntax.ttcons Syntax.tnil (Syntax.ttcons (Syntax.tcons (Syntax.tyInt Syntax.w64) (Syntax.tcons (Syntax.tyInt Syntax.w64) Syntax.tnil)) (Syntax.ttcons Syntax.tnil (Syntax.ttcons (Syntax.tcons (Syntax.tyInt Syntax.w16) Syntax.tnil) (Syntax.ttcons Syntax.tnil (Syntax.ttcons (Syntax.tcons (Syntax.tyInt Syntax.w64) Syntax.tnil) (Syntax.ttcons Syntax.tnil Syntax.ttnil))))))))) (Syntax.tcons (Syntax.tyStruct (List._∷_ 115 (List._∷_ 113 (List._∷_ 108 (List._∷_ 99 (List._∷_ 97 (List._∷_ 114 (List._∷_ 100 (List._∷_ 58 (List._∷_ 58 (List._∷_ 83 (List._∷_ 113 (List._∷_ 108 (List._∷_ 67 (List._∷_ 97 (List._∷_ 114 (List._∷_ 100 List.[])))))))))))))))) (Syntax.tcons Syntax.tyBool (Syntax.tcons (Syntax.tyInt Syntax.w32) (Syntax.tcons (Syntax.tyArray (Syntax.tyInt Syntax.w8) 5) (Syntax.tcons (Syntax.tyArray (Syntax.tyInt Syntax.w8) 8) (Syntax.tcons (Syntax.tyInt Syntax.w8) (Syntax.tcons (Syntax.tyArray (Syntax.tyInt Syntax.w32) 6) (Syntax.tcons (Syntax.tyInt Syntax.w64) (Syntax.tcons (Syntax.tyInt Syntax.w32) (Syntax.tcons (Syntax.tyArray (Syntax.tyInt Syntax.w8) 11) (Syntax.tcons (Syntax.tyInt Syntax.w64) (Syntax.tcons (Syntax.tyInt Syntax.w64) Syntax.tnil)))))))))))) (Syntax.tcons (Syntax.tyInt Syntax.w64) Syntax.tnil))))) (List._∷_ (9, Rows'.any-gone (Syntax.tyInt Syntax.w64)) (List._∷_ (10, Rows'.any-gone (Syntax.tyInt Syntax.w64)) (List._∷_ (11, Rows'.any-gone (Syntax.tyRef Syntax.erased Syntax.mut (Syntax.tyArray ColumnMetadataRow.named 4096))) (List._∷_ (12, Rows'.any-gone (Syntax.tyStruct (List._∷_ 38 (List._∷_ 91 (List._∷_ 93 List.[]))) (Syntax.tcons (Syntax.tyRef Syntax.erased Syntax.mut ColumnMetadataRow.named) (Syntax.tcons (Syntax.tyInt Syntax.w64) Syntax.tnil)))) (List._∷_ (13, Rows'.any-gone (Syntax.tyRef Syntax.erased Syntax.mut (Syntax.tyInt Syntax.w8))) (List._∷_ (14, Rows'.any-gone (Syntax.tyStruct (List._∷_ 38 (List._∷_ 91 (List._∷_ 93 List.[]))) (Syntax.tcons (Syntax.tyRef Syntax.erased Syntax.mut (Syntax.tyInt Syntax.w8)) (Syntax.tcons (Syntax.tyInt Syntax.w64) Syntax.tnil)))) (List._∷_ (15, Rows'.any-gone (Syntax.tyRef Syntax.erased Syntax.mut (Syntax.tyInt Syntax.w8))) List.[])))))))))))))))
+t6 = List._∷_ (0, Rows'.any-gone (Syntax.tyInt Syntax.w64)) (List._∷_ (1, Mut.mslice (Referent.rtF (Referent.fInt Syntax.w8)) (Syntax.tyRef (Syntax.named 0) Syntax.mut (Syntax.tyInt Syntax.w8)) 0) (List._∷_ (2, Rows'.sc-here (Row.sInt Syntax.w64)) (List._∷_ (3, Rows'.sc-here (Row.sInt Syntax.w16)) (List._∷_ (4, Rows'.sslice (Referent.rtF (Referent.fInt Syntax.w8)) (Syntax.tyRef (Syntax.named 1) Syntax.imm (Syntax.tyInt Syntax.w8)) 1) (List._∷_ (5, Mut.mslice (Referent.rtF (Referent.fInt Syntax.w8)) (Syntax.tyRef (Syntax.named 2) Syntax.mut (Syntax.tyInt Syntax.w8)) 2) (List._∷_ (6, Rows'.any-gone (ColumnMetadataRow.ty)) (List._∷_ (7, Rows.arrF (ColumnMetadataRow.RT) 4096 0) (List._∷_ (8, Rows'.any-gone (Syntax.tyStruct (List._∷_ 115 (List._∷_ 113 (List._∷_ 108 (List._∷_ 100 (List._∷_ 97 (List._∷_ 114 (List._∷_ 100 (List._∷_ 58 (List._∷_ 58 (List._∷_ 83 (List._∷_ 113 (List._∷_ 108 (List._∷_ 100 (List._∷_ 97 (List._∷_ 114 (List._∷_ 100 (List._∷_ 65 (List._∷_ 110 (List._∷_ 115 (List._∷_ 119 (List._∷_ 101 (List._∷_ 114 List.[])))))))))))))))))))))) (Syntax.tcons (Syntax.tyEnum (List._∷_ 111 (List._∷_ 117 (List._∷_ 116 (List._∷_ 99 (List._∷_ 111 (List._∷_ 109 (List._∷_ 101 (List._∷_ 58 (List._∷_ 58 (List._∷_ 79 (List._∷_ 117 (List._∷_ 116 (List._∷_ 99 (List._∷_ 111 (List._∷_ 109 (List._∷_ 101 List.[])))))))))))))))) (Syntax.ttcons Syntax.tnil (Syntax.ttcons Syntax.tnil (Syntax.ttcons (Syntax.tcons (Syntax.tyInt Syntax.w64) (Syntax.tcons (Syntax.tyInt Syntax.w64) Syntax.tnil)) (Syntax.ttcons Syntax.tnil (Syntax.ttcons (Syntax.tcons (Syntax.tyInt Syntax.w16) Syntax.tnil) (Syntax.ttcons Syntax.tnil (Syntax.ttcons (Syntax.tcons (Syntax.tyInt Syntax.w64) Syntax.tnil) (Syntax.ttcons Syntax.tnil (Syntax.ttcons (Syntax.tcons (Syntax.tyInt Syntax.w16) Syntax.tnil) Syntax.ttnil)))))))))) (Syntax.tcons (Syntax.tyStruct (List._∷_ 115 (List._∷_ 113 (List._∷_ 108 (List._∷_ 99 (List._∷_ 97 (List._∷_ 114 (List._∷_ 100 (List._∷_ 58 (List._∷_ 58 (List._∷_ 83 (List._∷_ 113 (List._∷_ 108 (List._∷_ 67 (List._∷_ 97 (List._∷_ 114 (List._∷_ 100 List.[])))))))))))))))) (Syntax.tcons Syntax.tyBool (Syntax.tcons (Syntax.tyInt Syntax.w32) (Syntax.tcons (Syntax.tyArray (Syntax.tyInt Syntax.w8) 5) (Syntax.tcons (Syntax.tyArray (Syntax.tyInt Syntax.w8) 8) (Syntax.tcons (Syntax.tyInt Syntax.w8) (Syntax.tcons (Syntax.tyArray (Syntax.tyInt Syntax.w32) 6) (Syntax.tcons (Syntax.tyInt Syntax.w64) (Syntax.tcons (Syntax.tyInt Syntax.w32) (Syntax.tcons (Syntax.tyArray (Syntax.tyInt Syntax.w8) 11) (Syntax.tcons (Syntax.tyInt Syntax.w64) (Syntax.tcons (Syntax.tyInt Syntax.w64) Syntax.tnil)))))))))))) (Syntax.tcons (Syntax.tyInt Syntax.w64) Syntax.tnil))))) (List._∷_ (9, Rows'.any-gone (Syntax.tyInt Syntax.w64)) (List._∷_ (10, Rows'.any-gone (Syntax.tyInt Syntax.w64)) (List._∷_ (11, Rows'.any-gone (Syntax.tyRef Syntax.erased Syntax.mut (Syntax.tyArray ColumnMetadataRow.named 4096))) (List._∷_ (12, Rows'.any-gone (Syntax.tyStruct (List._∷_ 38 (List._∷_ 91 (List._∷_ 93 List.[]))) (Syntax.tcons (Syntax.tyRef Syntax.erased Syntax.mut ColumnMetadataRow.named) (Syntax.tcons (Syntax.tyInt Syntax.w64) Syntax.tnil)))) (List._∷_ (13, Rows'.any-gone (Syntax.tyRef Syntax.erased Syntax.mut (Syntax.tyInt Syntax.w8))) (List._∷_ (14, Rows'.any-gone (Syntax.tyStruct (List._∷_ 38 (List._∷_ 91 (List._∷_ 93 List.[]))) (Syntax.tcons (Syntax.tyRef Syntax.erased Syntax.mut (Syntax.tyInt Syntax.w8)) (Syntax.tcons (Syntax.tyInt Syntax.w64) Syntax.tnil)))) (List._∷_ (15, Rows'.any-gone (Syntax.tyRef Syntax.erased Syntax.mut (Syntax.tyInt Syntax.w8))) List.[])))))))))))))))
 
 abbrev pub t7 : List.List Row.Entry
-t7 = List._∷_ (0, Rows'.any-gone (Syntax.tyInt Syntax.w64)) (List._∷_ (1, Mut.mslice (Referent.rtF (Referent.fInt Syntax.w8)) (Syntax.tyRef (Syntax.named 0) Syntax.mut (Syntax.tyInt Syntax.w8)) 0) (List._∷_ (2, Rows'.sc-here (Row.sInt Syntax.w64)) (List._∷_ (3, Rows'.sc-here (Row.sInt Syntax.w16)) (List._∷_ (4, Rows'.sslice (Referent.rtF (Referent.fInt Syntax.w8)) (Syntax.tyRef (Syntax.named 1) Syntax.imm (Syntax.tyInt Syntax.w8)) 1) (List._∷_ (5, Mut.mslice (Referent.rtF (Referent.fInt Syntax.w8)) (Syntax.tyRef (Syntax.named 2) Syntax.mut (Syntax.tyInt Syntax.w8)) 2) (List._∷_ (6, Rows'.any-gone (ColumnMetadataRow.ty)) (List._∷_ (7, Rows.arr-owed (ColumnMetadataRow.RT) 4096 3) (List._∷_ (8, Rows'.any-gone (Syntax.tyStruct (List._∷_ 115 (List._∷_ 113 (List._∷_ 108 (List._∷_ 100 (List._∷_ 97 (List._∷_ 114 (List._∷_ 100 (List._∷_ 58 (List._∷_ 58 (List._∷_ 83 (List._∷_ 113 (List._∷_ 108 (List._∷_ 100 (List._∷_ 97 (List._∷_ 114 (List._∷_ 100 (List._∷_ 65 (List._∷_ 110 (List._∷_ 115 (List._∷_ 119 (List._∷_ 101 (List._∷_ 114 List.[])))))))))))))))))))))) (Syntax.tcons (Syntax.tyEnum (List._∷_ 111 (List._∷_ 117 (List._∷_ 116 (List._∷_ 99 (List._∷_ 111 (List._∷_ 109 (List._∷_ 101 (List._∷_ 58 (List._∷_ 58 (List._∷_ 79 (List._∷_ 117 (List._∷_ 116 (List._∷_ 99 (List._∷_ 111 (List._∷_ 109 (List._∷_ 101 List.[])))))))))))))))) (Syntax.ttcons Syntax.tnil (Syntax.ttcons Syntax.tnil (Syntax.ttcons (Syntax.tcons (Syntax.tyInt Syntax.w64) (Syntax.tcons (Syntax.tyInt Syntax.w64) Syntax.tnil)) (Syntax.ttcons Syntax.tnil (Syntax.ttcons (Syntax.tcons (Syntax.tyInt Syntax.w16) Syntax.tnil) (Syntax.ttcons Syntax.tnil (Syntax.ttcons (Syntax.tcons (Syntax.tyInt Syntax.w64) Syntax.tnil) (Syntax.ttcons Syntax.tnil Syntax.ttnil))))))))) (Syntax.tcons (Syntax.tyStruct (List._∷_ 115 (List._∷_ 113 (List._∷_ 108 (List._∷_ 99 (List._∷_ 97 (List._∷_ 114 (List._∷_ 100 (List._∷_ 58 (List._∷_ 58 (List._∷_ 83 (List._∷_ 113 (List._∷_ 108 (List._∷_ 67 (List._∷_ 97 (List._∷_ 114 (List._∷_ 100 List.[])))))))))))))))) (Syntax.tcons Syntax.tyBool (Syntax.tcons (Syntax.tyInt Syntax.w32) (Syntax.tcons (Syntax.tyArray (Syntax.tyInt Syntax.w8) 5) (Syntax.tcons (Syntax.tyArray (Syntax.tyInt Syntax.w8) 8) (Syntax.tcons (Syntax.tyInt Syntax.w8) (Syntax.tcons (Syntax.tyArray (Syntax.tyInt Syntax.w32) 6) (Syntax.tcons (Syntax.tyInt Syntax.w64) (Syntax.tcons (Syntax.tyInt Syntax.w32) (Syntax.tcons (Syntax.tyArray (Syntax.tyInt Syntax.w8) 11) (Syntax.tcons (Syntax.tyInt Syntax.w64) (Syntax.tcons (Syntax.tyInt Syntax.w64) Syntax.tnil)))))))))))) (Syntax.tcons (Syntax.tyInt Syntax.w64) Syntax.tnil))))) (List._∷_ (9, Rows'.any-gone (Syntax.tyInt Syntax.w64)) (List._∷_ (10, Rows'.any-gone (Syntax.tyInt Syntax.w64)) (List._∷_ (11, Relend.msptr (ColumnMetadataRow.RT) (Syntax.tyRef Syntax.erased Syntax.mut (Syntax.tyArray ColumnMetadataRow.named 4096)) 3) (List._∷_ (12, Rows'.any-gone (Syntax.tyStruct (List._∷_ 38 (List._∷_ 91 (List._∷_ 93 List.[]))) (Syntax.tcons (Syntax.tyRef Syntax.erased Syntax.mut ColumnMetadataRow.named) (Syntax.tcons (Syntax.tyInt Syntax.w64) Syntax.tnil)))) (List._∷_ (13, Rows'.any-gone (Syntax.tyRef Syntax.erased Syntax.mut (Syntax.tyInt Syntax.w8))) (List._∷_ (14, Rows'.any-gone (Syntax.tyStruct (List._∷_ 38 (List._∷_ 91 (List._∷_ 93 List.[]))) (Syntax.tcons (Syntax.tyRef Syntax.erased Syntax.mut (Syntax.tyInt Syntax.w8)) (Syntax.tcons (Syntax.tyInt Syntax.w64) Syntax.tnil)))) (List._∷_ (15, Rows'.any-gone (Syntax.tyRef Syntax.erased Syntax.mut (Syntax.tyInt Syntax.w8))) List.[])))))))))))))))
+t7 = List._∷_ (0, Rows'.any-gone (Syntax.tyInt Syntax.w64)) (List._∷_ (1, Mut.mslice (Referent.rtF (Referent.fInt Syntax.w8)) (Syntax.tyRef (Syntax.named 0) Syntax.mut (Syntax.tyInt Syntax.w8)) 0) (List._∷_ (2, Rows'.sc-here (Row.sInt Syntax.w64)) (List._∷_ (3, Rows'.sc-here (Row.sInt Syntax.w16)) (List._∷_ (4, Rows'.sslice (Referent.rtF (Referent.fInt Syntax.w8)) (Syntax.tyRef (Syntax.named 1) Syntax.imm (Syntax.tyInt Syntax.w8)) 1) (List._∷_ (5, Mut.mslice (Referent.rtF (Referent.fInt Syntax.w8)) (Syntax.tyRef (Syntax.named 2) Syntax.mut (Syntax.tyInt Syntax.w8)) 2) (List._∷_ (6, Rows'.any-gone (ColumnMetadataRow.ty)) (List._∷_ (7, Rows.arr-owed (ColumnMetadataRow.RT) 4096 3) (List._∷_ (8, Rows'.any-gone (Syntax.tyStruct (List._∷_ 115 (List._∷_ 113 (List._∷_ 108 (List._∷_ 100 (List._∷_ 97 (List._∷_ 114 (List._∷_ 100 (List._∷_ 58 (List._∷_ 58 (List._∷_ 83 (List._∷_ 113 (List._∷_ 108 (List._∷_ 100 (List._∷_ 97 (List._∷_ 114 (List._∷_ 100 (List._∷_ 65 (List._∷_ 110 (List._∷_ 115 (List._∷_ 119 (List._∷_ 101 (List._∷_ 114 List.[])))))))))))))))))))))) (Syntax.tcons (Syntax.tyEnum (List._∷_ 111 (List._∷_ 117 (List._∷_ 116 (List._∷_ 99 (List._∷_ 111 (List._∷_ 109 (List._∷_ 101 (List._∷_ 58 (List._∷_ 58 (List._∷_ 79 (List._∷_ 117 (List._∷_ 116 (List._∷_ 99 (List._∷_ 111 (List._∷_ 109 (List._∷_ 101 List.[])))))))))))))))) (Syntax.ttcons Syntax.tnil (Syntax.ttcons Syntax.tnil (Syntax.ttcons (Syntax.tcons (Syntax.tyInt Syntax.w64) (Syntax.tcons (Syntax.tyInt Syntax.w64) Syntax.tnil)) (Syntax.ttcons Syntax.tnil (Syntax.ttcons (Syntax.tcons (Syntax.tyInt Syntax.w16) Syntax.tnil) (Syntax.ttcons Syntax.tnil (Syntax.ttcons (Syntax.tcons (Syntax.tyInt Syntax.w64) Syntax.tnil) (Syntax.ttcons Syntax.tnil (Syntax.ttcons (Syntax.tcons (Syntax.tyInt Syntax.w16) Syntax.tnil) Syntax.ttnil)))))))))) (Syntax.tcons (Syntax.tyStruct (List._∷_ 115 (List._∷_ 113 (List._∷_ 108 (List._∷_ 99 (List._∷_ 97 (List._∷_ 114 (List._∷_ 100 (List._∷_ 58 (List._∷_ 58 (List._∷_ 83 (List._∷_ 113 (List._∷_ 108 (List._∷_ 67 (List._∷_ 97 (List._∷_ 114 (List._∷_ 100 List.[])))))))))))))))) (Syntax.tcons Syntax.tyBool (Syntax.tcons (Syntax.tyInt Syntax.w32) (Syntax.tcons (Syntax.tyArray (Syntax.tyInt Syntax.w8) 5) (Syntax.tcons (Syntax.tyArray (Syntax.tyInt Syntax.w8) 8) (Syntax.tcons (Syntax.tyInt Syntax.w8) (Syntax.tcons (Syntax.tyArray (Syntax.tyInt Syntax.w32) 6) (Syntax.tcons (Syntax.tyInt Syntax.w64) (Syntax.tcons (Syntax.tyInt Syntax.w32) (Syntax.tcons (Syntax.tyArray (Syntax.tyInt Syntax.w8) 11) (Syntax.tcons (Syntax.tyInt Syntax.w64) (Syntax.tcons (Syntax.tyInt Syntax.w64) Syntax.tnil)))))))))))) (Syntax.tcons (Syntax.tyInt Syntax.w64) Syntax.tnil))))) (List._∷_ (9, Rows'.any-gone (Syntax.tyInt Syntax.w64)) (List._∷_ (10, Rows'.any-gone (Syntax.tyInt Syntax.w64)) (List._∷_ (11, Relend.msptr (ColumnMetadataRow.RT) (Syntax.tyRef Syntax.erased Syntax.mut (Syntax.tyArray ColumnMetadataRow.named 4096)) 3) (List._∷_ (12, Rows'.any-gone (Syntax.tyStruct (List._∷_ 38 (List._∷_ 91 (List._∷_ 93 List.[]))) (Syntax.tcons (Syntax.tyRef Syntax.erased Syntax.mut ColumnMetadataRow.named) (Syntax.tcons (Syntax.tyInt Syntax.w64) Syntax.tnil)))) (List._∷_ (13, Rows'.any-gone (Syntax.tyRef Syntax.erased Syntax.mut (Syntax.tyInt Syntax.w8))) (List._∷_ (14, Rows'.any-gone (Syntax.tyStruct (List._∷_ 38 (List._∷_ 91 (List._∷_ 93 List.[]))) (Syntax.tcons (Syntax.tyRef Syntax.erased Syntax.mut (Syntax.tyInt Syntax.w8)) (Syntax.tcons (Syntax.tyInt Syntax.w64) Syntax.tnil)))) (List._∷_ (15, Rows'.any-gone (Syntax.tyRef Syntax.erased Syntax.mut (Syntax.tyInt Syntax.w8))) List.[])))))))))))))))
 
 abbrev pub t8 : List.List Row.Entry
-t8 = List._∷_ (0, Rows'.any-gone (Syntax.tyInt Syntax.w64)) (List._∷_ (1, Mut.mslice (Referent.rtF (Referent.fInt Syntax.w8)) (Syntax.tyRef (Syntax.named 0) Syntax.mut (Syntax.tyInt Syntax.w8)) 0) (List._∷_ (2, Rows'.sc-here (Row.sInt Syntax.w64)) (List._∷_ (3, Rows'.sc-here (Row.sInt Syntax.w16)) (List._∷_ (4, Rows'.sslice (Referent.rtF (Referent.fInt Syntax.w8)) (Syntax.tyRef (Syntax.named 1) Syntax.imm (Syntax.tyInt Syntax.w8)) 1) (List._∷_ (5, Mut.mslice (Referent.rtF (Referent.fInt Syntax.w8)) (Syntax.tyRef (Syntax.named 2) Syntax.mut (Syntax.tyInt Syntax.w8)) 2) (List._∷_ (6, Rows'.any-gone (ColumnMetadataRow.ty)) (List._∷_ (7, Rows.arr-owed (ColumnMetadataRow.RT) 4096 3) (List._∷_ (8, Rows'.any-gone (Syntax.tyStruct (List._∷_ 115 (List._∷_ 113 (List._∷_ 108 (List._∷_ 100 (List._∷_ 97 (List._∷_ 114 (List._∷_ 100 (List._∷_ 58 (List._∷_ 58 (List._∷_ 83 (List._∷_ 113 (List._∷_ 108 (List._∷_ 100 (List._∷_ 97 (List._∷_ 114 (List._∷_ 100 (List._∷_ 65 (List._∷_ 110 (List._∷_ 115 (List._∷_ 119 (List._∷_ 101 (List._∷_ 114 List.[])))))))))))))))))))))) (Syntax.tcons (Syntax.tyEnum (List._∷_ 111 (List._∷_ 117 (List._∷_ 116 (List._∷_ 99 (List._∷_ 111 (List._∷_ 109 (List._∷_ 101 (List._∷_ 58 (List._∷_ 58 (List._∷_ 79 (List._∷_ 117 (List._∷_ 116 (List._∷_ 99 (List._∷_ 111 (List._∷_ 109 (List._∷_ 101 List.[])))))))))))))))) (Syntax.ttcons Syntax.tnil (Syntax.ttcons Syntax.tnil (Syntax.ttcons (Syntax.tcons (Syntax.tyInt Syntax.w64) (Syntax.tcons (Syntax.tyInt Syntax.w64) Syntax.tnil)) (Syntax.ttcons Syntax.tnil (Syntax.ttcons (Syntax.tcons (Syntax.tyInt Syntax.w16) Syntax.tnil) (Syntax.ttcons Syntax.tnil (Syntax.ttcons (Syntax.tcons (Syntax.tyInt Syntax.w64) Syntax.tnil) (Syntax.ttcons Syntax.tnil Syntax.ttnil))))))))) (Syntax.tcons (Syntax.tyStruct (List._∷_ 115 (List._∷_ 113 (List._∷_ 108 (List._∷_ 99 (List._∷_ 97 (List._∷_ 114 (List._∷_ 100 (List._∷_ 58 (List._∷_ 58 (List._∷_ 83 (List._∷_ 113 (List._∷_ 108 (List._∷_ 67 (List._∷_ 97 (List._∷_ 114 (List._∷_ 100 List.[])))))))))))))))) (Syntax.tcons Syntax.tyBool (Syntax.tcons (Syntax.tyInt Syntax.w32) (Syntax.tcons (Syntax.tyArray (Syntax.tyInt Syntax.w8) 5) (Syntax.tcons (Syntax.tyArray (Syntax.tyInt Syntax.w8) 8) (Syntax.tcons (Syntax.tyInt Syntax.w8) (Syntax.tcons (Syntax.tyArray (Syntax.tyInt Syntax.w32) 6) (Syntax.tcons (Syntax.tyInt Syntax.w64) (Syntax.tcons (Syntax.tyInt Syntax.w32) (Syntax.tcons (Syntax.tyArray (Syntax.tyInt Syntax.w8) 11) (Syntax.tcons (Syntax.tyInt Syntax.w64) (Syntax.tcons (Syntax.tyInt Syntax.w64) Syntax.tnil)))))))))))) (Syntax.tcons (Syntax.tyInt Syntax.w64) Syntax.tnil))))) (List._∷_ (9, Rows'.any-gone (Syntax.tyInt Syntax.w64)) (List._∷_ (10, Rows'.any-gone (Syntax.tyInt Syntax.w64)) (List._∷_ (11, Rows'.any-gone (Syntax.tyRef Syntax.erased Syntax.mut (Syntax.tyArray ColumnMetadataRow.named 4096))) (List._∷_ (12, Mut.mslice (ColumnMetadataRow.RT) (Syntax.tyRef Syntax.erased Syntax.mut ColumnMetadataRow.named) 3) (List._∷_ (13, Rows'.any-gone (Syntax.tyRef Syntax.erased Syntax.mut (Syntax.tyInt Syntax.w8))) (List._∷_ (14, Rows'.any-gone (Syntax.tyStruct (List._∷_ 38 (List._∷_ 91 (List._∷_ 93 List.[]))) (Syntax.tcons (Syntax.tyRef Syntax.erased Syntax.mut (Syntax.tyInt Syntax.w8)) (Syntax.tcons (Syntax.tyInt Syntax.w64) Syntax.tnil)))) (List._∷_ (15, Rows'.any-gone (Syntax.tyRef Syntax.erased Syntax.mut (Syntax.tyInt Syntax.w8))) List.[])))))))))))))))
+t8 = List._∷_ (0, Rows'.any-gone (Syntax.tyInt Syntax.w64)) (List._∷_ (1, Mut.mslice (Referent.rtF (Referent.fInt Syntax.w8)) (Syntax.tyRef (Syntax.named 0) Syntax.mut (Syntax.tyInt Syntax.w8)) 0) (List._∷_ (2, Rows'.sc-here (Row.sInt Syntax.w64)) (List._∷_ (3, Rows'.sc-here (Row.sInt Syntax.w16)) (List._∷_ (4, Rows'.sslice (Referent.rtF (Referent.fInt Syntax.w8)) (Syntax.tyRef (Syntax.named 1) Syntax.imm (Syntax.tyInt Syntax.w8)) 1) (List._∷_ (5, Mut.mslice (Referent.rtF (Referent.fInt Syntax.w8)) (Syntax.tyRef (Syntax.named 2) Syntax.mut (Syntax.tyInt Syntax.w8)) 2) (List._∷_ (6, Rows'.any-gone (ColumnMetadataRow.ty)) (List._∷_ (7, Rows.arr-owed (ColumnMetadataRow.RT) 4096 3) (List._∷_ (8, Rows'.any-gone (Syntax.tyStruct (List._∷_ 115 (List._∷_ 113 (List._∷_ 108 (List._∷_ 100 (List._∷_ 97 (List._∷_ 114 (List._∷_ 100 (List._∷_ 58 (List._∷_ 58 (List._∷_ 83 (List._∷_ 113 (List._∷_ 108 (List._∷_ 100 (List._∷_ 97 (List._∷_ 114 (List._∷_ 100 (List._∷_ 65 (List._∷_ 110 (List._∷_ 115 (List._∷_ 119 (List._∷_ 101 (List._∷_ 114 List.[])))))))))))))))))))))) (Syntax.tcons (Syntax.tyEnum (List._∷_ 111 (List._∷_ 117 (List._∷_ 116 (List._∷_ 99 (List._∷_ 111 (List._∷_ 109 (List._∷_ 101 (List._∷_ 58 (List._∷_ 58 (List._∷_ 79 (List._∷_ 117 (List._∷_ 116 (List._∷_ 99 (List._∷_ 111 (List._∷_ 109 (List._∷_ 101 List.[])))))))))))))))) (Syntax.ttcons Syntax.tnil (Syntax.ttcons Syntax.tnil (Syntax.ttcons (Syntax.tcons (Syntax.tyInt Syntax.w64) (Syntax.tcons (Syntax.tyInt Syntax.w64) Syntax.tnil)) (Syntax.ttcons Syntax.tnil (Syntax.ttcons (Syntax.tcons (Syntax.tyInt Syntax.w16) Syntax.tnil) (Syntax.ttcons Syntax.tnil (Syntax.ttcons (Syntax.tcons (Syntax.tyInt Syntax.w64) Syntax.tnil) (Syntax.ttcons Syntax.tnil (Syntax.ttcons (Syntax.tcons (Syntax.tyInt Syntax.w16) Syntax.tnil) Syntax.ttnil)))))))))) (Syntax.tcons (Syntax.tyStruct (List._∷_ 115 (List._∷_ 113 (List._∷_ 108 (List._∷_ 99 (List._∷_ 97 (List._∷_ 114 (List._∷_ 100 (List._∷_ 58 (List._∷_ 58 (List._∷_ 83 (List._∷_ 113 (List._∷_ 108 (List._∷_ 67 (List._∷_ 97 (List._∷_ 114 (List._∷_ 100 List.[])))))))))))))))) (Syntax.tcons Syntax.tyBool (Syntax.tcons (Syntax.tyInt Syntax.w32) (Syntax.tcons (Syntax.tyArray (Syntax.tyInt Syntax.w8) 5) (Syntax.tcons (Syntax.tyArray (Syntax.tyInt Syntax.w8) 8) (Syntax.tcons (Syntax.tyInt Syntax.w8) (Syntax.tcons (Syntax.tyArray (Syntax.tyInt Syntax.w32) 6) (Syntax.tcons (Syntax.tyInt Syntax.w64) (Syntax.tcons (Syntax.tyInt Syntax.w32) (Syntax.tcons (Syntax.tyArray (Syntax.tyInt Syntax.w8) 11) (Syntax.tcons (Syntax.tyInt Syntax.w64) (Syntax.tcons (Syntax.tyInt Syntax.w64) Syntax.tnil)))))))))))) (Syntax.tcons (Syntax.tyInt Syntax.w64) Syntax.tnil))))) (List._∷_ (9, Rows'.any-gone (Syntax.tyInt Syntax.w64)) (List._∷_ (10, Rows'.any-gone (Syntax.tyInt Syntax.w64)) (List._∷_ (11, Rows'.any-gone (Syntax.tyRef Syntax.erased Syntax.mut (Syntax.tyArray ColumnMetadataRow.named 4096))) (List._∷_ (12, Mut.mslice (ColumnMetadataRow.RT) (Syntax.tyRef Syntax.erased Syntax.mut ColumnMetadataRow.named) 3) (List._∷_ (13, Rows'.any-gone (Syntax.tyRef Syntax.erased Syntax.mut (Syntax.tyInt Syntax.w8))) (List._∷_ (14, Rows'.any-gone (Syntax.tyStruct (List._∷_ 38 (List._∷_ 91 (List._∷_ 93 List.[]))) (Syntax.tcons (Syntax.tyRef Syntax.erased Syntax.mut (Syntax.tyInt Syntax.w8)) (Syntax.tcons (Syntax.tyInt Syntax.w64) Syntax.tnil)))) (List._∷_ (15, Rows'.any-gone (Syntax.tyRef Syntax.erased Syntax.mut (Syntax.tyInt Syntax.w8))) List.[])))))))))))))))
 
 abbrev pub t9 : List.List Row.Entry
 t9 = List._∷_ (0, Rows'.any-gone (Syntax.tyInt Syntax.w64)) (List._∷_ (1, Mut.mslice (Referent.rtF (Referent.fInt Syntax.w8)) (Syntax.tyRef (Syntax.named 0) Syntax.mut (Syntax.tyInt Syntax.w8)) 0) (List._∷_ (2, Rows'.sc-here (Row.sInt Syntax.w64)) (List._∷_ (3, Rows'.sc-here (Row.sInt Syntax.w16)) (List._∷_ (4, Rows'.sslice (Referent.rtF (Referent.fInt Syntax.w8)) (Syntax.tyRef (Syntax.named 1) Syntax.imm (Syntax.tyInt Syntax.w8)) 1) (List._∷_ (5, Mut.mslice (Referent.rtF (Referent.fInt Syntax.w8)) (Syntax.tyRef (Syntax.named 2) Syntax.mut (Syntax.tyInt Syntax.w8)) 2) (List._∷_ (6, Rows'.any-gone (ColumnMetadataRow.ty)) (List._∷_ (7, Rows.arr-owed (ColumnMetadataRow.RT) 4096 3) (List._∷_ (8, Rows'.whole (Declared.row SqldardAnswer.the-type)) (List._∷_ (9, Rows'.any-gone (Syntax.tyInt Syntax.w64)) (List._∷_ (10, Rows'.any-gone (Syntax.tyInt Syntax.w64)) (List._∷_ (11, Rows'.any-gone (Syntax.tyRef Syntax.erased Syntax.mut (Syntax.tyArray ColumnMetadataRow.named 4096))) (List._∷_ (12, Mut.msleft (ColumnMetadataRow.RT) (Syntax.tyRef Syntax.erased Syntax.mut ColumnMetadataRow.named)) (List._∷_ (13, Rows'.any-gone (Syntax.tyRef Syntax.erased Syntax.mut (Syntax.tyInt Syntax.w8))) (List._∷_ (14, Rows'.any-gone (Syntax.tyStruct (List._∷_ 38 (List._∷_ 91 (List._∷_ 93 List.[]))) (Syntax.tcons (Syntax.tyRef Syntax.erased Syntax.mut (Syntax.tyInt Syntax.w8)) (Syntax.tcons (Syntax.tyInt Syntax.w64) Syntax.tnil)))) (List._∷_ (15, Rows'.any-gone (Syntax.tyRef Syntax.erased Syntax.mut (Syntax.tyInt Syntax.w8))) List.[])))))))))))))))
@@ -262,16 +262,16 @@ abbrev pub t18 : List.List Row.Entry
 t18 = List._∷_ (16, Mut.msleft (Referent.rtF (Referent.fInt Syntax.w8)) (Syntax.tyRef Syntax.erased Syntax.mut (Syntax.tyInt Syntax.w8))) (List._∷_ (17, Rows'.any-gone (Syntax.tyRef Syntax.erased Syntax.mut (Syntax.tyInt Syntax.w8))) (List._∷_ (18, Rows'.any-gone (Syntax.tyStruct (List._∷_ 38 (List._∷_ 91 (List._∷_ 93 List.[]))) (Syntax.tcons (Syntax.tyRef Syntax.erased Syntax.mut (Syntax.tyInt Syntax.w8)) (Syntax.tcons (Syntax.tyInt Syntax.w64) Syntax.tnil)))) (List._∷_ (19, Rows'.any-gone (Syntax.tyRef Syntax.erased Syntax.imm (Syntax.tyArray ColumnMetadataRow.named 4096))) (List._∷_ (20, Rows'.any-gone (Syntax.tyStruct (List._∷_ 38 (List._∷_ 91 (List._∷_ 93 List.[]))) (Syntax.tcons (Syntax.tyRef Syntax.erased Syntax.imm ColumnMetadataRow.named) (Syntax.tcons (Syntax.tyInt Syntax.w64) Syntax.tnil)))) List.[]))))
 
 abbrev pub t19 : List.List Row.Entry
-t19 = List._∷_ (0, Rows'.any-gone (Syntax.tyInt Syntax.w64)) (List._∷_ (1, Relend.mslice-owed (Referent.rtF (Referent.fInt Syntax.w8)) (Syntax.tyRef (Syntax.named 0) Syntax.mut (Syntax.tyInt Syntax.w8)) 0 4 Row.off) (List._∷_ (2, Rows'.sc-here (Row.sInt Syntax.w64)) (List._∷_ (3, Rows'.sc-here (Row.sInt Syntax.w16)) (List._∷_ (4, Rows'.sslice (Referent.rtF (Referent.fInt Syntax.w8)) (Syntax.tyRef (Syntax.named 1) Syntax.imm (Syntax.tyInt Syntax.w8)) 1) (List._∷_ (5, Relend.mslice-owed (Referent.rtF (Referent.fInt Syntax.w8)) (Syntax.tyRef (Syntax.named 2) Syntax.mut (Syntax.tyInt Syntax.w8)) 2 5 Row.off) (List._∷_ (6, Rows'.any-gone (ColumnMetadataRow.ty)) (List._∷_ (7, Rows.arrF (ColumnMetadataRow.RT) 4096 0) (List._∷_ (8, Rows'.any-gone (Syntax.tyStruct (List._∷_ 115 (List._∷_ 113 (List._∷_ 108 (List._∷_ 100 (List._∷_ 97 (List._∷_ 114 (List._∷_ 100 (List._∷_ 58 (List._∷_ 58 (List._∷_ 83 (List._∷_ 113 (List._∷_ 108 (List._∷_ 100 (List._∷_ 97 (List._∷_ 114 (List._∷_ 100 (List._∷_ 65 (List._∷_ 110 (List._∷_ 115 (List._∷_ 119 (List._∷_ 101 (List._∷_ 114 List.[])))))))))))))))))))))) (Syntax.tcons (Syntax.tyEnum (List._∷_ 111 (List._∷_ 117 (List._∷_ 116 (List._∷_ 99 (List._∷_ 111 (List._∷_ 109 (List._∷_ 101 (List._∷_ 58 (List._∷_ 58 (List._∷_ 79 (List._∷_ 117 (List._∷_ 116 (List._∷_ 99 (List._∷_ 111 (List._∷_ 109 (List._∷_ 101 List.[])))))))))))))))) (Syntax.ttcons Syntax.tnil (Syntax.ttcons Syntax.tnil (Syntax.ttcons (Syntax.tcons (Syntax.tyInt Syntax.w64) (Syntax.tcons (Syntax.tyInt Syntax.w64) Syntax.tnil)) (Syntax.ttcons Syntax.tnil (Syntax.ttcons (Syntax.tcons (Syntax.tyInt Syntax.w16) Syntax.tnil) (Syntax.ttcons Syntax.tnil (Syntax.ttcons (Syntax.tcons (Syntax.tyInt Syntax.w64) Syntax.tnil) (Syntax.ttcons Syntax.tnil Syntax.ttnil))))))))) (Syntax.tcons (Syntax.tyStruct (List._∷_ 115 (List._∷_ 113 (List._∷_ 108 (List._∷_ 99 (List._∷_ 97 (List._∷_ 114 (List._∷_ 100 (List._∷_ 58 (List._∷_ 58 (List._∷_ 83 (List._∷_ 113 (List._∷_ 108 (List._∷_ 67 (List._∷_ 97 (List._∷_ 114 (List._∷_ 100 List.[])))))))))))))))) (Syntax.tcons Syntax.tyBool (Syntax.tcons (Syntax.tyInt Syntax.w32) (Syntax.tcons (Syntax.tyArray (Syntax.tyInt Syntax.w8) 5) (Syntax.tcons (Syntax.tyArray (Syntax.tyInt Syntax.w8) 8) (Syntax.tcons (Syntax.tyInt Syntax.w8) (Syntax.tcons (Syntax.tyArray (Syntax.tyInt Syntax.w32) 6) (Syntax.tcons (Syntax.tyInt Syntax.w64) (Syntax.tcons (Syntax.tyInt Syntax.w32) (Syntax.tcons (Syntax.tyArray (Syntax.tyInt Syntax.w8) 11) (Syntax.tcons (Syntax.tyInt Syntax.w64) (Syntax.tcons (Syntax.tyInt Syntax.w64) Syntax.tnil)))))))))))) (Syntax.tcons (Syntax.tyInt Syntax.w64) Syntax.tnil))))) (List._∷_ (9, Rows'.sc-here (Row.sInt Syntax.w64)) (List._∷_ (10, Rows'.sc-here (Row.sInt Syntax.w64)) (List._∷_ (11, Rows'.any-gone (Syntax.tyRef Syntax.erased Syntax.mut (Syntax.tyArray ColumnMetadataRow.named 4096))) (List._∷_ (12, Rows'.any-gone (Syntax.tyStruct (List._∷_ 38 (List._∷_ 91 (List._∷_ 93 List.[]))) (Syntax.tcons (Syntax.tyRef Syntax.erased Syntax.mut ColumnMetadataRow.named) (Syntax.tcons (Syntax.tyInt Syntax.w64) Syntax.tnil)))) (List._∷_ (13, Rows'.any-gone (Syntax.tyRef Syntax.erased Syntax.mut (Syntax.tyInt Syntax.w8))) (List._∷_ (14, Mut.msleft (Referent.rtF (Referent.fInt Syntax.w8)) (Syntax.tyRef Syntax.erased Syntax.mut (Syntax.tyInt Syntax.w8))) (List._∷_ (15, Rows'.any-gone (Syntax.tyRef Syntax.erased Syntax.mut (Syntax.tyInt Syntax.w8))) List.[])))))))))))))))
+t19 = List._∷_ (0, Rows'.any-gone (Syntax.tyInt Syntax.w64)) (List._∷_ (1, Relend.mslice-owed (Referent.rtF (Referent.fInt Syntax.w8)) (Syntax.tyRef (Syntax.named 0) Syntax.mut (Syntax.tyInt Syntax.w8)) 0 4 Row.off) (List._∷_ (2, Rows'.sc-here (Row.sInt Syntax.w64)) (List._∷_ (3, Rows'.sc-here (Row.sInt Syntax.w16)) (List._∷_ (4, Rows'.sslice (Referent.rtF (Referent.fInt Syntax.w8)) (Syntax.tyRef (Syntax.named 1) Syntax.imm (Syntax.tyInt Syntax.w8)) 1) (List._∷_ (5, Relend.mslice-owed (Referent.rtF (Referent.fInt Syntax.w8)) (Syntax.tyRef (Syntax.named 2) Syntax.mut (Syntax.tyInt Syntax.w8)) 2 5 Row.off) (List._∷_ (6, Rows'.any-gone (ColumnMetadataRow.ty)) (List._∷_ (7, Rows.arrF (ColumnMetadataRow.RT) 4096 0) (List._∷_ (8, Rows'.any-gone (Syntax.tyStruct (List._∷_ 115 (List._∷_ 113 (List._∷_ 108 (List._∷_ 100 (List._∷_ 97 (List._∷_ 114 (List._∷_ 100 (List._∷_ 58 (List._∷_ 58 (List._∷_ 83 (List._∷_ 113 (List._∷_ 108 (List._∷_ 100 (List._∷_ 97 (List._∷_ 114 (List._∷_ 100 (List._∷_ 65 (List._∷_ 110 (List._∷_ 115 (List._∷_ 119 (List._∷_ 101 (List._∷_ 114 List.[])))))))))))))))))))))) (Syntax.tcons (Syntax.tyEnum (List._∷_ 111 (List._∷_ 117 (List._∷_ 116 (List._∷_ 99 (List._∷_ 111 (List._∷_ 109 (List._∷_ 101 (List._∷_ 58 (List._∷_ 58 (List._∷_ 79 (List._∷_ 117 (List._∷_ 116 (List._∷_ 99 (List._∷_ 111 (List._∷_ 109 (List._∷_ 101 List.[])))))))))))))))) (Syntax.ttcons Syntax.tnil (Syntax.ttcons Syntax.tnil (Syntax.ttcons (Syntax.tcons (Syntax.tyInt Syntax.w64) (Syntax.tcons (Syntax.tyInt Syntax.w64) Syntax.tnil)) (Syntax.ttcons Syntax.tnil (Syntax.ttcons (Syntax.tcons (Syntax.tyInt Syntax.w16) Syntax.tnil) (Syntax.ttcons Syntax.tnil (Syntax.ttcons (Syntax.tcons (Syntax.tyInt Syntax.w64) Syntax.tnil) (Syntax.ttcons Syntax.tnil (Syntax.ttcons (Syntax.tcons (Syntax.tyInt Syntax.w16) Syntax.tnil) Syntax.ttnil)))))))))) (Syntax.tcons (Syntax.tyStruct (List._∷_ 115 (List._∷_ 113 (List._∷_ 108 (List._∷_ 99 (List._∷_ 97 (List._∷_ 114 (List._∷_ 100 (List._∷_ 58 (List._∷_ 58 (List._∷_ 83 (List._∷_ 113 (List._∷_ 108 (List._∷_ 67 (List._∷_ 97 (List._∷_ 114 (List._∷_ 100 List.[])))))))))))))))) (Syntax.tcons Syntax.tyBool (Syntax.tcons (Syntax.tyInt Syntax.w32) (Syntax.tcons (Syntax.tyArray (Syntax.tyInt Syntax.w8) 5) (Syntax.tcons (Syntax.tyArray (Syntax.tyInt Syntax.w8) 8) (Syntax.tcons (Syntax.tyInt Syntax.w8) (Syntax.tcons (Syntax.tyArray (Syntax.tyInt Syntax.w32) 6) (Syntax.tcons (Syntax.tyInt Syntax.w64) (Syntax.tcons (Syntax.tyInt Syntax.w32) (Syntax.tcons (Syntax.tyArray (Syntax.tyInt Syntax.w8) 11) (Syntax.tcons (Syntax.tyInt Syntax.w64) (Syntax.tcons (Syntax.tyInt Syntax.w64) Syntax.tnil)))))))))))) (Syntax.tcons (Syntax.tyInt Syntax.w64) Syntax.tnil))))) (List._∷_ (9, Rows'.sc-here (Row.sInt Syntax.w64)) (List._∷_ (10, Rows'.sc-here (Row.sInt Syntax.w64)) (List._∷_ (11, Rows'.any-gone (Syntax.tyRef Syntax.erased Syntax.mut (Syntax.tyArray ColumnMetadataRow.named 4096))) (List._∷_ (12, Rows'.any-gone (Syntax.tyStruct (List._∷_ 38 (List._∷_ 91 (List._∷_ 93 List.[]))) (Syntax.tcons (Syntax.tyRef Syntax.erased Syntax.mut ColumnMetadataRow.named) (Syntax.tcons (Syntax.tyInt Syntax.w64) Syntax.tnil)))) (List._∷_ (13, Rows'.any-gone (Syntax.tyRef Syntax.erased Syntax.mut (Syntax.tyInt Syntax.w8))) (List._∷_ (14, Mut.msleft (Referent.rtF (Referent.fInt Syntax.w8)) (Syntax.tyRef Syntax.erased Syntax.mut (Syntax.tyInt Syntax.w8))) (List._∷_ (15, Rows'.any-gone (Syntax.tyRef Syntax.erased Syntax.mut (Syntax.tyInt Syntax.w8))) List.[])))))))))))))))
 
 abbrev pub t20 : List.List Row.Entry
-t20 = List._∷_ (0, Rows'.any-gone (Syntax.tyInt Syntax.w64)) (List._∷_ (1, Mut.mslice (Referent.rtF (Referent.fInt Syntax.w8)) (Syntax.tyRef (Syntax.named 0) Syntax.mut (Syntax.tyInt Syntax.w8)) 0) (List._∷_ (2, Rows'.sc-here (Row.sInt Syntax.w64)) (List._∷_ (3, Rows'.sc-here (Row.sInt Syntax.w16)) (List._∷_ (4, Rows'.sslice (Referent.rtF (Referent.fInt Syntax.w8)) (Syntax.tyRef (Syntax.named 1) Syntax.imm (Syntax.tyInt Syntax.w8)) 1) (List._∷_ (5, Relend.mslice-owed (Referent.rtF (Referent.fInt Syntax.w8)) (Syntax.tyRef (Syntax.named 2) Syntax.mut (Syntax.tyInt Syntax.w8)) 2 5 Row.off) (List._∷_ (6, Rows'.any-gone (ColumnMetadataRow.ty)) (List._∷_ (7, Rows.arrF (ColumnMetadataRow.RT) 4096 0) (List._∷_ (8, Rows'.any-gone (Syntax.tyStruct (List._∷_ 115 (List._∷_ 113 (List._∷_ 108 (List._∷_ 100 (List._∷_ 97 (List._∷_ 114 (List._∷_ 100 (List._∷_ 58 (List._∷_ 58 (List._∷_ 83 (List._∷_ 113 (List._∷_ 108 (List._∷_ 100 (List._∷_ 97 (List._∷_ 114 (List._∷_ 100 (List._∷_ 65 (List._∷_ 110 (List._∷_ 115 (List._∷_ 119 (List._∷_ 101 (List._∷_ 114 List.[])))))))))))))))))))))) (Syntax.tcons (Syntax.tyEnum (List._∷_ 111 (List._∷_ 117 (List._∷_ 116 (List._∷_ 99 (List._∷_ 111 (List._∷_ 109 (List._∷_ 101 (List._∷_ 58 (List._∷_ 58 (List._∷_ 79 (List._∷_ 117 (List._∷_ 116 (List._∷_ 99 (List._∷_ 111 (List._∷_ 109 (List._∷_ 101 List.[])))))))))))))))) (Syntax.ttcons Syntax.tnil (Syntax.ttcons Syntax.tnil (Syntax.ttcons (Syntax.tcons (Syntax.tyInt Syntax.w64) (Syntax.tcons (Syntax.tyInt Syntax.w64) Syntax.tnil)) (Syntax.ttcons Syntax.tnil (Syntax.ttcons (Syntax.tcons (Syntax.tyInt Syntax.w16) Syntax.tnil) (Syntax.ttcons Syntax.tnil (Syntax.ttcons (Syntax.tcons (Syntax.tyInt Syntax.w64) Syntax.tnil) (Syntax.ttcons Syntax.tnil Syntax.ttnil))))))))) (Syntax.tcons (Syntax.tyStruct (List._∷_ 115 (List._∷_ 113 (List._∷_ 108 (List._∷_ 99 (List._∷_ 97 (List._∷_ 114 (List._∷_ 100 (List._∷_ 58 (List._∷_ 58 (List._∷_ 83 (List._∷_ 113 (List._∷_ 108 (List._∷_ 67 (List._∷_ 97 (List._∷_ 114 (List._∷_ 100 List.[])))))))))))))))) (Syntax.tcons Syntax.tyBool (Syntax.tcons (Syntax.tyInt Syntax.w32) (Syntax.tcons (Syntax.tyArray (Syntax.tyInt Syntax.w8) 5) (Syntax.tcons (Syntax.tyArray (Syntax.tyInt Syntax.w8) 8) (Syntax.tcons (Syntax.tyInt Syntax.w8) (Syntax.tcons (Syntax.tyArray (Syntax.tyInt Syntax.w32) 6) (Syntax.tcons (Syntax.tyInt Syntax.w64) (Syntax.tcons (Syntax.tyInt Syntax.w32) (Syntax.tcons (Syntax.tyArray (Syntax.tyInt Syntax.w8) 11) (Syntax.tcons (Syntax.tyInt Syntax.w64) (Syntax.tcons (Syntax.tyInt Syntax.w64) Syntax.tnil)))))))))))) (Syntax.tcons (Syntax.tyInt Syntax.w64) Syntax.tnil))))) (List._∷_ (9, Rows'.sc-here (Row.sInt Syntax.w64)) (List._∷_ (10, Rows'.sc-here (Row.sInt Syntax.w64)) (List._∷_ (11, Rows'.any-gone (Syntax.tyRef Syntax.erased Syntax.mut (Syntax.tyArray ColumnMetadataRow.named 4096))) (List._∷_ (12, Rows'.any-gone (Syntax.tyStruct (List._∷_ 38 (List._∷_ 91 (List._∷_ 93 List.[]))) (Syntax.tcons (Syntax.tyRef Syntax.erased Syntax.mut ColumnMetadataRow.named) (Syntax.tcons (Syntax.tyInt Syntax.w64) Syntax.tnil)))) (List._∷_ (13, Rows'.any-gone (Syntax.tyRef Syntax.erased Syntax.mut (Syntax.tyInt Syntax.w8))) (List._∷_ (14, Rows'.any-gone (Syntax.tyStruct (List._∷_ 38 (List._∷_ 91 (List._∷_ 93 List.[]))) (Syntax.tcons (Syntax.tyRef Syntax.erased Syntax.mut (Syntax.tyInt Syntax.w8)) (Syntax.tcons (Syntax.tyInt Syntax.w64) Syntax.tnil)))) (List._∷_ (15, Rows'.any-gone (Syntax.tyRef Syntax.erased Syntax.mut (Syntax.tyInt Syntax.w8))) List.[])))))))))))))))
+t20 = List._∷_ (0, Rows'.any-gone (Syntax.tyInt Syntax.w64)) (List._∷_ (1, Mut.mslice (Referent.rtF (Referent.fInt Syntax.w8)) (Syntax.tyRef (Syntax.named 0) Syntax.mut (Syntax.tyInt Syntax.w8)) 0) (List._∷_ (2, Rows'.sc-here (Row.sInt Syntax.w64)) (List._∷_ (3, Rows'.sc-here (Row.sInt Syntax.w16)) (List._∷_ (4, Rows'.sslice (Referent.rtF (Referent.fInt Syntax.w8)) (Syntax.tyRef (Syntax.named 1) Syntax.imm (Syntax.tyInt Syntax.w8)) 1) (List._∷_ (5, Relend.mslice-owed (Referent.rtF (Referent.fInt Syntax.w8)) (Syntax.tyRef (Syntax.named 2) Syntax.mut (Syntax.tyInt Syntax.w8)) 2 5 Row.off) (List._∷_ (6, Rows'.any-gone (ColumnMetadataRow.ty)) (List._∷_ (7, Rows.arrF (ColumnMetadataRow.RT) 4096 0) (List._∷_ (8, Rows'.any-gone (Syntax.tyStruct (List._∷_ 115 (List._∷_ 113 (List._∷_ 108 (List._∷_ 100 (List._∷_ 97 (List._∷_ 114 (List._∷_ 100 (List._∷_ 58 (List._∷_ 58 (List._∷_ 83 (List._∷_ 113 (List._∷_ 108 (List._∷_ 100 (List._∷_ 97 (List._∷_ 114 (List._∷_ 100 (List._∷_ 65 (List._∷_ 110 (List._∷_ 115 (List._∷_ 119 (List._∷_ 101 (List._∷_ 114 List.[])))))))))))))))))))))) (Syntax.tcons (Syntax.tyEnum (List._∷_ 111 (List._∷_ 117 (List._∷_ 116 (List._∷_ 99 (List._∷_ 111 (List._∷_ 109 (List._∷_ 101 (List._∷_ 58 (List._∷_ 58 (List._∷_ 79 (List._∷_ 117 (List._∷_ 116 (List._∷_ 99 (List._∷_ 111 (List._∷_ 109 (List._∷_ 101 List.[])))))))))))))))) (Syntax.ttcons Syntax.tnil (Syntax.ttcons Syntax.tnil (Syntax.ttcons (Syntax.tcons (Syntax.tyInt Syntax.w64) (Syntax.tcons (Syntax.tyInt Syntax.w64) Syntax.tnil)) (Syntax.ttcons Syntax.tnil (Syntax.ttcons (Syntax.tcons (Syntax.tyInt Syntax.w16) Syntax.tnil) (Syntax.ttcons Syntax.tnil (Syntax.ttcons (Syntax.tcons (Syntax.tyInt Syntax.w64) Syntax.tnil) (Syntax.ttcons Syntax.tnil (Syntax.ttcons (Syntax.tcons (Syntax.tyInt Syntax.w16) Syntax.tnil) Syntax.ttnil)))))))))) (Syntax.tcons (Syntax.tyStruct (List._∷_ 115 (List._∷_ 113 (List._∷_ 108 (List._∷_ 99 (List._∷_ 97 (List._∷_ 114 (List._∷_ 100 (List._∷_ 58 (List._∷_ 58 (List._∷_ 83 (List._∷_ 113 (List._∷_ 108 (List._∷_ 67 (List._∷_ 97 (List._∷_ 114 (List._∷_ 100 List.[])))))))))))))))) (Syntax.tcons Syntax.tyBool (Syntax.tcons (Syntax.tyInt Syntax.w32) (Syntax.tcons (Syntax.tyArray (Syntax.tyInt Syntax.w8) 5) (Syntax.tcons (Syntax.tyArray (Syntax.tyInt Syntax.w8) 8) (Syntax.tcons (Syntax.tyInt Syntax.w8) (Syntax.tcons (Syntax.tyArray (Syntax.tyInt Syntax.w32) 6) (Syntax.tcons (Syntax.tyInt Syntax.w64) (Syntax.tcons (Syntax.tyInt Syntax.w32) (Syntax.tcons (Syntax.tyArray (Syntax.tyInt Syntax.w8) 11) (Syntax.tcons (Syntax.tyInt Syntax.w64) (Syntax.tcons (Syntax.tyInt Syntax.w64) Syntax.tnil)))))))))))) (Syntax.tcons (Syntax.tyInt Syntax.w64) Syntax.tnil))))) (List._∷_ (9, Rows'.sc-here (Row.sInt Syntax.w64)) (List._∷_ (10, Rows'.sc-here (Row.sInt Syntax.w64)) (List._∷_ (11, Rows'.any-gone (Syntax.tyRef Syntax.erased Syntax.mut (Syntax.tyArray ColumnMetadataRow.named 4096))) (List._∷_ (12, Rows'.any-gone (Syntax.tyStruct (List._∷_ 38 (List._∷_ 91 (List._∷_ 93 List.[]))) (Syntax.tcons (Syntax.tyRef Syntax.erased Syntax.mut ColumnMetadataRow.named) (Syntax.tcons (Syntax.tyInt Syntax.w64) Syntax.tnil)))) (List._∷_ (13, Rows'.any-gone (Syntax.tyRef Syntax.erased Syntax.mut (Syntax.tyInt Syntax.w8))) (List._∷_ (14, Rows'.any-gone (Syntax.tyStruct (List._∷_ 38 (List._∷_ 91 (List._∷_ 93 List.[]))) (Syntax.tcons (Syntax.tyRef Syntax.erased Syntax.mut (Syntax.tyInt Syntax.w8)) (Syntax.tcons (Syntax.tyInt Syntax.w64) Syntax.tnil)))) (List._∷_ (15, Rows'.any-gone (Syntax.tyRef Syntax.erased Syntax.mut (Syntax.tyInt Syntax.w8))) List.[])))))))))))))))
 
 abbrev pub t21 : List.List Row.Entry
-t21 = List._∷_ (0, Rows'.any-gone (Syntax.tyInt Syntax.w64)) (List._∷_ (1, Mut.mslice (Referent.rtF (Referent.fInt Syntax.w8)) (Syntax.tyRef (Syntax.named 0) Syntax.mut (Syntax.tyInt Syntax.w8)) 0) (List._∷_ (2, Rows'.sc-here (Row.sInt Syntax.w64)) (List._∷_ (3, Rows'.sc-here (Row.sInt Syntax.w16)) (List._∷_ (4, Rows'.sslice (Referent.rtF (Referent.fInt Syntax.w8)) (Syntax.tyRef (Syntax.named 1) Syntax.imm (Syntax.tyInt Syntax.w8)) 1) (List._∷_ (5, Mut.mslice (Referent.rtF (Referent.fInt Syntax.w8)) (Syntax.tyRef (Syntax.named 2) Syntax.mut (Syntax.tyInt Syntax.w8)) 2) (List._∷_ (6, Rows'.any-gone (ColumnMetadataRow.ty)) (List._∷_ (7, Rows.arrF (ColumnMetadataRow.RT) 4096 0) (List._∷_ (8, Rows'.any-gone (Syntax.tyStruct (List._∷_ 115 (List._∷_ 113 (List._∷_ 108 (List._∷_ 100 (List._∷_ 97 (List._∷_ 114 (List._∷_ 100 (List._∷_ 58 (List._∷_ 58 (List._∷_ 83 (List._∷_ 113 (List._∷_ 108 (List._∷_ 100 (List._∷_ 97 (List._∷_ 114 (List._∷_ 100 (List._∷_ 65 (List._∷_ 110 (List._∷_ 115 (List._∷_ 119 (List._∷_ 101 (List._∷_ 114 List.[])))))))))))))))))))))) (Syntax.tcons (Syntax.tyEnum (List._∷_ 111 (List._∷_ 117 (List._∷_ 116 (List._∷_ 99 (List._∷_ 111 (List._∷_ 109 (List._∷_ 101 (List._∷_ 58 (List._∷_ 58 (List._∷_ 79 (List._∷_ 117 (List._∷_ 116 (List._∷_ 99 (List._∷_ 111 (List._∷_ 109 (List._∷_ 101 List.[])))))))))))))))) (Syntax.ttcons Syntax.tnil (Syntax.ttcons Syntax.tnil (Syntax.ttcons (Syntax.tcons (Syntax.tyInt Syntax.w64) (Syntax.tcons (Syntax.tyInt Syntax.w64) Syntax.tnil)) (Syntax.ttcons Syntax.tnil (Syntax.ttcons (Syntax.tcons (Syntax.tyInt Syntax.w16) Syntax.tnil) (Syntax.ttcons Syntax.tnil (Syntax.ttcons (Syntax.tcons (Syntax.tyInt Syntax.w64) Syntax.tnil) (Syntax.ttcons Syntax.tnil Syntax.ttnil))))))))) (Syntax.tcons (Syntax.tyStruct (List._∷_ 115 (List._∷_ 113 (List._∷_ 108 (List._∷_ 99 (List._∷_ 97 (List._∷_ 114 (List._∷_ 100 (List._∷_ 58 (List._∷_ 58 (List._∷_ 83 (List._∷_ 113 (List._∷_ 108 (List._∷_ 67 (List._∷_ 97 (List._∷_ 114 (List._∷_ 100 List.[])))))))))))))))) (Syntax.tcons Syntax.tyBool (Syntax.tcons (Syntax.tyInt Syntax.w32) (Syntax.tcons (Syntax.tyArray (Syntax.tyInt Syntax.w8) 5) (Syntax.tcons (Syntax.tyArray (Syntax.tyInt Syntax.w8) 8) (Syntax.tcons (Syntax.tyInt Syntax.w8) (Syntax.tcons (Syntax.tyArray (Syntax.tyInt Syntax.w32) 6) (Syntax.tcons (Syntax.tyInt Syntax.w64) (Syntax.tcons (Syntax.tyInt Syntax.w32) (Syntax.tcons (Syntax.tyArray (Syntax.tyInt Syntax.w8) 11) (Syntax.tcons (Syntax.tyInt Syntax.w64) (Syntax.tcons (Syntax.tyInt Syntax.w64) Syntax.tnil)))))))))))) (Syntax.tcons (Syntax.tyInt Syntax.w64) Syntax.tnil))))) (List._∷_ (9, Rows'.sc-here (Row.sInt Syntax.w64)) (List._∷_ (10, Rows'.sc-here (Row.sInt Syntax.w64)) (List._∷_ (11, Rows'.any-gone (Syntax.tyRef Syntax.erased Syntax.mut (Syntax.tyArray ColumnMetadataRow.named 4096))) (List._∷_ (12, Rows'.any-gone (Syntax.tyStruct (List._∷_ 38 (List._∷_ 91 (List._∷_ 93 List.[]))) (Syntax.tcons (Syntax.tyRef Syntax.erased Syntax.mut ColumnMetadataRow.named) (Syntax.tcons (Syntax.tyInt Syntax.w64) Syntax.tnil)))) (List._∷_ (13, Rows'.any-gone (Syntax.tyRef Syntax.erased Syntax.mut (Syntax.tyInt Syntax.w8))) (List._∷_ (14, Rows'.any-gone (Syntax.tyStruct (List._∷_ 38 (List._∷_ 91 (List._∷_ 93 List.[]))) (Syntax.tcons (Syntax.tyRef Syntax.erased Syntax.mut (Syntax.tyInt Syntax.w8)) (Syntax.tcons (Syntax.tyInt Syntax.w64) Syntax.tnil)))) (List._∷_ (15, Rows'.any-gone (Syntax.tyRef Syntax.erased Syntax.mut (Syntax.tyInt Syntax.w8))) List.[])))))))))))))))
+t21 = List._∷_ (0, Rows'.any-gone (Syntax.tyInt Syntax.w64)) (List._∷_ (1, Mut.mslice (Referent.rtF (Referent.fInt Syntax.w8)) (Syntax.tyRef (Syntax.named 0) Syntax.mut (Syntax.tyInt Syntax.w8)) 0) (List._∷_ (2, Rows'.sc-here (Row.sInt Syntax.w64)) (List._∷_ (3, Rows'.sc-here (Row.sInt Syntax.w16)) (List._∷_ (4, Rows'.sslice (Referent.rtF (Referent.fInt Syntax.w8)) (Syntax.tyRef (Syntax.named 1) Syntax.imm (Syntax.tyInt Syntax.w8)) 1) (List._∷_ (5, Mut.mslice (Referent.rtF (Referent.fInt Syntax.w8)) (Syntax.tyRef (Syntax.named 2) Syntax.mut (Syntax.tyInt Syntax.w8)) 2) (List._∷_ (6, Rows'.any-gone (ColumnMetadataRow.ty)) (List._∷_ (7, Rows.arrF (ColumnMetadataRow.RT) 4096 0) (List._∷_ (8, Rows'.any-gone (Syntax.tyStruct (List._∷_ 115 (List._∷_ 113 (List._∷_ 108 (List._∷_ 100 (List._∷_ 97 (List._∷_ 114 (List._∷_ 100 (List._∷_ 58 (List._∷_ 58 (List._∷_ 83 (List._∷_ 113 (List._∷_ 108 (List._∷_ 100 (List._∷_ 97 (List._∷_ 114 (List._∷_ 100 (List._∷_ 65 (List._∷_ 110 (List._∷_ 115 (List._∷_ 119 (List._∷_ 101 (List._∷_ 114 List.[])))))))))))))))))))))) (Syntax.tcons (Syntax.tyEnum (List._∷_ 111 (List._∷_ 117 (List._∷_ 116 (List._∷_ 99 (List._∷_ 111 (List._∷_ 109 (List._∷_ 101 (List._∷_ 58 (List._∷_ 58 (List._∷_ 79 (List._∷_ 117 (List._∷_ 116 (List._∷_ 99 (List._∷_ 111 (List._∷_ 109 (List._∷_ 101 List.[])))))))))))))))) (Syntax.ttcons Syntax.tnil (Syntax.ttcons Syntax.tnil (Syntax.ttcons (Syntax.tcons (Syntax.tyInt Syntax.w64) (Syntax.tcons (Syntax.tyInt Syntax.w64) Syntax.tnil)) (Syntax.ttcons Syntax.tnil (Syntax.ttcons (Syntax.tcons (Syntax.tyInt Syntax.w16) Syntax.tnil) (Syntax.ttcons Syntax.tnil (Syntax.ttcons (Syntax.tcons (Syntax.tyInt Syntax.w64) Syntax.tnil) (Syntax.ttcons Syntax.tnil (Syntax.ttcons (Syntax.tcons (Syntax.tyInt Syntax.w16) Syntax.tnil) Syntax.ttnil)))))))))) (Syntax.tcons (Syntax.tyStruct (List._∷_ 115 (List._∷_ 113 (List._∷_ 108 (List._∷_ 99 (List._∷_ 97 (List._∷_ 114 (List._∷_ 100 (List._∷_ 58 (List._∷_ 58 (List._∷_ 83 (List._∷_ 113 (List._∷_ 108 (List._∷_ 67 (List._∷_ 97 (List._∷_ 114 (List._∷_ 100 List.[])))))))))))))))) (Syntax.tcons Syntax.tyBool (Syntax.tcons (Syntax.tyInt Syntax.w32) (Syntax.tcons (Syntax.tyArray (Syntax.tyInt Syntax.w8) 5) (Syntax.tcons (Syntax.tyArray (Syntax.tyInt Syntax.w8) 8) (Syntax.tcons (Syntax.tyInt Syntax.w8) (Syntax.tcons (Syntax.tyArray (Syntax.tyInt Syntax.w32) 6) (Syntax.tcons (Syntax.tyInt Syntax.w64) (Syntax.tcons (Syntax.tyInt Syntax.w32) (Syntax.tcons (Syntax.tyArray (Syntax.tyInt Syntax.w8) 11) (Syntax.tcons (Syntax.tyInt Syntax.w64) (Syntax.tcons (Syntax.tyInt Syntax.w64) Syntax.tnil)))))))))))) (Syntax.tcons (Syntax.tyInt Syntax.w64) Syntax.tnil))))) (List._∷_ (9, Rows'.sc-here (Row.sInt Syntax.w64)) (List._∷_ (10, Rows'.sc-here (Row.sInt Syntax.w64)) (List._∷_ (11, Rows'.any-gone (Syntax.tyRef Syntax.erased Syntax.mut (Syntax.tyArray ColumnMetadataRow.named 4096))) (List._∷_ (12, Rows'.any-gone (Syntax.tyStruct (List._∷_ 38 (List._∷_ 91 (List._∷_ 93 List.[]))) (Syntax.tcons (Syntax.tyRef Syntax.erased Syntax.mut ColumnMetadataRow.named) (Syntax.tcons (Syntax.tyInt Syntax.w64) Syntax.tnil)))) (List._∷_ (13, Rows'.any-gone (Syntax.tyRef Syntax.erased Syntax.mut (Syntax.tyInt Syntax.w8))) (List._∷_ (14, Rows'.any-gone (Syntax.tyStruct (List._∷_ 38 (List._∷_ 91 (List._∷_ 93 List.[]))) (Syntax.tcons (Syntax.tyRef Syntax.erased Syntax.mut (Syntax.tyInt Syntax.w8)) (Syntax.tcons (Syntax.tyInt Syntax.w64) Syntax.tnil)))) (List._∷_ (15, Rows'.any-gone (Syntax.tyRef Syntax.erased Syntax.mut (Syntax.tyInt Syntax.w8))) List.[])))))))))))))))
 
 abbrev pub t22 : List.List Row.Entry
-t22 = List._∷_ (0, Rows'.any-gone (Syntax.tyInt Syntax.w64)) (List._∷_ (1, Relend.mslice-owed (Referent.rtF (Referent.fInt Syntax.w8)) (Syntax.tyRef (Syntax.named 0) Syntax.mut (Syntax.tyInt Syntax.w8)) 0 6 Row.off) (List._∷_ (2, Rows'.sc-here (Row.sInt Syntax.w64)) (List._∷_ (3, Rows'.sc-here (Row.sInt Syntax.w16)) (List._∷_ (4, Rows'.sslice (Referent.rtF (Referent.fInt Syntax.w8)) (Syntax.tyRef (Syntax.named 1) Syntax.imm (Syntax.tyInt Syntax.w8)) 1) (List._∷_ (5, Mut.mslice (Referent.rtF (Referent.fInt Syntax.w8)) (Syntax.tyRef (Syntax.named 2) Syntax.mut (Syntax.tyInt Syntax.w8)) 2) (List._∷_ (6, Rows'.any-gone (ColumnMetadataRow.ty)) (List._∷_ (7, Rows.arrF (ColumnMetadataRow.RT) 4096 0) (List._∷_ (8, Rows'.any-gone (Syntax.tyStruct (List._∷_ 115 (List._∷_ 113 (List._∷_ 108 (List._∷_ 100 (List._∷_ 97 (List._∷_ 114 (List._∷_ 100 (List._∷_ 58 (List._∷_ 58 (List._∷_ 83 (List._∷_ 113 (List._∷_ 108 (List._∷_ 100 (List._∷_ 97 (List._∷_ 114 (List._∷_ 100 (List._∷_ 65 (List._∷_ 110 (List._∷_ 115 (List._∷_ 119 (List._∷_ 101 (List._∷_ 114 List.[])))))))))))))))))))))) (Syntax.tcons (Syntax.tyEnum (List._∷_ 111 (List._∷_ 117 (List._∷_ 116 (List._∷_ 99 (List._∷_ 111 (List._∷_ 109 (List._∷_ 101 (List._∷_ 58 (List._∷_ 58 (List._∷_ 79 (List._∷_ 117 (List._∷_ 116 (List._∷_ 99 (List._∷_ 111 (List._∷_ 109 (List._∷_ 101 List.[])))))))))))))))) (Syntax.ttcons Syntax.tnil (Syntax.ttcons Syntax.tnil (Syntax.ttcons (Syntax.tcons (Syntax.tyInt Syntax.w64) (Syntax.tcons (Syntax.tyInt Syntax.w64) Syntax.tnil)) (Syntax.ttcons Syntax.tnil (Syntax.ttcons (Syntax.tcons (Syntax.tyInt Syntax.w16) Syntax.tnil) (Syntax.ttcons Syntax.tnil (Syntax.ttcons (Syntax.tcons (Syntax.tyInt Syntax.w64) Syntax.tnil) (Syntax.ttcons Syntax.tnil Syntax.ttnil))))))))) (Syntax.tcons (Syntax.tyStruct (List._∷_ 115 (List._∷_ 113 (List._∷_ 108 (List._∷_ 99 (List._∷_ 97 (List._∷_ 114 (List._∷_ 100 (List._∷_ 58 (List._∷_ 58 (List._∷_ 83 (List._∷_ 113 (List._∷_ 108 (List._∷_ 67 (List._∷_ 97 (List._∷_ 114 (List._∷_ 100 List.[])))))))))))))))) (Syntax.tcons Syntax.tyBool (Syntax.tcons (Syntax.tyInt Syntax.w32) (Syntax.tcons (Syntax.tyArray (Syntax.tyInt Syntax.w8) 5) (Syntax.tcons (Syntax.tyArray (Syntax.tyInt Syntax.w8) 8) (Syntax.tcons (Syntax.tyInt Syntax.w8) (Syntax.tcons (Syntax.tyArray (Syntax.tyInt Syntax.w32) 6) (Syntax.tcons (Syntax.tyInt Syntax.w64) (Syntax.tcons (Syntax.tyInt Syntax.w32) (Syntax.tcons (Syntax.tyArray (Syntax.tyInt Syntax.w8) 11) (Syntax.tcons (Syntax.tyInt Syntax.w64) (Syntax.tcons (Syntax.tyInt Syntax.w64) Syntax.tnil)))))))))))) (Syntax.tcons (Syntax.tyInt Syntax.w64) Syntax.tnil))))) (List._∷_ (9, Rows'.sc-here (Row.sInt Syntax.w64)) (List._∷_ (10, Rows'.sc-here (Row.sInt Syntax.w64)) (List._∷_ (11, Rows'.any-gone (Syntax.tyRef Syntax.erased Syntax.mut (Syntax.tyArray ColumnMetadataRow.named 4096))) (List._∷_ (12, Rows'.any-gone (Syntax.tyStruct (List._∷_ 38 (List._∷_ 91 (List._∷_ 93 List.[]))) (Syntax.tcons (Syntax.tyRef Syntax.erased Syntax.mut ColumnMetadataRow.named) (Syntax.tcons (Syntax.tyInt Syntax.w64) Syntax.tnil)))) (List._∷_ (13, Rows'.any-gone (Syntax.tyRef Syntax.erased Syntax.mut (Syntax.tyInt Syntax.w8))) (List._∷_ (14, Rows'.any-gone (Syntax.tyStruct (List._∷_ 38 (List._∷_ 91 (List._∷_ 93 List.[]))) (Syntax.tcons (Syntax.tyRef Syntax.erased Syntax.mut (Syntax.tyInt Syntax.w8)) (Syntax.tcons (Syntax.tyInt Syntax.w64) Syntax.tnil)))) (List._∷_ (15, Rows'.any-gone (Syntax.tyRef Syntax.erased Syntax.mut (Syntax.tyInt Syntax.w8))) List.[])))))))))))))))
+t22 = List._∷_ (0, Rows'.any-gone (Syntax.tyInt Syntax.w64)) (List._∷_ (1, Relend.mslice-owed (Referent.rtF (Referent.fInt Syntax.w8)) (Syntax.tyRef (Syntax.named 0) Syntax.mut (Syntax.tyInt Syntax.w8)) 0 6 Row.off) (List._∷_ (2, Rows'.sc-here (Row.sInt Syntax.w64)) (List._∷_ (3, Rows'.sc-here (Row.sInt Syntax.w16)) (List._∷_ (4, Rows'.sslice (Referent.rtF (Referent.fInt Syntax.w8)) (Syntax.tyRef (Syntax.named 1) Syntax.imm (Syntax.tyInt Syntax.w8)) 1) (List._∷_ (5, Mut.mslice (Referent.rtF (Referent.fInt Syntax.w8)) (Syntax.tyRef (Syntax.named 2) Syntax.mut (Syntax.tyInt Syntax.w8)) 2) (List._∷_ (6, Rows'.any-gone (ColumnMetadataRow.ty)) (List._∷_ (7, Rows.arrF (ColumnMetadataRow.RT) 4096 0) (List._∷_ (8, Rows'.any-gone (Syntax.tyStruct (List._∷_ 115 (List._∷_ 113 (List._∷_ 108 (List._∷_ 100 (List._∷_ 97 (List._∷_ 114 (List._∷_ 100 (List._∷_ 58 (List._∷_ 58 (List._∷_ 83 (List._∷_ 113 (List._∷_ 108 (List._∷_ 100 (List._∷_ 97 (List._∷_ 114 (List._∷_ 100 (List._∷_ 65 (List._∷_ 110 (List._∷_ 115 (List._∷_ 119 (List._∷_ 101 (List._∷_ 114 List.[])))))))))))))))))))))) (Syntax.tcons (Syntax.tyEnum (List._∷_ 111 (List._∷_ 117 (List._∷_ 116 (List._∷_ 99 (List._∷_ 111 (List._∷_ 109 (List._∷_ 101 (List._∷_ 58 (List._∷_ 58 (List._∷_ 79 (List._∷_ 117 (List._∷_ 116 (List._∷_ 99 (List._∷_ 111 (List._∷_ 109 (List._∷_ 101 List.[])))))))))))))))) (Syntax.ttcons Syntax.tnil (Syntax.ttcons Syntax.tnil (Syntax.ttcons (Syntax.tcons (Syntax.tyInt Syntax.w64) (Syntax.tcons (Syntax.tyInt Syntax.w64) Syntax.tnil)) (Syntax.ttcons Syntax.tnil (Syntax.ttcons (Syntax.tcons (Syntax.tyInt Syntax.w16) Syntax.tnil) (Syntax.ttcons Syntax.tnil (Syntax.ttcons (Syntax.tcons (Syntax.tyInt Syntax.w64) Syntax.tnil) (Syntax.ttcons Syntax.tnil (Syntax.ttcons (Syntax.tcons (Syntax.tyInt Syntax.w16) Syntax.tnil) Syntax.ttnil)))))))))) (Syntax.tcons (Syntax.tyStruct (List._∷_ 115 (List._∷_ 113 (List._∷_ 108 (List._∷_ 99 (List._∷_ 97 (List._∷_ 114 (List._∷_ 100 (List._∷_ 58 (List._∷_ 58 (List._∷_ 83 (List._∷_ 113 (List._∷_ 108 (List._∷_ 67 (List._∷_ 97 (List._∷_ 114 (List._∷_ 100 List.[])))))))))))))))) (Syntax.tcons Syntax.tyBool (Syntax.tcons (Syntax.tyInt Syntax.w32) (Syntax.tcons (Syntax.tyArray (Syntax.tyInt Syntax.w8) 5) (Syntax.tcons (Syntax.tyArray (Syntax.tyInt Syntax.w8) 8) (Syntax.tcons (Syntax.tyInt Syntax.w8) (Syntax.tcons (Syntax.tyArray (Syntax.tyInt Syntax.w32) 6) (Syntax.tcons (Syntax.tyInt Syntax.w64) (Syntax.tcons (Syntax.tyInt Syntax.w32) (Syntax.tcons (Syntax.tyArray (Syntax.tyInt Syntax.w8) 11) (Syntax.tcons (Syntax.tyInt Syntax.w64) (Syntax.tcons (Syntax.tyInt Syntax.w64) Syntax.tnil)))))))))))) (Syntax.tcons (Syntax.tyInt Syntax.w64) Syntax.tnil))))) (List._∷_ (9, Rows'.sc-here (Row.sInt Syntax.w64)) (List._∷_ (10, Rows'.sc-here (Row.sInt Syntax.w64)) (List._∷_ (11, Rows'.any-gone (Syntax.tyRef Syntax.erased Syntax.mut (Syntax.tyArray ColumnMetadataRow.named 4096))) (List._∷_ (12, Rows'.any-gone (Syntax.tyStruct (List._∷_ 38 (List._∷_ 91 (List._∷_ 93 List.[]))) (Syntax.tcons (Syntax.tyRef Syntax.erased Syntax.mut ColumnMetadataRow.named) (Syntax.tcons (Syntax.tyInt Syntax.w64) Syntax.tnil)))) (List._∷_ (13, Rows'.any-gone (Syntax.tyRef Syntax.erased Syntax.mut (Syntax.tyInt Syntax.w8))) (List._∷_ (14, Rows'.any-gone (Syntax.tyStruct (List._∷_ 38 (List._∷_ 91 (List._∷_ 93 List.[]))) (Syntax.tcons (Syntax.tyRef Syntax.erased Syntax.mut (Syntax.tyInt Syntax.w8)) (Syntax.tcons (Syntax.tyInt Syntax.w64) Syntax.tnil)))) (List._∷_ (15, Rows'.any-gone (Syntax.tyRef Syntax.erased Syntax.mut (Syntax.tyInt Syntax.w8))) List.[])))))))))))))))
 
 abbrev pub t23 : List.List Row.Entry
 t23 = List._∷_ (16, Rows'.any-gone (Syntax.tyStruct (List._∷_ 38 (List._∷_ 91 (List._∷_ 93 List.[]))) (Syntax.tcons (Syntax.tyRef Syntax.erased Syntax.mut (Syntax.tyInt Syntax.w8)) (Syntax.tcons (Syntax.tyInt Syntax.w64) Syntax.tnil)))) (List._∷_ (17, Relend.msptr (Referent.rtF (Referent.fInt Syntax.w8)) (Syntax.tyRef Syntax.erased Syntax.mut (Syntax.tyInt Syntax.w8)) 6) (List._∷_ (18, Rows'.any-gone (Syntax.tyStruct (List._∷_ 38 (List._∷_ 91 (List._∷_ 93 List.[]))) (Syntax.tcons (Syntax.tyRef Syntax.erased Syntax.mut (Syntax.tyInt Syntax.w8)) (Syntax.tcons (Syntax.tyInt Syntax.w64) Syntax.tnil)))) (List._∷_ (19, Rows'.any-gone (Syntax.tyRef Syntax.erased Syntax.imm (Syntax.tyArray ColumnMetadataRow.named 4096))) (List._∷_ (20, Rows'.any-gone (Syntax.tyStruct (List._∷_ 38 (List._∷_ 91 (List._∷_ 93 List.[]))) (Syntax.tcons (Syntax.tyRef Syntax.erased Syntax.imm ColumnMetadataRow.named) (Syntax.tcons (Syntax.tyInt Syntax.w64) Syntax.tnil)))) List.[]))))
@@ -280,7 +280,7 @@ abbrev pub t24 : List.List Row.Entry
 t24 = List._∷_ (16, Rows'.any-gone (Syntax.tyStruct (List._∷_ 38 (List._∷_ 91 (List._∷_ 93 List.[]))) (Syntax.tcons (Syntax.tyRef Syntax.erased Syntax.mut (Syntax.tyInt Syntax.w8)) (Syntax.tcons (Syntax.tyInt Syntax.w64) Syntax.tnil)))) (List._∷_ (17, Rows'.any-gone (Syntax.tyRef Syntax.erased Syntax.mut (Syntax.tyInt Syntax.w8))) (List._∷_ (18, Mut.mslice (Referent.rtF (Referent.fInt Syntax.w8)) (Syntax.tyRef Syntax.erased Syntax.mut (Syntax.tyInt Syntax.w8)) 6) (List._∷_ (19, Rows'.any-gone (Syntax.tyRef Syntax.erased Syntax.imm (Syntax.tyArray ColumnMetadataRow.named 4096))) (List._∷_ (20, Rows'.any-gone (Syntax.tyStruct (List._∷_ 38 (List._∷_ 91 (List._∷_ 93 List.[]))) (Syntax.tcons (Syntax.tyRef Syntax.erased Syntax.imm ColumnMetadataRow.named) (Syntax.tcons (Syntax.tyInt Syntax.w64) Syntax.tnil)))) List.[]))))
 
 abbrev pub t25 : List.List Row.Entry
-t25 = List._∷_ (0, Rows'.any-gone (Syntax.tyInt Syntax.w64)) (List._∷_ (1, Relend.mslice-owed (Referent.rtF (Referent.fInt Syntax.w8)) (Syntax.tyRef (Syntax.named 0) Syntax.mut (Syntax.tyInt Syntax.w8)) 0 6 Row.off) (List._∷_ (2, Rows'.sc-here (Row.sInt Syntax.w64)) (List._∷_ (3, Rows'.sc-here (Row.sInt Syntax.w16)) (List._∷_ (4, Rows'.sslice (Referent.rtF (Referent.fInt Syntax.w8)) (Syntax.tyRef (Syntax.named 1) Syntax.imm (Syntax.tyInt Syntax.w8)) 1) (List._∷_ (5, Mut.mslice (Referent.rtF (Referent.fInt Syntax.w8)) (Syntax.tyRef (Syntax.named 2) Syntax.mut (Syntax.tyInt Syntax.w8)) 2) (List._∷_ (6, Rows'.any-gone (ColumnMetadataRow.ty)) (List._∷_ (7, Rows.arr-shrP (ColumnMetadataRow.RT) 4096 7) (List._∷_ (8, Rows'.any-gone (Syntax.tyStruct (List._∷_ 115 (List._∷_ 113 (List._∷_ 108 (List._∷_ 100 (List._∷_ 97 (List._∷_ 114 (List._∷_ 100 (List._∷_ 58 (List._∷_ 58 (List._∷_ 83 (List._∷_ 113 (List._∷_ 108 (List._∷_ 100 (List._∷_ 97 (List._∷_ 114 (List._∷_ 100 (List._∷_ 65 (List._∷_ 110 (List._∷_ 115 (List._∷_ 119 (List._∷_ 101 (List._∷_ 114 List.[])))))))))))))))))))))) (Syntax.tcons (Syntax.tyEnum (List._∷_ 111 (List._∷_ 117 (List._∷_ 116 (List._∷_ 99 (List._∷_ 111 (List._∷_ 109 (List._∷_ 101 (List._∷_ 58 (List._∷_ 58 (List._∷_ 79 (List._∷_ 117 (List._∷_ 116 (List._∷_ 99 (List._∷_ 111 (List._∷_ 109 (List._∷_ 101 List.[])))))))))))))))) (Syntax.ttcons Syntax.tnil (Syntax.ttcons Syntax.tnil (Syntax.ttcons (Syntax.tcons (Syntax.tyInt Syntax.w64) (Syntax.tcons (Syntax.tyInt Syntax.w64) Syntax.tnil)) (Syntax.ttcons Syntax.tnil (Syntax.ttcons (Syntax.tcons (Syntax.tyInt Syntax.w16) Syntax.tnil) (Syntax.ttcons Syntax.tnil (Syntax.ttcons (Syntax.tcons (Syntax.tyInt Syntax.w64) Syntax.tnil) (Syntax.ttcons Syntax.tnil Syntax.ttnil))))))))) (Syntax.tcons (Syntax.tyStruct (List._∷_ 115 (List._∷_ 113 (List._∷_ 108 (List._∷_ 99 (List._∷_ 97 (List._∷_ 114 (List._∷_ 100 (List._∷_ 58 (List._∷_ 58 (List._∷_ 83 (List._∷_ 113 (List._∷_ 108 (List._∷_ 67 (List._∷_ 97 (List._∷_ 114 (List._∷_ 100 List.[])))))))))))))))) (Syntax.tcons Syntax.tyBool (Syntax.tcons (Syntax.tyInt Syntax.w32) (Syntax.tcons (Syntax.tyArray (Syntax.tyInt Syntax.w8) 5) (Syntax.tcons (Syntax.tyArray (Syntax.tyInt Syntax.w8) 8) (Syntax.tcons (Syntax.tyInt Syntax.w8) (Syntax.tcons (Syntax.tyArray (Syntax.tyInt Syntax.w32) 6) (Syntax.tcons (Syntax.tyInt Syntax.w64) (Syntax.tcons (Syntax.tyInt Syntax.w32) (Syntax.tcons (Syntax.tyArray (Syntax.tyInt Syntax.w8) 11) (Syntax.tcons (Syntax.tyInt Syntax.w64) (Syntax.tcons (Syntax.tyInt Syntax.w64) Syntax.tnil)))))))))))) (Syntax.tcons (Syntax.tyInt Syntax.w64) Syntax.tnil))))) (List._∷_ (9, Rows'.sc-here (Row.sInt Syntax.w64)) (List._∷_ (10, Rows'.sc-here (Row.sInt Syntax.w64)) (List._∷_ (11, Rows'.any-gone (Syntax.tyRef Syntax.erased Syntax.mut (Syntax.tyArray ColumnMetadataRow.named 4096))) (List._∷_ (12, Rows'.any-gone (Syntax.tyStruct (List._∷_ 38 (List._∷_ 91 (List._∷_ 93 List.[]))) (Syntax.tcons (Syntax.tyRef Syntax.erased Syntax.mut ColumnMetadataRow.named) (Syntax.tcons (Syntax.tyInt Syntax.w64) Syntax.tnil)))) (List._∷_ (13, Rows'.any-gone (Syntax.tyRef Syntax.erased Syntax.mut (Syntax.tyInt Syntax.w8))) (List._∷_ (14, Rows'.any-gone (Syntax.tyStruct (List._∷_ 38 (List._∷_ 91 (List._∷_ 93 List.[]))) (Syntax.tcons (Syntax.tyRef Syntax.erased Syntax.mut (Syntax.tyInt Syntax.w8)) (Syntax.tcons (Syntax.tyInt Syntax.w64) Syntax.tnil)))) (List._∷_ (15, Rows'.any-gone (Syntax.tyRef Syntax.erased Syntax.mut (Syntax.tyInt Syntax.w8))) List.[])))))))))))))))
+t25 = List._∷_ (0, Rows'.any-gone (Syntax.tyInt Syntax.w64)) (List._∷_ (1, Relend.mslice-owed (Referent.rtF (Referent.fInt Syntax.w8)) (Syntax.tyRef (Syntax.named 0) Syntax.mut (Syntax.tyInt Syntax.w8)) 0 6 Row.off) (List._∷_ (2, Rows'.sc-here (Row.sInt Syntax.w64)) (List._∷_ (3, Rows'.sc-here (Row.sInt Syntax.w16)) (List._∷_ (4, Rows'.sslice (Referent.rtF (Referent.fInt Syntax.w8)) (Syntax.tyRef (Syntax.named 1) Syntax.imm (Syntax.tyInt Syntax.w8)) 1) (List._∷_ (5, Mut.mslice (Referent.rtF (Referent.fInt Syntax.w8)) (Syntax.tyRef (Syntax.named 2) Syntax.mut (Syntax.tyInt Syntax.w8)) 2) (List._∷_ (6, Rows'.any-gone (ColumnMetadataRow.ty)) (List._∷_ (7, Rows.arr-shrP (ColumnMetadataRow.RT) 4096 7) (List._∷_ (8, Rows'.any-gone (Syntax.tyStruct (List._∷_ 115 (List._∷_ 113 (List._∷_ 108 (List._∷_ 100 (List._∷_ 97 (List._∷_ 114 (List._∷_ 100 (List._∷_ 58 (List._∷_ 58 (List._∷_ 83 (List._∷_ 113 (List._∷_ 108 (List._∷_ 100 (List._∷_ 97 (List._∷_ 114 (List._∷_ 100 (List._∷_ 65 (List._∷_ 110 (List._∷_ 115 (List._∷_ 119 (List._∷_ 101 (List._∷_ 114 List.[])))))))))))))))))))))) (Syntax.tcons (Syntax.tyEnum (List._∷_ 111 (List._∷_ 117 (List._∷_ 116 (List._∷_ 99 (List._∷_ 111 (List._∷_ 109 (List._∷_ 101 (List._∷_ 58 (List._∷_ 58 (List._∷_ 79 (List._∷_ 117 (List._∷_ 116 (List._∷_ 99 (List._∷_ 111 (List._∷_ 109 (List._∷_ 101 List.[])))))))))))))))) (Syntax.ttcons Syntax.tnil (Syntax.ttcons Syntax.tnil (Syntax.ttcons (Syntax.tcons (Syntax.tyInt Syntax.w64) (Syntax.tcons (Syntax.tyInt Syntax.w64) Syntax.tnil)) (Syntax.ttcons Syntax.tnil (Syntax.ttcons (Syntax.tcons (Syntax.tyInt Syntax.w16) Syntax.tnil) (Syntax.ttcons Syntax.tnil (Syntax.ttcons (Syntax.tcons (Syntax.tyInt Syntax.w64) Syntax.tnil) (Syntax.ttcons Syntax.tnil (Syntax.ttcons (Syntax.tcons (Syntax.tyInt Syntax.w16) Syntax.tnil) Syntax.ttnil)))))))))) (Syntax.tcons (Syntax.tyStruct (List._∷_ 115 (List._∷_ 113 (List._∷_ 108 (List._∷_ 99 (List._∷_ 97 (List._∷_ 114 (List._∷_ 100 (List._∷_ 58 (List._∷_ 58 (List._∷_ 83 (List._∷_ 113 (List._∷_ 108 (List._∷_ 67 (List._∷_ 97 (List._∷_ 114 (List._∷_ 100 List.[])))))))))))))))) (Syntax.tcons Syntax.tyBool (Syntax.tcons (Syntax.tyInt Syntax.w32) (Syntax.tcons (Syntax.tyArray (Syntax.tyInt Syntax.w8) 5) (Syntax.tcons (Syntax.tyArray (Syntax.tyInt Syntax.w8) 8) (Syntax.tcons (Syntax.tyInt Syntax.w8) (Syntax.tcons (Syntax.tyArray (Syntax.tyInt Syntax.w32) 6) (Syntax.tcons (Syntax.tyInt Syntax.w64) (Syntax.tcons (Syntax.tyInt Syntax.w32) (Syntax.tcons (Syntax.tyArray (Syntax.tyInt Syntax.w8) 11) (Syntax.tcons (Syntax.tyInt Syntax.w64) (Syntax.tcons (Syntax.tyInt Syntax.w64) Syntax.tnil)))))))))))) (Syntax.tcons (Syntax.tyInt Syntax.w64) Syntax.tnil))))) (List._∷_ (9, Rows'.sc-here (Row.sInt Syntax.w64)) (List._∷_ (10, Rows'.sc-here (Row.sInt Syntax.w64)) (List._∷_ (11, Rows'.any-gone (Syntax.tyRef Syntax.erased Syntax.mut (Syntax.tyArray ColumnMetadataRow.named 4096))) (List._∷_ (12, Rows'.any-gone (Syntax.tyStruct (List._∷_ 38 (List._∷_ 91 (List._∷_ 93 List.[]))) (Syntax.tcons (Syntax.tyRef Syntax.erased Syntax.mut ColumnMetadataRow.named) (Syntax.tcons (Syntax.tyInt Syntax.w64) Syntax.tnil)))) (List._∷_ (13, Rows'.any-gone (Syntax.tyRef Syntax.erased Syntax.mut (Syntax.tyInt Syntax.w8))) (List._∷_ (14, Rows'.any-gone (Syntax.tyStruct (List._∷_ 38 (List._∷_ 91 (List._∷_ 93 List.[]))) (Syntax.tcons (Syntax.tyRef Syntax.erased Syntax.mut (Syntax.tyInt Syntax.w8)) (Syntax.tcons (Syntax.tyInt Syntax.w64) Syntax.tnil)))) (List._∷_ (15, Rows'.any-gone (Syntax.tyRef Syntax.erased Syntax.mut (Syntax.tyInt Syntax.w8))) List.[])))))))))))))))
 
 abbrev pub t26 : List.List Row.Entry
 t26 = List._∷_ (16, Rows'.any-gone (Syntax.tyStruct (List._∷_ 38 (List._∷_ 91 (List._∷_ 93 List.[]))) (Syntax.tcons (Syntax.tyRef Syntax.erased Syntax.mut (Syntax.tyInt Syntax.w8)) (Syntax.tcons (Syntax.tyInt Syntax.w64) Syntax.tnil)))) (List._∷_ (17, Rows'.any-gone (Syntax.tyRef Syntax.erased Syntax.mut (Syntax.tyInt Syntax.w8))) (List._∷_ (18, Mut.mslice (Referent.rtF (Referent.fInt Syntax.w8)) (Syntax.tyRef Syntax.erased Syntax.mut (Syntax.tyInt Syntax.w8)) 6) (List._∷_ (19, Relend.ssptr (ColumnMetadataRow.RT) (Syntax.tyRef Syntax.erased Syntax.imm (Syntax.tyArray ColumnMetadataRow.named 4096)) 7) (List._∷_ (20, Rows'.any-gone (Syntax.tyStruct (List._∷_ 38 (List._∷_ 91 (List._∷_ 93 List.[]))) (Syntax.tcons (Syntax.tyRef Syntax.erased Syntax.imm ColumnMetadataRow.named) (Syntax.tcons (Syntax.tyInt Syntax.w64) Syntax.tnil)))) List.[]))))
@@ -289,7 +289,7 @@ abbrev pub t27 : List.List Row.Entry
 t27 = List._∷_ (16, Rows'.any-gone (Syntax.tyStruct (List._∷_ 38 (List._∷_ 91 (List._∷_ 93 List.[]))) (Syntax.tcons (Syntax.tyRef Syntax.erased Syntax.mut (Syntax.tyInt Syntax.w8)) (Syntax.tcons (Syntax.tyInt Syntax.w64) Syntax.tnil)))) (List._∷_ (17, Rows'.any-gone (Syntax.tyRef Syntax.erased Syntax.mut (Syntax.tyInt Syntax.w8))) (List._∷_ (18, Mut.mslice (Referent.rtF (Referent.fInt Syntax.w8)) (Syntax.tyRef Syntax.erased Syntax.mut (Syntax.tyInt Syntax.w8)) 6) (List._∷_ (19, Rows'.any-gone (Syntax.tyRef Syntax.erased Syntax.imm (Syntax.tyArray ColumnMetadataRow.named 4096))) (List._∷_ (20, Rows'.sslice (ColumnMetadataRow.RT) (Syntax.tyRef Syntax.erased Syntax.imm ColumnMetadataRow.named) 7) List.[]))))
 
 abbrev pub t28 : List.List Row.Entry
-t28 = List._∷_ (0, Rows'.sc-here (Row.sInt Syntax.w64)) (List._∷_ (1, Relend.mslice-owed (Referent.rtF (Referent.fInt Syntax.w8)) (Syntax.tyRef (Syntax.named 0) Syntax.mut (Syntax.tyInt Syntax.w8)) 0 6 Row.off) (List._∷_ (2, Rows'.sc-here (Row.sInt Syntax.w64)) (List._∷_ (3, Rows'.sc-here (Row.sInt Syntax.w16)) (List._∷_ (4, Rows'.sslice (Referent.rtF (Referent.fInt Syntax.w8)) (Syntax.tyRef (Syntax.named 1) Syntax.imm (Syntax.tyInt Syntax.w8)) 1) (List._∷_ (5, Mut.mslice (Referent.rtF (Referent.fInt Syntax.w8)) (Syntax.tyRef (Syntax.named 2) Syntax.mut (Syntax.tyInt Syntax.w8)) 2) (List._∷_ (6, Rows'.any-gone (ColumnMetadataRow.ty)) (List._∷_ (7, Rows.arr-shrP (ColumnMetadataRow.RT) 4096 7) (List._∷_ (8, Rows'.any-gone (Syntax.tyStruct (List._∷_ 115 (List._∷_ 113 (List._∷_ 108 (List._∷_ 100 (List._∷_ 97 (List._∷_ 114 (List._∷_ 100 (List._∷_ 58 (List._∷_ 58 (List._∷_ 83 (List._∷_ 113 (List._∷_ 108 (List._∷_ 100 (List._∷_ 97 (List._∷_ 114 (List._∷_ 100 (List._∷_ 65 (List._∷_ 110 (List._∷_ 115 (List._∷_ 119 (List._∷_ 101 (List._∷_ 114 List.[])))))))))))))))))))))) (Syntax.tcons (Syntax.tyEnum (List._∷_ 111 (List._∷_ 117 (List._∷_ 116 (List._∷_ 99 (List._∷_ 111 (List._∷_ 109 (List._∷_ 101 (List._∷_ 58 (List._∷_ 58 (List._∷_ 79 (List._∷_ 117 (List._∷_ 116 (List._∷_ 99 (List._∷_ 111 (List._∷_ 109 (List._∷_ 101 List.[])))))))))))))))) (Syntax.ttcons Syntax.tnil (Syntax.ttcons Syntax.tnil (Syntax.ttcons (Syntax.tcons (Syntax.tyInt Syntax.w64) (Syntax.tcons (Syntax.tyInt Syntax.w64) Syntax.tnil)) (Syntax.ttcons Syntax.tnil (Syntax.ttcons (Syntax.tcons (Syntax.tyInt Syntax.w16) Syntax.tnil) (Syntax.ttcons Syntax.tnil (Syntax.ttcons (Syntax.tcons (Syntax.tyInt Syntax.w64) Syntax.tnil) (Syntax.ttcons Syntax.tnil Syntax.ttnil))))))))) (Syntax.tcons (Syntax.tyStruct (List._∷_ 115 (List._∷_ 113 (List._∷_ 108 (List._∷_ 99 (List._∷_ 97 (List._∷_ 114 (List._∷_ 100 (List._∷_ 58 (List._∷_ 58 (List._∷_ 83 (List._∷_ 113 (List._∷_ 108 (List._∷_ 67 (List._∷_ 97 (List._∷_ 114 (List._∷_ 100 List.[])))))))))))))))) (Syntax.tcons Syntax.tyBool (Syntax.tcons (Syntax.tyInt Syntax.w32) (Syntax.tcons (Syntax.tyArray (Syntax.tyInt Syntax.w8) 5) (Syntax.tcons (Syntax.tyArray (Syntax.tyInt Syntax.w8) 8) (Syntax.tcons (Syntax.tyInt Syntax.w8) (Syntax.tcons (Syntax.tyArray (Syntax.tyInt Syntax.w32) 6) (Syntax.tcons (Syntax.tyInt Syntax.w64) (Syntax.tcons (Syntax.tyInt Syntax.w32) (Syntax.tcons (Syntax.tyArray (Syntax.tyInt Syntax.w8) 11) (Syntax.tcons (Syntax.tyInt Syntax.w64) (Syntax.tcons (Syntax.tyInt Syntax.w64) Syntax.tnil)))))))))))) (Syntax.tcons (Syntax.tyInt Syntax.w64) Syntax.tnil))))) (List._∷_ (9, Rows'.sc-here (Row.sInt Syntax.w64)) (List._∷_ (10, Rows'.sc-here (Row.sInt Syntax.w64)) (List._∷_ (11, Rows'.any-gone (Syntax.tyRef Syntax.erased Syntax.mut (Syntax.tyArray ColumnMetadataRow.named 4096))) (List._∷_ (12, Rows'.any-gone (Syntax.tyStruct (List._∷_ 38 (List._∷_ 91 (List._∷_ 93 List.[]))) (Syntax.tcons (Syntax.tyRef Syntax.erased Syntax.mut ColumnMetadataRow.named) (Syntax.tcons (Syntax.tyInt Syntax.w64) Syntax.tnil)))) (List._∷_ (13, Rows'.any-gone (Syntax.tyRef Syntax.erased Syntax.mut (Syntax.tyInt Syntax.w8))) (List._∷_ (14, Rows'.any-gone (Syntax.tyStruct (List._∷_ 38 (List._∷_ 91 (List._∷_ 93 List.[]))) (Syntax.tcons (Syntax.tyRef Syntax.erased Syntax.mut (Syntax.tyInt Syntax.w8)) (Syntax.tcons (Syntax.tyInt Syntax.w64) Syntax.tnil)))) (List._∷_ (15, Rows'.any-gone (Syntax.tyRef Syntax.erased Syntax.mut (Syntax.tyInt Syntax.w8))) List.[])))))))))))))))
+t28 = List._∷_ (0, Rows'.sc-here (Row.sInt Syntax.w64)) (List._∷_ (1, Relend.mslice-owed (Referent.rtF (Referent.fInt Syntax.w8)) (Syntax.tyRef (Syntax.named 0) Syntax.mut (Syntax.tyInt Syntax.w8)) 0 6 Row.off) (List._∷_ (2, Rows'.sc-here (Row.sInt Syntax.w64)) (List._∷_ (3, Rows'.sc-here (Row.sInt Syntax.w16)) (List._∷_ (4, Rows'.sslice (Referent.rtF (Referent.fInt Syntax.w8)) (Syntax.tyRef (Syntax.named 1) Syntax.imm (Syntax.tyInt Syntax.w8)) 1) (List._∷_ (5, Mut.mslice (Referent.rtF (Referent.fInt Syntax.w8)) (Syntax.tyRef (Syntax.named 2) Syntax.mut (Syntax.tyInt Syntax.w8)) 2) (List._∷_ (6, Rows'.any-gone (ColumnMetadataRow.ty)) (List._∷_ (7, Rows.arr-shrP (ColumnMetadataRow.RT) 4096 7) (List._∷_ (8, Rows'.any-gone (Syntax.tyStruct (List._∷_ 115 (List._∷_ 113 (List._∷_ 108 (List._∷_ 100 (List._∷_ 97 (List._∷_ 114 (List._∷_ 100 (List._∷_ 58 (List._∷_ 58 (List._∷_ 83 (List._∷_ 113 (List._∷_ 108 (List._∷_ 100 (List._∷_ 97 (List._∷_ 114 (List._∷_ 100 (List._∷_ 65 (List._∷_ 110 (List._∷_ 115 (List._∷_ 119 (List._∷_ 101 (List._∷_ 114 List.[])))))))))))))))))))))) (Syntax.tcons (Syntax.tyEnum (List._∷_ 111 (List._∷_ 117 (List._∷_ 116 (List._∷_ 99 (List._∷_ 111 (List._∷_ 109 (List._∷_ 101 (List._∷_ 58 (List._∷_ 58 (List._∷_ 79 (List._∷_ 117 (List._∷_ 116 (List._∷_ 99 (List._∷_ 111 (List._∷_ 109 (List._∷_ 101 List.[])))))))))))))))) (Syntax.ttcons Syntax.tnil (Syntax.ttcons Syntax.tnil (Syntax.ttcons (Syntax.tcons (Syntax.tyInt Syntax.w64) (Syntax.tcons (Syntax.tyInt Syntax.w64) Syntax.tnil)) (Syntax.ttcons Syntax.tnil (Syntax.ttcons (Syntax.tcons (Syntax.tyInt Syntax.w16) Syntax.tnil) (Syntax.ttcons Syntax.tnil (Syntax.ttcons (Syntax.tcons (Syntax.tyInt Syntax.w64) Syntax.tnil) (Syntax.ttcons Syntax.tnil (Syntax.ttcons (Syntax.tcons (Syntax.tyInt Syntax.w16) Syntax.tnil) Syntax.ttnil)))))))))) (Syntax.tcons (Syntax.tyStruct (List._∷_ 115 (List._∷_ 113 (List._∷_ 108 (List._∷_ 99 (List._∷_ 97 (List._∷_ 114 (List._∷_ 100 (List._∷_ 58 (List._∷_ 58 (List._∷_ 83 (List._∷_ 113 (List._∷_ 108 (List._∷_ 67 (List._∷_ 97 (List._∷_ 114 (List._∷_ 100 List.[])))))))))))))))) (Syntax.tcons Syntax.tyBool (Syntax.tcons (Syntax.tyInt Syntax.w32) (Syntax.tcons (Syntax.tyArray (Syntax.tyInt Syntax.w8) 5) (Syntax.tcons (Syntax.tyArray (Syntax.tyInt Syntax.w8) 8) (Syntax.tcons (Syntax.tyInt Syntax.w8) (Syntax.tcons (Syntax.tyArray (Syntax.tyInt Syntax.w32) 6) (Syntax.tcons (Syntax.tyInt Syntax.w64) (Syntax.tcons (Syntax.tyInt Syntax.w32) (Syntax.tcons (Syntax.tyArray (Syntax.tyInt Syntax.w8) 11) (Syntax.tcons (Syntax.tyInt Syntax.w64) (Syntax.tcons (Syntax.tyInt Syntax.w64) Syntax.tnil)))))))))))) (Syntax.tcons (Syntax.tyInt Syntax.w64) Syntax.tnil))))) (List._∷_ (9, Rows'.sc-here (Row.sInt Syntax.w64)) (List._∷_ (10, Rows'.sc-here (Row.sInt Syntax.w64)) (List._∷_ (11, Rows'.any-gone (Syntax.tyRef Syntax.erased Syntax.mut (Syntax.tyArray ColumnMetadataRow.named 4096))) (List._∷_ (12, Rows'.any-gone (Syntax.tyStruct (List._∷_ 38 (List._∷_ 91 (List._∷_ 93 List.[]))) (Syntax.tcons (Syntax.tyRef Syntax.erased Syntax.mut ColumnMetadataRow.named) (Syntax.tcons (Syntax.tyInt Syntax.w64) Syntax.tnil)))) (List._∷_ (13, Rows'.any-gone (Syntax.tyRef Syntax.erased Syntax.mut (Syntax.tyInt Syntax.w8))) (List._∷_ (14, Rows'.any-gone (Syntax.tyStruct (List._∷_ 38 (List._∷_ 91 (List._∷_ 93 List.[]))) (Syntax.tcons (Syntax.tyRef Syntax.erased Syntax.mut (Syntax.tyInt Syntax.w8)) (Syntax.tcons (Syntax.tyInt Syntax.w64) Syntax.tnil)))) (List._∷_ (15, Rows'.any-gone (Syntax.tyRef Syntax.erased Syntax.mut (Syntax.tyInt Syntax.w8))) List.[])))))))))))))))
 
 abbrev pub t29 : List.List Row.Entry
 t29 = List._∷_ (16, Rows'.any-gone (Syntax.tyStruct (List._∷_ 38 (List._∷_ 91 (List._∷_ 93 List.[]))) (Syntax.tcons (Syntax.tyRef Syntax.erased Syntax.mut (Syntax.tyInt Syntax.w8)) (Syntax.tcons (Syntax.tyInt Syntax.w64) Syntax.tnil)))) (List._∷_ (17, Rows'.any-gone (Syntax.tyRef Syntax.erased Syntax.mut (Syntax.tyInt Syntax.w8))) (List._∷_ (18, Mut.msleft (Referent.rtF (Referent.fInt Syntax.w8)) (Syntax.tyRef Syntax.erased Syntax.mut (Syntax.tyInt Syntax.w8))) (List._∷_ (19, Rows'.any-gone (Syntax.tyRef Syntax.erased Syntax.imm (Syntax.tyArray ColumnMetadataRow.named 4096))) (List._∷_ (20, Rows'.sslice (ColumnMetadataRow.RT) (Syntax.tyRef Syntax.erased Syntax.imm ColumnMetadataRow.named) 7) List.[]))))
@@ -298,22 +298,22 @@ abbrev pub t30 : List.List Row.Entry
 t30 = List._∷_ (16, Rows'.any-gone (Syntax.tyStruct (List._∷_ 38 (List._∷_ 91 (List._∷_ 93 List.[]))) (Syntax.tcons (Syntax.tyRef Syntax.erased Syntax.mut (Syntax.tyInt Syntax.w8)) (Syntax.tcons (Syntax.tyInt Syntax.w64) Syntax.tnil)))) (List._∷_ (17, Rows'.any-gone (Syntax.tyRef Syntax.erased Syntax.mut (Syntax.tyInt Syntax.w8))) (List._∷_ (18, Mut.msleft (Referent.rtF (Referent.fInt Syntax.w8)) (Syntax.tyRef Syntax.erased Syntax.mut (Syntax.tyInt Syntax.w8))) (List._∷_ (19, Rows'.any-gone (Syntax.tyRef Syntax.erased Syntax.imm (Syntax.tyArray ColumnMetadataRow.named 4096))) (List._∷_ (20, Rows'.any-gone (Syntax.tyStruct (List._∷_ 38 (List._∷_ 91 (List._∷_ 93 List.[]))) (Syntax.tcons (Syntax.tyRef Syntax.erased Syntax.imm ColumnMetadataRow.named) (Syntax.tcons (Syntax.tyInt Syntax.w64) Syntax.tnil)))) List.[]))))
 
 abbrev pub t31 : List.List Row.Entry
-t31 = List._∷_ (0, Rows'.sc-here (Row.sInt Syntax.w64)) (List._∷_ (1, Relend.mslice-owed (Referent.rtF (Referent.fInt Syntax.w8)) (Syntax.tyRef (Syntax.named 0) Syntax.mut (Syntax.tyInt Syntax.w8)) 0 6 Row.off) (List._∷_ (2, Rows'.sc-here (Row.sInt Syntax.w64)) (List._∷_ (3, Rows'.sc-here (Row.sInt Syntax.w16)) (List._∷_ (4, Rows'.sslice (Referent.rtF (Referent.fInt Syntax.w8)) (Syntax.tyRef (Syntax.named 1) Syntax.imm (Syntax.tyInt Syntax.w8)) 1) (List._∷_ (5, Mut.mslice (Referent.rtF (Referent.fInt Syntax.w8)) (Syntax.tyRef (Syntax.named 2) Syntax.mut (Syntax.tyInt Syntax.w8)) 2) (List._∷_ (6, Rows'.any-gone (ColumnMetadataRow.ty)) (List._∷_ (7, Rows.arr-shrP (ColumnMetadataRow.RT) 4096 7) (List._∷_ (8, Rows'.any-gone (Syntax.tyStruct (List._∷_ 115 (List._∷_ 113 (List._∷_ 108 (List._∷_ 100 (List._∷_ 97 (List._∷_ 114 (List._∷_ 100 (List._∷_ 58 (List._∷_ 58 (List._∷_ 83 (List._∷_ 113 (List._∷_ 108 (List._∷_ 100 (List._∷_ 97 (List._∷_ 114 (List._∷_ 100 (List._∷_ 65 (List._∷_ 110 (List._∷_ 115 (List._∷_ 119 (List._∷_ 101 (List._∷_ 114 List.[])))))))))))))))))))))) (Syntax.tcons (Syntax.tyEnum (List._∷_ 111 (List._∷_ 117 (List._∷_ 116 (List._∷_ 99 (List._∷_ 111 (List._∷_ 109 (List._∷_ 101 (List._∷_ 58 (List._∷_ 58 (List._∷_ 79 (List._∷_ 117 (List._∷_ 116 (List._∷_ 99 (List._∷_ 111 (List._∷_ 109 (List._∷_ 101 List.[])))))))))))))))) (Syntax.ttcons Syntax.tnil (Syntax.ttcons Syntax.tnil (Syntax.ttcons (Syntax.tcons (Syntax.tyInt Syntax.w64) (Syntax.tcons (Syntax.tyInt Syntax.w64) Syntax.tnil)) (Syntax.ttcons Syntax.tnil (Syntax.ttcons (Syntax.tcons (Syntax.tyInt Syntax.w16) Syntax.tnil) (Syntax.ttcons Syntax.tnil (Syntax.ttcons (Syntax.tcons (Syntax.tyInt Syntax.w64) Syntax.tnil) (Syntax.ttcons Syntax.tnil Syntax.ttnil))))))))) (Syntax.tcons (Syntax.tyStruct (List._∷_ 115 (List._∷_ 113 (List._∷_ 108 (List._∷_ 99 (List._∷_ 97 (List._∷_ 114 (List._∷_ 100 (List._∷_ 58 (List._∷_ 58 (List._∷_ 83 (List._∷_ 113 (List._∷_ 108 (List._∷_ 67 (List._∷_ 97 (List._∷_ 114 (List._∷_ 100 List.[])))))))))))))))) (Syntax.tcons Syntax.tyBool (Syntax.tcons (Syntax.tyInt Syntax.w32) (Syntax.tcons (Syntax.tyArray (Syntax.tyInt Syntax.w8) 5) (Syntax.tcons (Syntax.tyArray (Syntax.tyInt Syntax.w8) 8) (Syntax.tcons (Syntax.tyInt Syntax.w8) (Syntax.tcons (Syntax.tyArray (Syntax.tyInt Syntax.w32) 6) (Syntax.tcons (Syntax.tyInt Syntax.w64) (Syntax.tcons (Syntax.tyInt Syntax.w32) (Syntax.tcons (Syntax.tyArray (Syntax.tyInt Syntax.w8) 11) (Syntax.tcons (Syntax.tyInt Syntax.w64) (Syntax.tcons (Syntax.tyInt Syntax.w64) Syntax.tnil)))))))))))) (Syntax.tcons (Syntax.tyInt Syntax.w64) Syntax.tnil))))) (List._∷_ (9, Rows'.any-gone (Syntax.tyInt Syntax.w64)) (List._∷_ (10, Rows'.sc-here (Row.sInt Syntax.w64)) (List._∷_ (11, Rows'.any-gone (Syntax.tyRef Syntax.erased Syntax.mut (Syntax.tyArray ColumnMetadataRow.named 4096))) (List._∷_ (12, Rows'.any-gone (Syntax.tyStruct (List._∷_ 38 (List._∷_ 91 (List._∷_ 93 List.[]))) (Syntax.tcons (Syntax.tyRef Syntax.erased Syntax.mut ColumnMetadataRow.named) (Syntax.tcons (Syntax.tyInt Syntax.w64) Syntax.tnil)))) (List._∷_ (13, Rows'.any-gone (Syntax.tyRef Syntax.erased Syntax.mut (Syntax.tyInt Syntax.w8))) (List._∷_ (14, Rows'.any-gone (Syntax.tyStruct (List._∷_ 38 (List._∷_ 91 (List._∷_ 93 List.[]))) (Syntax.tcons (Syntax.tyRef Syntax.erased Syntax.mut (Syntax.tyInt Syntax.w8)) (Syntax.tcons (Syntax.tyInt Syntax.w64) Syntax.tnil)))) (List._∷_ (15, Rows'.any-gone (Syntax.tyRef Syntax.erased Syntax.mut (Syntax.tyInt Syntax.w8))) List.[])))))))))))))))
+t31 = List._∷_ (0, Rows'.sc-here (Row.sInt Syntax.w64)) (List._∷_ (1, Relend.mslice-owed (Referent.rtF (Referent.fInt Syntax.w8)) (Syntax.tyRef (Syntax.named 0) Syntax.mut (Syntax.tyInt Syntax.w8)) 0 6 Row.off) (List._∷_ (2, Rows'.sc-here (Row.sInt Syntax.w64)) (List._∷_ (3, Rows'.sc-here (Row.sInt Syntax.w16)) (List._∷_ (4, Rows'.sslice (Referent.rtF (Referent.fInt Syntax.w8)) (Syntax.tyRef (Syntax.named 1) Syntax.imm (Syntax.tyInt Syntax.w8)) 1) (List._∷_ (5, Mut.mslice (Referent.rtF (Referent.fInt Syntax.w8)) (Syntax.tyRef (Syntax.named 2) Syntax.mut (Syntax.tyInt Syntax.w8)) 2) (List._∷_ (6, Rows'.any-gone (ColumnMetadataRow.ty)) (List._∷_ (7, Rows.arr-shrP (ColumnMetadataRow.RT) 4096 7) (List._∷_ (8, Rows'.any-gone (Syntax.tyStruct (List._∷_ 115 (List._∷_ 113 (List._∷_ 108 (List._∷_ 100 (List._∷_ 97 (List._∷_ 114 (List._∷_ 100 (List._∷_ 58 (List._∷_ 58 (List._∷_ 83 (List._∷_ 113 (List._∷_ 108 (List._∷_ 100 (List._∷_ 97 (List._∷_ 114 (List._∷_ 100 (List._∷_ 65 (List._∷_ 110 (List._∷_ 115 (List._∷_ 119 (List._∷_ 101 (List._∷_ 114 List.[])))))))))))))))))))))) (Syntax.tcons (Syntax.tyEnum (List._∷_ 111 (List._∷_ 117 (List._∷_ 116 (List._∷_ 99 (List._∷_ 111 (List._∷_ 109 (List._∷_ 101 (List._∷_ 58 (List._∷_ 58 (List._∷_ 79 (List._∷_ 117 (List._∷_ 116 (List._∷_ 99 (List._∷_ 111 (List._∷_ 109 (List._∷_ 101 List.[])))))))))))))))) (Syntax.ttcons Syntax.tnil (Syntax.ttcons Syntax.tnil (Syntax.ttcons (Syntax.tcons (Syntax.tyInt Syntax.w64) (Syntax.tcons (Syntax.tyInt Syntax.w64) Syntax.tnil)) (Syntax.ttcons Syntax.tnil (Syntax.ttcons (Syntax.tcons (Syntax.tyInt Syntax.w16) Syntax.tnil) (Syntax.ttcons Syntax.tnil (Syntax.ttcons (Syntax.tcons (Syntax.tyInt Syntax.w64) Syntax.tnil) (Syntax.ttcons Syntax.tnil (Syntax.ttcons (Syntax.tcons (Syntax.tyInt Syntax.w16) Syntax.tnil) Syntax.ttnil)))))))))) (Syntax.tcons (Syntax.tyStruct (List._∷_ 115 (List._∷_ 113 (List._∷_ 108 (List._∷_ 99 (List._∷_ 97 (List._∷_ 114 (List._∷_ 100 (List._∷_ 58 (List._∷_ 58 (List._∷_ 83 (List._∷_ 113 (List._∷_ 108 (List._∷_ 67 (List._∷_ 97 (List._∷_ 114 (List._∷_ 100 List.[])))))))))))))))) (Syntax.tcons Syntax.tyBool (Syntax.tcons (Syntax.tyInt Syntax.w32) (Syntax.tcons (Syntax.tyArray (Syntax.tyInt Syntax.w8) 5) (Syntax.tcons (Syntax.tyArray (Syntax.tyInt Syntax.w8) 8) (Syntax.tcons (Syntax.tyInt Syntax.w8) (Syntax.tcons (Syntax.tyArray (Syntax.tyInt Syntax.w32) 6) (Syntax.tcons (Syntax.tyInt Syntax.w64) (Syntax.tcons (Syntax.tyInt Syntax.w32) (Syntax.tcons (Syntax.tyArray (Syntax.tyInt Syntax.w8) 11) (Syntax.tcons (Syntax.tyInt Syntax.w64) (Syntax.tcons (Syntax.tyInt Syntax.w64) Syntax.tnil)))))))))))) (Syntax.tcons (Syntax.tyInt Syntax.w64) Syntax.tnil))))) (List._∷_ (9, Rows'.any-gone (Syntax.tyInt Syntax.w64)) (List._∷_ (10, Rows'.sc-here (Row.sInt Syntax.w64)) (List._∷_ (11, Rows'.any-gone (Syntax.tyRef Syntax.erased Syntax.mut (Syntax.tyArray ColumnMetadataRow.named 4096))) (List._∷_ (12, Rows'.any-gone (Syntax.tyStruct (List._∷_ 38 (List._∷_ 91 (List._∷_ 93 List.[]))) (Syntax.tcons (Syntax.tyRef Syntax.erased Syntax.mut ColumnMetadataRow.named) (Syntax.tcons (Syntax.tyInt Syntax.w64) Syntax.tnil)))) (List._∷_ (13, Rows'.any-gone (Syntax.tyRef Syntax.erased Syntax.mut (Syntax.tyInt Syntax.w8))) (List._∷_ (14, Rows'.any-gone (Syntax.tyStruct (List._∷_ 38 (List._∷_ 91 (List._∷_ 93 List.[]))) (Syntax.tcons (Syntax.tyRef Syntax.erased Syntax.mut (Syntax.tyInt Syntax.w8)) (Syntax.tcons (Syntax.tyInt Syntax.w64) Syntax.tnil)))) (List._∷_ (15, Rows'.any-gone (Syntax.tyRef Syntax.erased Syntax.mut (Syntax.tyInt Syntax.w8))) List.[])))))))))))))))
 
 abbrev pub t32 : List.List Row.Entry
-t32 = List._∷_ (0, Rows'.sc-here (Row.sInt Syntax.w64)) (List._∷_ (1, Relend.mslice-owed (Referent.rtF (Referent.fInt Syntax.w8)) (Syntax.tyRef (Syntax.named 0) Syntax.mut (Syntax.tyInt Syntax.w8)) 0 6 Row.off) (List._∷_ (2, Rows'.sc-here (Row.sInt Syntax.w64)) (List._∷_ (3, Rows'.sc-here (Row.sInt Syntax.w16)) (List._∷_ (4, Rows'.sslice (Referent.rtF (Referent.fInt Syntax.w8)) (Syntax.tyRef (Syntax.named 1) Syntax.imm (Syntax.tyInt Syntax.w8)) 1) (List._∷_ (5, Mut.mslice (Referent.rtF (Referent.fInt Syntax.w8)) (Syntax.tyRef (Syntax.named 2) Syntax.mut (Syntax.tyInt Syntax.w8)) 2) (List._∷_ (6, Rows'.any-gone (ColumnMetadataRow.ty)) (List._∷_ (7, Rows.arr-shrP (ColumnMetadataRow.RT) 4096 7) (List._∷_ (8, Rows'.any-gone (Syntax.tyStruct (List._∷_ 115 (List._∷_ 113 (List._∷_ 108 (List._∷_ 100 (List._∷_ 97 (List._∷_ 114 (List._∷_ 100 (List._∷_ 58 (List._∷_ 58 (List._∷_ 83 (List._∷_ 113 (List._∷_ 108 (List._∷_ 100 (List._∷_ 97 (List._∷_ 114 (List._∷_ 100 (List._∷_ 65 (List._∷_ 110 (List._∷_ 115 (List._∷_ 119 (List._∷_ 101 (List._∷_ 114 List.[])))))))))))))))))))))) (Syntax.tcons (Syntax.tyEnum (List._∷_ 111 (List._∷_ 117 (List._∷_ 116 (List._∷_ 99 (List._∷_ 111 (List._∷_ 109 (List._∷_ 101 (List._∷_ 58 (List._∷_ 58 (List._∷_ 79 (List._∷_ 117 (List._∷_ 116 (List._∷_ 99 (List._∷_ 111 (List._∷_ 109 (List._∷_ 101 List.[])))))))))))))))) (Syntax.ttcons Syntax.tnil (Syntax.ttcons Syntax.tnil (Syntax.ttcons (Syntax.tcons (Syntax.tyInt Syntax.w64) (Syntax.tcons (Syntax.tyInt Syntax.w64) Syntax.tnil)) (Syntax.ttcons Syntax.tnil (Syntax.ttcons (Syntax.tcons (Syntax.tyInt Syntax.w16) Syntax.tnil) (Syntax.ttcons Syntax.tnil (Syntax.ttcons (Syntax.tcons (Syntax.tyInt Syntax.w64) Syntax.tnil) (Syntax.ttcons Syntax.tnil Syntax.ttnil))))))))) (Syntax.tcons (Syntax.tyStruct (List._∷_ 115 (List._∷_ 113 (List._∷_ 108 (List._∷_ 99 (List._∷_ 97 (List._∷_ 114 (List._∷_ 100 (List._∷_ 58 (List._∷_ 58 (List._∷_ 83 (List._∷_ 113 (List._∷_ 108 (List._∷_ 67 (List._∷_ 97 (List._∷_ 114 (List._∷_ 100 List.[])))))))))))))))) (Syntax.tcons Syntax.tyBool (Syntax.tcons (Syntax.tyInt Syntax.w32) (Syntax.tcons (Syntax.tyArray (Syntax.tyInt Syntax.w8) 5) (Syntax.tcons (Syntax.tyArray (Syntax.tyInt Syntax.w8) 8) (Syntax.tcons (Syntax.tyInt Syntax.w8) (Syntax.tcons (Syntax.tyArray (Syntax.tyInt Syntax.w32) 6) (Syntax.tcons (Syntax.tyInt Syntax.w64) (Syntax.tcons (Syntax.tyInt Syntax.w32) (Syntax.tcons (Syntax.tyArray (Syntax.tyInt Syntax.w8) 11) (Syntax.tcons (Syntax.tyInt Syntax.w64) (Syntax.tcons (Syntax.tyInt Syntax.w64) Syntax.tnil)))))))))))) (Syntax.tcons (Syntax.tyInt Syntax.w64) Syntax.tnil))))) (List._∷_ (9, Rows'.any-gone (Syntax.tyInt Syntax.w64)) (List._∷_ (10, Rows'.any-gone (Syntax.tyInt Syntax.w64)) (List._∷_ (11, Rows'.any-gone (Syntax.tyRef Syntax.erased Syntax.mut (Syntax.tyArray ColumnMetadataRow.named 4096))) (List._∷_ (12, Rows'.any-gone (Syntax.tyStruct (List._∷_ 38 (List._∷_ 91 (List._∷_ 93 List.[]))) (Syntax.tcons (Syntax.tyRef Syntax.erased Syntax.mut ColumnMetadataRow.named) (Syntax.tcons (Syntax.tyInt Syntax.w64) Syntax.tnil)))) (List._∷_ (13, Rows'.any-gone (Syntax.tyRef Syntax.erased Syntax.mut (Syntax.tyInt Syntax.w8))) (List._∷_ (14, Rows'.any-gone (Syntax.tyStruct (List._∷_ 38 (List._∷_ 91 (List._∷_ 93 List.[]))) (Syntax.tcons (Syntax.tyRef Syntax.erased Syntax.mut (Syntax.tyInt Syntax.w8)) (Syntax.tcons (Syntax.tyInt Syntax.w64) Syntax.tnil)))) (List._∷_ (15, Rows'.any-gone (Syntax.tyRef Syntax.erased Syntax.mut (Syntax.tyInt Syntax.w8))) List.[])))))))))))))))
+t32 = List._∷_ (0, Rows'.sc-here (Row.sInt Syntax.w64)) (List._∷_ (1, Relend.mslice-owed (Referent.rtF (Referent.fInt Syntax.w8)) (Syntax.tyRef (Syntax.named 0) Syntax.mut (Syntax.tyInt Syntax.w8)) 0 6 Row.off) (List._∷_ (2, Rows'.sc-here (Row.sInt Syntax.w64)) (List._∷_ (3, Rows'.sc-here (Row.sInt Syntax.w16)) (List._∷_ (4, Rows'.sslice (Referent.rtF (Referent.fInt Syntax.w8)) (Syntax.tyRef (Syntax.named 1) Syntax.imm (Syntax.tyInt Syntax.w8)) 1) (List._∷_ (5, Mut.mslice (Referent.rtF (Referent.fInt Syntax.w8)) (Syntax.tyRef (Syntax.named 2) Syntax.mut (Syntax.tyInt Syntax.w8)) 2) (List._∷_ (6, Rows'.any-gone (ColumnMetadataRow.ty)) (List._∷_ (7, Rows.arr-shrP (ColumnMetadataRow.RT) 4096 7) (List._∷_ (8, Rows'.any-gone (Syntax.tyStruct (List._∷_ 115 (List._∷_ 113 (List._∷_ 108 (List._∷_ 100 (List._∷_ 97 (List._∷_ 114 (List._∷_ 100 (List._∷_ 58 (List._∷_ 58 (List._∷_ 83 (List._∷_ 113 (List._∷_ 108 (List._∷_ 100 (List._∷_ 97 (List._∷_ 114 (List._∷_ 100 (List._∷_ 65 (List._∷_ 110 (List._∷_ 115 (List._∷_ 119 (List._∷_ 101 (List._∷_ 114 List.[])))))))))))))))))))))) (Syntax.tcons (Syntax.tyEnum (List._∷_ 111 (List._∷_ 117 (List._∷_ 116 (List._∷_ 99 (List._∷_ 111 (List._∷_ 109 (List._∷_ 101 (List._∷_ 58 (List._∷_ 58 (List._∷_ 79 (List._∷_ 117 (List._∷_ 116 (List._∷_ 99 (List._∷_ 111 (List._∷_ 109 (List._∷_ 101 List.[])))))))))))))))) (Syntax.ttcons Syntax.tnil (Syntax.ttcons Syntax.tnil (Syntax.ttcons (Syntax.tcons (Syntax.tyInt Syntax.w64) (Syntax.tcons (Syntax.tyInt Syntax.w64) Syntax.tnil)) (Syntax.ttcons Syntax.tnil (Syntax.ttcons (Syntax.tcons (Syntax.tyInt Syntax.w16) Syntax.tnil) (Syntax.ttcons Syntax.tnil (Syntax.ttcons (Syntax.tcons (Syntax.tyInt Syntax.w64) Syntax.tnil) (Syntax.ttcons Syntax.tnil (Syntax.ttcons (Syntax.tcons (Syntax.tyInt Syntax.w16) Syntax.tnil) Syntax.ttnil)))))))))) (Syntax.tcons (Syntax.tyStruct (List._∷_ 115 (List._∷_ 113 (List._∷_ 108 (List._∷_ 99 (List._∷_ 97 (List._∷_ 114 (List._∷_ 100 (List._∷_ 58 (List._∷_ 58 (List._∷_ 83 (List._∷_ 113 (List._∷_ 108 (List._∷_ 67 (List._∷_ 97 (List._∷_ 114 (List._∷_ 100 List.[])))))))))))))))) (Syntax.tcons Syntax.tyBool (Syntax.tcons (Syntax.tyInt Syntax.w32) (Syntax.tcons (Syntax.tyArray (Syntax.tyInt Syntax.w8) 5) (Syntax.tcons (Syntax.tyArray (Syntax.tyInt Syntax.w8) 8) (Syntax.tcons (Syntax.tyInt Syntax.w8) (Syntax.tcons (Syntax.tyArray (Syntax.tyInt Syntax.w32) 6) (Syntax.tcons (Syntax.tyInt Syntax.w64) (Syntax.tcons (Syntax.tyInt Syntax.w32) (Syntax.tcons (Syntax.tyArray (Syntax.tyInt Syntax.w8) 11) (Syntax.tcons (Syntax.tyInt Syntax.w64) (Syntax.tcons (Syntax.tyInt Syntax.w64) Syntax.tnil)))))))))))) (Syntax.tcons (Syntax.tyInt Syntax.w64) Syntax.tnil))))) (List._∷_ (9, Rows'.any-gone (Syntax.tyInt Syntax.w64)) (List._∷_ (10, Rows'.any-gone (Syntax.tyInt Syntax.w64)) (List._∷_ (11, Rows'.any-gone (Syntax.tyRef Syntax.erased Syntax.mut (Syntax.tyArray ColumnMetadataRow.named 4096))) (List._∷_ (12, Rows'.any-gone (Syntax.tyStruct (List._∷_ 38 (List._∷_ 91 (List._∷_ 93 List.[]))) (Syntax.tcons (Syntax.tyRef Syntax.erased Syntax.mut ColumnMetadataRow.named) (Syntax.tcons (Syntax.tyInt Syntax.w64) Syntax.tnil)))) (List._∷_ (13, Rows'.any-gone (Syntax.tyRef Syntax.erased Syntax.mut (Syntax.tyInt Syntax.w8))) (List._∷_ (14, Rows'.any-gone (Syntax.tyStruct (List._∷_ 38 (List._∷_ 91 (List._∷_ 93 List.[]))) (Syntax.tcons (Syntax.tyRef Syntax.erased Syntax.mut (Syntax.tyInt Syntax.w8)) (Syntax.tcons (Syntax.tyInt Syntax.w64) Syntax.tnil)))) (List._∷_ (15, Rows'.any-gone (Syntax.tyRef Syntax.erased Syntax.mut (Syntax.tyInt Syntax.w8))) List.[])))))))))))))))
 
 abbrev pub t33 : List.List Row.Entry
-t33 = List._∷_ (0, Rows'.sc-here (Row.sInt Syntax.w64)) (List._∷_ (1, Mut.mslice (Referent.rtF (Referent.fInt Syntax.w8)) (Syntax.tyRef (Syntax.named 0) Syntax.mut (Syntax.tyInt Syntax.w8)) 0) (List._∷_ (2, Rows'.sc-here (Row.sInt Syntax.w64)) (List._∷_ (3, Rows'.sc-here (Row.sInt Syntax.w16)) (List._∷_ (4, Rows'.sslice (Referent.rtF (Referent.fInt Syntax.w8)) (Syntax.tyRef (Syntax.named 1) Syntax.imm (Syntax.tyInt Syntax.w8)) 1) (List._∷_ (5, Mut.mslice (Referent.rtF (Referent.fInt Syntax.w8)) (Syntax.tyRef (Syntax.named 2) Syntax.mut (Syntax.tyInt Syntax.w8)) 2) (List._∷_ (6, Rows'.any-gone (ColumnMetadataRow.ty)) (List._∷_ (7, Rows.arr-shrP (ColumnMetadataRow.RT) 4096 7) (List._∷_ (8, Rows'.any-gone (Syntax.tyStruct (List._∷_ 115 (List._∷_ 113 (List._∷_ 108 (List._∷_ 100 (List._∷_ 97 (List._∷_ 114 (List._∷_ 100 (List._∷_ 58 (List._∷_ 58 (List._∷_ 83 (List._∷_ 113 (List._∷_ 108 (List._∷_ 100 (List._∷_ 97 (List._∷_ 114 (List._∷_ 100 (List._∷_ 65 (List._∷_ 110 (List._∷_ 115 (List._∷_ 119 (List._∷_ 101 (List._∷_ 114 List.[])))))))))))))))))))))) (Syntax.tcons (Syntax.tyEnum (List._∷_ 111 (List._∷_ 117 (List._∷_ 116 (List._∷_ 99 (List._∷_ 111 (List._∷_ 109 (List._∷_ 101 (List._∷_ 58 (List._∷_ 58 (List._∷_ 79 (List._∷_ 117 (List._∷_ 116 (List._∷_ 99 (List._∷_ 111 (List._∷_ 109 (List._∷_ 101 List.[])))))))))))))))) (Syntax.ttcons Syntax.tnil (Syntax.ttcons Syntax.tnil (Syntax.ttcons (Syntax.tcons (Syntax.tyInt Syntax.w64) (Syntax.tcons (Syntax.tyInt Syntax.w64) Syntax.tnil)) (Syntax.ttcons Syntax.tnil (Syntax.ttcons (Syntax.tcons (Syntax.tyInt Syntax.w16) Syntax.tnil) (Syntax.ttcons Syntax.tnil (Syntax.ttcons (Syntax.tcons (Syntax.tyInt Syntax.w64) Syntax.tnil) (Syntax.ttcons Syntax.tnil Syntax.ttnil))))))))) (Syntax.tcons (Syntax.tyStruct (List._∷_ 115 (List._∷_ 113 (List._∷_ 108 (List._∷_ 99 (List._∷_ 97 (List._∷_ 114 (List._∷_ 100 (List._∷_ 58 (List._∷_ 58 (List._∷_ 83 (List._∷_ 113 (List._∷_ 108 (List._∷_ 67 (List._∷_ 97 (List._∷_ 114 (List._∷_ 100 List.[])))))))))))))))) (Syntax.tcons Syntax.tyBool (Syntax.tcons (Syntax.tyInt Syntax.w32) (Syntax.tcons (Syntax.tyArray (Syntax.tyInt Syntax.w8) 5) (Syntax.tcons (Syntax.tyArray (Syntax.tyInt Syntax.w8) 8) (Syntax.tcons (Syntax.tyInt Syntax.w8) (Syntax.tcons (Syntax.tyArray (Syntax.tyInt Syntax.w32) 6) (Syntax.tcons (Syntax.tyInt Syntax.w64) (Syntax.tcons (Syntax.tyInt Syntax.w32) (Syntax.tcons (Syntax.tyArray (Syntax.tyInt Syntax.w8) 11) (Syntax.tcons (Syntax.tyInt Syntax.w64) (Syntax.tcons (Syntax.tyInt Syntax.w64) Syntax.tnil)))))))))))) (Syntax.tcons (Syntax.tyInt Syntax.w64) Syntax.tnil))))) (List._∷_ (9, Rows'.any-gone (Syntax.tyInt Syntax.w64)) (List._∷_ (10, Rows'.any-gone (Syntax.tyInt Syntax.w64)) (List._∷_ (11, Rows'.any-gone (Syntax.tyRef Syntax.erased Syntax.mut (Syntax.tyArray ColumnMetadataRow.named 4096))) (List._∷_ (12, Rows'.any-gone (Syntax.tyStruct (List._∷_ 38 (List._∷_ 91 (List._∷_ 93 List.[]))) (Syntax.tcons (Syntax.tyRef Syntax.erased Syntax.mut ColumnMetadataRow.named) (Syntax.tcons (Syntax.tyInt Syntax.w64) Syntax.tnil)))) (List._∷_ (13, Rows'.any-gone (Syntax.tyRef Syntax.erased Syntax.mut (Syntax.tyInt Syntax.w8))) (List._∷_ (14, Rows'.any-gone (Syntax.tyStruct (List._∷_ 38 (List._∷_ 91 (List._∷_ 93 List.[]))) (Syntax.tcons (Syntax.tyRef Syntax.erased Syntax.mut (Syntax.tyInt Syntax.w8)) (Syntax.tcons (Syntax.tyInt Syntax.w64) Syntax.tnil)))) (List._∷_ (15, Rows'.any-gone (Syntax.tyRef Syntax.erased Syntax.mut (Syntax.tyInt Syntax.w8))) List.[])))))))))))))))
+t33 = List._∷_ (0, Rows'.sc-here (Row.sInt Syntax.w64)) (List._∷_ (1, Mut.mslice (Referent.rtF (Referent.fInt Syntax.w8)) (Syntax.tyRef (Syntax.named 0) Syntax.mut (Syntax.tyInt Syntax.w8)) 0) (List._∷_ (2, Rows'.sc-here (Row.sInt Syntax.w64)) (List._∷_ (3, Rows'.sc-here (Row.sInt Syntax.w16)) (List._∷_ (4, Rows'.sslice (Referent.rtF (Referent.fInt Syntax.w8)) (Syntax.tyRef (Syntax.named 1) Syntax.imm (Syntax.tyInt Syntax.w8)) 1) (List._∷_ (5, Mut.mslice (Referent.rtF (Referent.fInt Syntax.w8)) (Syntax.tyRef (Syntax.named 2) Syntax.mut (Syntax.tyInt Syntax.w8)) 2) (List._∷_ (6, Rows'.any-gone (ColumnMetadataRow.ty)) (List._∷_ (7, Rows.arr-shrP (ColumnMetadataRow.RT) 4096 7) (List._∷_ (8, Rows'.any-gone (Syntax.tyStruct (List._∷_ 115 (List._∷_ 113 (List._∷_ 108 (List._∷_ 100 (List._∷_ 97 (List._∷_ 114 (List._∷_ 100 (List._∷_ 58 (List._∷_ 58 (List._∷_ 83 (List._∷_ 113 (List._∷_ 108 (List._∷_ 100 (List._∷_ 97 (List._∷_ 114 (List._∷_ 100 (List._∷_ 65 (List._∷_ 110 (List._∷_ 115 (List._∷_ 119 (List._∷_ 101 (List._∷_ 114 List.[])))))))))))))))))))))) (Syntax.tcons (Syntax.tyEnum (List._∷_ 111 (List._∷_ 117 (List._∷_ 116 (List._∷_ 99 (List._∷_ 111 (List._∷_ 109 (List._∷_ 101 (List._∷_ 58 (List._∷_ 58 (List._∷_ 79 (List._∷_ 117 (List._∷_ 116 (List._∷_ 99 (List._∷_ 111 (List._∷_ 109 (List._∷_ 101 List.[])))))))))))))))) (Syntax.ttcons Syntax.tnil (Syntax.ttcons Syntax.tnil (Syntax.ttcons (Syntax.tcons (Syntax.tyInt Syntax.w64) (Syntax.tcons (Syntax.tyInt Syntax.w64) Syntax.tnil)) (Syntax.ttcons Syntax.tnil (Syntax.ttcons (Syntax.tcons (Syntax.tyInt Syntax.w16) Syntax.tnil) (Syntax.ttcons Syntax.tnil (Syntax.ttcons (Syntax.tcons (Syntax.tyInt Syntax.w64) Syntax.tnil) (Syntax.ttcons Syntax.tnil (Syntax.ttcons (Syntax.tcons (Syntax.tyInt Syntax.w16) Syntax.tnil) Syntax.ttnil)))))))))) (Syntax.tcons (Syntax.tyStruct (List._∷_ 115 (List._∷_ 113 (List._∷_ 108 (List._∷_ 99 (List._∷_ 97 (List._∷_ 114 (List._∷_ 100 (List._∷_ 58 (List._∷_ 58 (List._∷_ 83 (List._∷_ 113 (List._∷_ 108 (List._∷_ 67 (List._∷_ 97 (List._∷_ 114 (List._∷_ 100 List.[])))))))))))))))) (Syntax.tcons Syntax.tyBool (Syntax.tcons (Syntax.tyInt Syntax.w32) (Syntax.tcons (Syntax.tyArray (Syntax.tyInt Syntax.w8) 5) (Syntax.tcons (Syntax.tyArray (Syntax.tyInt Syntax.w8) 8) (Syntax.tcons (Syntax.tyInt Syntax.w8) (Syntax.tcons (Syntax.tyArray (Syntax.tyInt Syntax.w32) 6) (Syntax.tcons (Syntax.tyInt Syntax.w64) (Syntax.tcons (Syntax.tyInt Syntax.w32) (Syntax.tcons (Syntax.tyArray (Syntax.tyInt Syntax.w8) 11) (Syntax.tcons (Syntax.tyInt Syntax.w64) (Syntax.tcons (Syntax.tyInt Syntax.w64) Syntax.tnil)))))))))))) (Syntax.tcons (Syntax.tyInt Syntax.w64) Syntax.tnil))))) (List._∷_ (9, Rows'.any-gone (Syntax.tyInt Syntax.w64)) (List._∷_ (10, Rows'.any-gone (Syntax.tyInt Syntax.w64)) (List._∷_ (11, Rows'.any-gone (Syntax.tyRef Syntax.erased Syntax.mut (Syntax.tyArray ColumnMetadataRow.named 4096))) (List._∷_ (12, Rows'.any-gone (Syntax.tyStruct (List._∷_ 38 (List._∷_ 91 (List._∷_ 93 List.[]))) (Syntax.tcons (Syntax.tyRef Syntax.erased Syntax.mut ColumnMetadataRow.named) (Syntax.tcons (Syntax.tyInt Syntax.w64) Syntax.tnil)))) (List._∷_ (13, Rows'.any-gone (Syntax.tyRef Syntax.erased Syntax.mut (Syntax.tyInt Syntax.w8))) (List._∷_ (14, Rows'.any-gone (Syntax.tyStruct (List._∷_ 38 (List._∷_ 91 (List._∷_ 93 List.[]))) (Syntax.tcons (Syntax.tyRef Syntax.erased Syntax.mut (Syntax.tyInt Syntax.w8)) (Syntax.tcons (Syntax.tyInt Syntax.w64) Syntax.tnil)))) (List._∷_ (15, Rows'.any-gone (Syntax.tyRef Syntax.erased Syntax.mut (Syntax.tyInt Syntax.w8))) List.[])))))))))))))))
 
 abbrev pub t34 : List.List Row.Entry
-t34 = List._∷_ (0, Rows'.sc-here (Row.sInt Syntax.w64)) (List._∷_ (1, Mut.mslice (Referent.rtF (Referent.fInt Syntax.w8)) (Syntax.tyRef (Syntax.named 0) Syntax.mut (Syntax.tyInt Syntax.w8)) 0) (List._∷_ (2, Rows'.sc-here (Row.sInt Syntax.w64)) (List._∷_ (3, Rows'.sc-here (Row.sInt Syntax.w16)) (List._∷_ (4, Rows'.sslice (Referent.rtF (Referent.fInt Syntax.w8)) (Syntax.tyRef (Syntax.named 1) Syntax.imm (Syntax.tyInt Syntax.w8)) 1) (List._∷_ (5, Mut.mslice (Referent.rtF (Referent.fInt Syntax.w8)) (Syntax.tyRef (Syntax.named 2) Syntax.mut (Syntax.tyInt Syntax.w8)) 2) (List._∷_ (6, Rows'.any-gone (ColumnMetadataRow.ty)) (List._∷_ (7, Rows.arrF (ColumnMetadataRow.RT) 4096 0) (List._∷_ (8, Rows'.any-gone (Syntax.tyStruct (List._∷_ 115 (List._∷_ 113 (List._∷_ 108 (List._∷_ 100 (List._∷_ 97 (List._∷_ 114 (List._∷_ 100 (List._∷_ 58 (List._∷_ 58 (List._∷_ 83 (List._∷_ 113 (List._∷_ 108 (List._∷_ 100 (List._∷_ 97 (List._∷_ 114 (List._∷_ 100 (List._∷_ 65 (List._∷_ 110 (List._∷_ 115 (List._∷_ 119 (List._∷_ 101 (List._∷_ 114 List.[])))))))))))))))))))))) (Syntax.tcons (Syntax.tyEnum (List._∷_ 111 (List._∷_ 117 (List._∷_ 116 (List._∷_ 99 (List._∷_ 111 (List._∷_ 109 (List._∷_ 101 (List._∷_ 58 (List._∷_ 58 (List._∷_ 79 (List._∷_ 117 (List._∷_ 116 (List._∷_ 99 (List._∷_ 111 (List._∷_ 109 (List._∷_ 101 List.[])))))))))))))))) (Syntax.ttcons Syntax.tnil (Syntax.ttcons Syntax.tnil (Syntax.ttcons (Syntax.tcons (Syntax.tyInt Syntax.w64) (Syntax.tcons (Syntax.tyInt Syntax.w64) Syntax.tnil)) (Syntax.ttcons Syntax.tnil (Syntax.ttcons (Syntax.tcons (Syntax.tyInt Syntax.w16) Syntax.tnil) (Syntax.ttcons Syntax.tnil (Syntax.ttcons (Syntax.tcons (Syntax.tyInt Syntax.w64) Syntax.tnil) (Syntax.ttcons Syntax.tnil Syntax.ttnil))))))))) (Syntax.tcons (Syntax.tyStruct (List._∷_ 115 (List._∷_ 113 (List._∷_ 108 (List._∷_ 99 (List._∷_ 97 (List._∷_ 114 (List._∷_ 100 (List._∷_ 58 (List._∷_ 58 (List._∷_ 83 (List._∷_ 113 (List._∷_ 108 (List._∷_ 67 (List._∷_ 97 (List._∷_ 114 (List._∷_ 100 List.[])))))))))))))))) (Syntax.tcons Syntax.tyBool (Syntax.tcons (Syntax.tyInt Syntax.w32) (Syntax.tcons (Syntax.tyArray (Syntax.tyInt Syntax.w8) 5) (Syntax.tcons (Syntax.tyArray (Syntax.tyInt Syntax.w8) 8) (Syntax.tcons (Syntax.tyInt Syntax.w8) (Syntax.tcons (Syntax.tyArray (Syntax.tyInt Syntax.w32) 6) (Syntax.tcons (Syntax.tyInt Syntax.w64) (Syntax.tcons (Syntax.tyInt Syntax.w32) (Syntax.tcons (Syntax.tyArray (Syntax.tyInt Syntax.w8) 11) (Syntax.tcons (Syntax.tyInt Syntax.w64) (Syntax.tcons (Syntax.tyInt Syntax.w64) Syntax.tnil)))))))))))) (Syntax.tcons (Syntax.tyInt Syntax.w64) Syntax.tnil))))) (List._∷_ (9, Rows'.any-gone (Syntax.tyInt Syntax.w64)) (List._∷_ (10, Rows'.any-gone (Syntax.tyInt Syntax.w64)) (List._∷_ (11, Rows'.any-gone (Syntax.tyRef Syntax.erased Syntax.mut (Syntax.tyArray ColumnMetadataRow.named 4096))) (List._∷_ (12, Rows'.any-gone (Syntax.tyStruct (List._∷_ 38 (List._∷_ 91 (List._∷_ 93 List.[]))) (Syntax.tcons (Syntax.tyRef Syntax.erased Syntax.mut ColumnMetadataRow.named) (Syntax.tcons (Syntax.tyInt Syntax.w64) Syntax.tnil)))) (List._∷_ (13, Rows'.any-gone (Syntax.tyRef Syntax.erased Syntax.mut (Syntax.tyInt Syntax.w8))) (List._∷_ (14, Rows'.any-gone (Syntax.tyStruct (List._∷_ 38 (List._∷_ 91 (List._∷_ 93 List.[]))) (Syntax.tcons (Syntax.tyRef Syntax.erased Syntax.mut (Syntax.tyInt Syntax.w8)) (Syntax.tcons (Syntax.tyInt Syntax.w64) Syntax.tnil)))) (List._∷_ (15, Rows'.any-gone (Syntax.tyRef Syntax.erased Syntax.mut (Syntax.tyInt Syntax.w8))) List.[])))))))))))))))
+t34 = List._∷_ (0, Rows'.sc-here (Row.sInt Syntax.w64)) (List._∷_ (1, Mut.mslice (Referent.rtF (Referent.fInt Syntax.w8)) (Syntax.tyRef (Syntax.named 0) Syntax.mut (Syntax.tyInt Syntax.w8)) 0) (List._∷_ (2, Rows'.sc-here (Row.sInt Syntax.w64)) (List._∷_ (3, Rows'.sc-here (Row.sInt Syntax.w16)) (List._∷_ (4, Rows'.sslice (Referent.rtF (Referent.fInt Syntax.w8)) (Syntax.tyRef (Syntax.named 1) Syntax.imm (Syntax.tyInt Syntax.w8)) 1) (List._∷_ (5, Mut.mslice (Referent.rtF (Referent.fInt Syntax.w8)) (Syntax.tyRef (Syntax.named 2) Syntax.mut (Syntax.tyInt Syntax.w8)) 2) (List._∷_ (6, Rows'.any-gone (ColumnMetadataRow.ty)) (List._∷_ (7, Rows.arrF (ColumnMetadataRow.RT) 4096 0) (List._∷_ (8, Rows'.any-gone (Syntax.tyStruct (List._∷_ 115 (List._∷_ 113 (List._∷_ 108 (List._∷_ 100 (List._∷_ 97 (List._∷_ 114 (List._∷_ 100 (List._∷_ 58 (List._∷_ 58 (List._∷_ 83 (List._∷_ 113 (List._∷_ 108 (List._∷_ 100 (List._∷_ 97 (List._∷_ 114 (List._∷_ 100 (List._∷_ 65 (List._∷_ 110 (List._∷_ 115 (List._∷_ 119 (List._∷_ 101 (List._∷_ 114 List.[])))))))))))))))))))))) (Syntax.tcons (Syntax.tyEnum (List._∷_ 111 (List._∷_ 117 (List._∷_ 116 (List._∷_ 99 (List._∷_ 111 (List._∷_ 109 (List._∷_ 101 (List._∷_ 58 (List._∷_ 58 (List._∷_ 79 (List._∷_ 117 (List._∷_ 116 (List._∷_ 99 (List._∷_ 111 (List._∷_ 109 (List._∷_ 101 List.[])))))))))))))))) (Syntax.ttcons Syntax.tnil (Syntax.ttcons Syntax.tnil (Syntax.ttcons (Syntax.tcons (Syntax.tyInt Syntax.w64) (Syntax.tcons (Syntax.tyInt Syntax.w64) Syntax.tnil)) (Syntax.ttcons Syntax.tnil (Syntax.ttcons (Syntax.tcons (Syntax.tyInt Syntax.w16) Syntax.tnil) (Syntax.ttcons Syntax.tnil (Syntax.ttcons (Syntax.tcons (Syntax.tyInt Syntax.w64) Syntax.tnil) (Syntax.ttcons Syntax.tnil (Syntax.ttcons (Syntax.tcons (Syntax.tyInt Syntax.w16) Syntax.tnil) Syntax.ttnil)))))))))) (Syntax.tcons (Syntax.tyStruct (List._∷_ 115 (List._∷_ 113 (List._∷_ 108 (List._∷_ 99 (List._∷_ 97 (List._∷_ 114 (List._∷_ 100 (List._∷_ 58 (List._∷_ 58 (List._∷_ 83 (List._∷_ 113 (List._∷_ 108 (List._∷_ 67 (List._∷_ 97 (List._∷_ 114 (List._∷_ 100 List.[])))))))))))))))) (Syntax.tcons Syntax.tyBool (Syntax.tcons (Syntax.tyInt Syntax.w32) (Syntax.tcons (Syntax.tyArray (Syntax.tyInt Syntax.w8) 5) (Syntax.tcons (Syntax.tyArray (Syntax.tyInt Syntax.w8) 8) (Syntax.tcons (Syntax.tyInt Syntax.w8) (Syntax.tcons (Syntax.tyArray (Syntax.tyInt Syntax.w32) 6) (Syntax.tcons (Syntax.tyInt Syntax.w64) (Syntax.tcons (Syntax.tyInt Syntax.w32) (Syntax.tcons (Syntax.tyArray (Syntax.tyInt Syntax.w8) 11) (Syntax.tcons (Syntax.tyInt Syntax.w64) (Syntax.tcons (Syntax.tyInt Syntax.w64) Syntax.tnil)))))))))))) (Syntax.tcons (Syntax.tyInt Syntax.w64) Syntax.tnil))))) (List._∷_ (9, Rows'.any-gone (Syntax.tyInt Syntax.w64)) (List._∷_ (10, Rows'.any-gone (Syntax.tyInt Syntax.w64)) (List._∷_ (11, Rows'.any-gone (Syntax.tyRef Syntax.erased Syntax.mut (Syntax.tyArray ColumnMetadataRow.named 4096))) (List._∷_ (12, Rows'.any-gone (Syntax.tyStruct (List._∷_ 38 (List._∷_ 91 (List._∷_ 93 List.[]))) (Syntax.tcons (Syntax.tyRef Syntax.erased Syntax.mut ColumnMetadataRow.named) (Syntax.tcons (Syntax.tyInt Syntax.w64) Syntax.tnil)))) (List._∷_ (13, Rows'.any-gone (Syntax.tyRef Syntax.erased Syntax.mut (Syntax.tyInt Syntax.w8))) (List._∷_ (14, Rows'.any-gone (Syntax.tyStruct (List._∷_ 38 (List._∷_ 91 (List._∷_ 93 List.[]))) (Syntax.tcons (Syntax.tyRef Syntax.erased Syntax.mut (Syntax.tyInt Syntax.w8)) (Syntax.tcons (Syntax.tyInt Syntax.w64) Syntax.tnil)))) (List._∷_ (15, Rows'.any-gone (Syntax.tyRef Syntax.erased Syntax.mut (Syntax.tyInt Syntax.w8))) List.[])))))))))))))))
 
 abbrev pub t35 : List.List Row.Entry
-t35 = List._∷_ (0, Rows'.sc-here (Row.sInt Syntax.w64)) (List._∷_ (1, Mut.mslice (Referent.rtF (Referent.fInt Syntax.w8)) (Syntax.tyRef (Syntax.named 0) Syntax.mut (Syntax.tyInt Syntax.w8)) 0) (List._∷_ (2, Rows'.sc-here (Row.sInt Syntax.w64)) (List._∷_ (3, Rows'.sc-here (Row.sInt Syntax.w16)) (List._∷_ (4, Rows'.sslice (Referent.rtF (Referent.fInt Syntax.w8)) (Syntax.tyRef (Syntax.named 1) Syntax.imm (Syntax.tyInt Syntax.w8)) 1) (List._∷_ (5, Mut.mslice (Referent.rtF (Referent.fInt Syntax.w8)) (Syntax.tyRef (Syntax.named 2) Syntax.mut (Syntax.tyInt Syntax.w8)) 2) (List._∷_ (6, Rows'.any-gone (ColumnMetadataRow.ty)) (List._∷_ (7, Rows'.any-gone (Syntax.tyArray (ColumnMetadataRow.ty) 4096)) (List._∷_ (8, Rows'.any-gone (Syntax.tyStruct (List._∷_ 115 (List._∷_ 113 (List._∷_ 108 (List._∷_ 100 (List._∷_ 97 (List._∷_ 114 (List._∷_ 100 (List._∷_ 58 (List._∷_ 58 (List._∷_ 83 (List._∷_ 113 (List._∷_ 108 (List._∷_ 100 (List._∷_ 97 (List._∷_ 114 (List._∷_ 100 (List._∷_ 65 (List._∷_ 110 (List._∷_ 115 (List._∷_ 119 (List._∷_ 101 (List._∷_ 114 List.[])))))))))))))))))))))) (Syntax.tcons (Syntax.tyEnum (List._∷_ 111 (List._∷_ 117 (List._∷_ 116 (List._∷_ 99 (List._∷_ 111 (List._∷_ 109 (List._∷_ 101 (List._∷_ 58 (List._∷_ 58 (List._∷_ 79 (List._∷_ 117 (List._∷_ 116 (List._∷_ 99 (List._∷_ 111 (List._∷_ 109 (List._∷_ 101 List.[])))))))))))))))) (Syntax.ttcons Syntax.tnil (Syntax.ttcons Syntax.tnil (Syntax.ttcons (Syntax.tcons (Syntax.tyInt Syntax.w64) (Syntax.tcons (Syntax.tyInt Syntax.w64) Syntax.tnil)) (Syntax.ttcons Syntax.tnil (Syntax.ttcons (Syntax.tcons (Syntax.tyInt Syntax.w16) Syntax.tnil) (Syntax.ttcons Syntax.tnil (Syntax.ttcons (Syntax.tcons (Syntax.tyInt Syntax.w64) Syntax.tnil) (Syntax.ttcons Syntax.tnil Syntax.ttnil))))))))) (Syntax.tcons (Syntax.tyStruct (List._∷_ 115 (List._∷_ 113 (List._∷_ 108 (List._∷_ 99 (List._∷_ 97 (List._∷_ 114 (List._∷_ 100 (List._∷_ 58 (List._∷_ 58 (List._∷_ 83 (List._∷_ 113 (List._∷_ 108 (List._∷_ 67 (List._∷_ 97 (List._∷_ 114 (List._∷_ 100 List.[])))))))))))))))) (Syntax.tcons Syntax.tyBool (Syntax.tcons (Syntax.tyInt Syntax.w32) (Syntax.tcons (Syntax.tyArray (Syntax.tyInt Syntax.w8) 5) (Syntax.tcons (Syntax.tyArray (Syntax.tyInt Syntax.w8) 8) (Syntax.tcons (Syntax.tyInt Syntax.w8) (Syntax.tcons (Syntax.tyArray (Syntax.tyInt Syntax.w32) 6) (Syntax.tcons (Syntax.tyInt Syntax.w64) (Syntax.tcons (Syntax.tyInt Syntax.w32) (Syntax.tcons (Syntax.tyArray (Syntax.tyInt Syntax.w8) 11) (Syntax.tcons (Syntax.tyInt Syntax.w64) (Syntax.tcons (Syntax.tyInt Syntax.w64) Syntax.tnil)))))))))))) (Syntax.tcons (Syntax.tyInt Syntax.w64) Syntax.tnil))))) (List._∷_ (9, Rows'.any-gone (Syntax.tyInt Syntax.w64)) (List._∷_ (10, Rows'.any-gone (Syntax.tyInt Syntax.w64)) (List._∷_ (11, Rows'.any-gone (Syntax.tyRef Syntax.erased Syntax.mut (Syntax.tyArray ColumnMetadataRow.named 4096))) (List._∷_ (12, Rows'.any-gone (Syntax.tyStruct (List._∷_ 38 (List._∷_ 91 (List._∷_ 93 List.[]))) (Syntax.tcons (Syntax.tyRef Syntax.erased Syntax.mut ColumnMetadataRow.named) (Syntax.tcons (Syntax.tyInt Syntax.w64) Syntax.tnil)))) (List._∷_ (13, Rows'.any-gone (Syntax.tyRef Syntax.erased Syntax.mut (Syntax.tyInt Syntax.w8))) (List._∷_ (14, Rows'.any-gone (Syntax.tyStruct (List._∷_ 38 (List._∷_ 91 (List._∷_ 93 List.[]))) (Syntax.tcons (Syntax.tyRef Syntax.erased Syntax.mut (Syntax.tyInt Syntax.w8)) (Syntax.tcons (Syntax.tyInt Syntax.w64) Syntax.tnil)))) (List._∷_ (15, Rows'.any-gone (Syntax.tyRef Syntax.erased Syntax.mut (Syntax.tyInt Syntax.w8))) List.[])))))))))))))))
+t35 = List._∷_ (0, Rows'.sc-here (Row.sInt Syntax.w64)) (List._∷_ (1, Mut.mslice (Referent.rtF (Referent.fInt Syntax.w8)) (Syntax.tyRef (Syntax.named 0) Syntax.mut (Syntax.tyInt Syntax.w8)) 0) (List._∷_ (2, Rows'.sc-here (Row.sInt Syntax.w64)) (List._∷_ (3, Rows'.sc-here (Row.sInt Syntax.w16)) (List._∷_ (4, Rows'.sslice (Referent.rtF (Referent.fInt Syntax.w8)) (Syntax.tyRef (Syntax.named 1) Syntax.imm (Syntax.tyInt Syntax.w8)) 1) (List._∷_ (5, Mut.mslice (Referent.rtF (Referent.fInt Syntax.w8)) (Syntax.tyRef (Syntax.named 2) Syntax.mut (Syntax.tyInt Syntax.w8)) 2) (List._∷_ (6, Rows'.any-gone (ColumnMetadataRow.ty)) (List._∷_ (7, Rows'.any-gone (Syntax.tyArray (ColumnMetadataRow.ty) 4096)) (List._∷_ (8, Rows'.any-gone (Syntax.tyStruct (List._∷_ 115 (List._∷_ 113 (List._∷_ 108 (List._∷_ 100 (List._∷_ 97 (List._∷_ 114 (List._∷_ 100 (List._∷_ 58 (List._∷_ 58 (List._∷_ 83 (List._∷_ 113 (List._∷_ 108 (List._∷_ 100 (List._∷_ 97 (List._∷_ 114 (List._∷_ 100 (List._∷_ 65 (List._∷_ 110 (List._∷_ 115 (List._∷_ 119 (List._∷_ 101 (List._∷_ 114 List.[])))))))))))))))))))))) (Syntax.tcons (Syntax.tyEnum (List._∷_ 111 (List._∷_ 117 (List._∷_ 116 (List._∷_ 99 (List._∷_ 111 (List._∷_ 109 (List._∷_ 101 (List._∷_ 58 (List._∷_ 58 (List._∷_ 79 (List._∷_ 117 (List._∷_ 116 (List._∷_ 99 (List._∷_ 111 (List._∷_ 109 (List._∷_ 101 List.[])))))))))))))))) (Syntax.ttcons Syntax.tnil (Syntax.ttcons Syntax.tnil (Syntax.ttcons (Syntax.tcons (Syntax.tyInt Syntax.w64) (Syntax.tcons (Syntax.tyInt Syntax.w64) Syntax.tnil)) (Syntax.ttcons Syntax.tnil (Syntax.ttcons (Syntax.tcons (Syntax.tyInt Syntax.w16) Syntax.tnil) (Syntax.ttcons Syntax.tnil (Syntax.ttcons (Syntax.tcons (Syntax.tyInt Syntax.w64) Syntax.tnil) (Syntax.ttcons Syntax.tnil (Syntax.ttcons (Syntax.tcons (Syntax.tyInt Syntax.w16) Syntax.tnil) Syntax.ttnil)))))))))) (Syntax.tcons (Syntax.tyStruct (List._∷_ 115 (List._∷_ 113 (List._∷_ 108 (List._∷_ 99 (List._∷_ 97 (List._∷_ 114 (List._∷_ 100 (List._∷_ 58 (List._∷_ 58 (List._∷_ 83 (List._∷_ 113 (List._∷_ 108 (List._∷_ 67 (List._∷_ 97 (List._∷_ 114 (List._∷_ 100 List.[])))))))))))))))) (Syntax.tcons Syntax.tyBool (Syntax.tcons (Syntax.tyInt Syntax.w32) (Syntax.tcons (Syntax.tyArray (Syntax.tyInt Syntax.w8) 5) (Syntax.tcons (Syntax.tyArray (Syntax.tyInt Syntax.w8) 8) (Syntax.tcons (Syntax.tyInt Syntax.w8) (Syntax.tcons (Syntax.tyArray (Syntax.tyInt Syntax.w32) 6) (Syntax.tcons (Syntax.tyInt Syntax.w64) (Syntax.tcons (Syntax.tyInt Syntax.w32) (Syntax.tcons (Syntax.tyArray (Syntax.tyInt Syntax.w8) 11) (Syntax.tcons (Syntax.tyInt Syntax.w64) (Syntax.tcons (Syntax.tyInt Syntax.w64) Syntax.tnil)))))))))))) (Syntax.tcons (Syntax.tyInt Syntax.w64) Syntax.tnil))))) (List._∷_ (9, Rows'.any-gone (Syntax.tyInt Syntax.w64)) (List._∷_ (10, Rows'.any-gone (Syntax.tyInt Syntax.w64)) (List._∷_ (11, Rows'.any-gone (Syntax.tyRef Syntax.erased Syntax.mut (Syntax.tyArray ColumnMetadataRow.named 4096))) (List._∷_ (12, Rows'.any-gone (Syntax.tyStruct (List._∷_ 38 (List._∷_ 91 (List._∷_ 93 List.[]))) (Syntax.tcons (Syntax.tyRef Syntax.erased Syntax.mut ColumnMetadataRow.named) (Syntax.tcons (Syntax.tyInt Syntax.w64) Syntax.tnil)))) (List._∷_ (13, Rows'.any-gone (Syntax.tyRef Syntax.erased Syntax.mut (Syntax.tyInt Syntax.w8))) (List._∷_ (14, Rows'.any-gone (Syntax.tyStruct (List._∷_ 38 (List._∷_ 91 (List._∷_ 93 List.[]))) (Syntax.tcons (Syntax.tyRef Syntax.erased Syntax.mut (Syntax.tyInt Syntax.w8)) (Syntax.tcons (Syntax.tyInt Syntax.w64) Syntax.tnil)))) (List._∷_ (15, Rows'.any-gone (Syntax.tyRef Syntax.erased Syntax.mut (Syntax.tyInt Syntax.w8))) List.[])))))))))))))))
 
 abbrev pub t36 : List.List Row.Entry
-t36 = List._∷_ (0, Rows'.sc-here (Row.sInt Syntax.w64)) (List._∷_ (1, Mut.mslice (Referent.rtF (Referent.fInt Syntax.w8)) (Syntax.tyRef (Syntax.named 0) Syntax.mut (Syntax.tyInt Syntax.w8)) 0) (List._∷_ (2, Rows'.any-gone (Syntax.tyInt Syntax.w64)) (List._∷_ (3, Rows'.sc-here (Row.sInt Syntax.w16)) (List._∷_ (4, Rows'.sslice (Referent.rtF (Referent.fInt Syntax.w8)) (Syntax.tyRef (Syntax.named 1) Syntax.imm (Syntax.tyInt Syntax.w8)) 1) (List._∷_ (5, Mut.mslice (Referent.rtF (Referent.fInt Syntax.w8)) (Syntax.tyRef (Syntax.named 2) Syntax.mut (Syntax.tyInt Syntax.w8)) 2) (List._∷_ (6, Rows'.any-gone (ColumnMetadataRow.ty)) (List._∷_ (7, Rows'.any-gone (Syntax.tyArray (ColumnMetadataRow.ty) 4096)) (List._∷_ (8, Rows'.any-gone (Syntax.tyStruct (List._∷_ 115 (List._∷_ 113 (List._∷_ 108 (List._∷_ 100 (List._∷_ 97 (List._∷_ 114 (List._∷_ 100 (List._∷_ 58 (List._∷_ 58 (List._∷_ 83 (List._∷_ 113 (List._∷_ 108 (List._∷_ 100 (List._∷_ 97 (List._∷_ 114 (List._∷_ 100 (List._∷_ 65 (List._∷_ 110 (List._∷_ 115 (List._∷_ 119 (List._∷_ 101 (List._∷_ 114 List.[])))))))))))))))))))))) (Syntax.tcons (Syntax.tyEnum (List._∷_ 111 (List._∷_ 117 (List._∷_ 116 (List._∷_ 99 (List._∷_ 111 (List._∷_ 109 (List._∷_ 101 (List._∷_ 58 (List._∷_ 58 (List._∷_ 79 (List._∷_ 117 (List._∷_ 116 (List._∷_ 99 (List._∷_ 111 (List._∷_ 109 (List._∷_ 101 List.[])))))))))))))))) (Syntax.ttcons Syntax.tnil (Syntax.ttcons Syntax.tnil (Syntax.ttcons (Syntax.tcons (Syntax.tyInt Syntax.w64) (Syntax.tcons (Syntax.tyInt Syntax.w64) Syntax.tnil)) (Syntax.ttcons Syntax.tnil (Syntax.ttcons (Syntax.tcons (Syntax.tyInt Syntax.w16) Syntax.tnil) (Syntax.ttcons Syntax.tnil (Syntax.ttcons (Syntax.tcons (Syntax.tyInt Syntax.w64) Syntax.tnil) (Syntax.ttcons Syntax.tnil Syntax.ttnil))))))))) (Syntax.tcons (Syntax.tyStruct (List._∷_ 115 (List._∷_ 113 (List._∷_ 108 (List._∷_ 99 (List._∷_ 97 (List._∷_ 114 (List._∷_ 100 (List._∷_ 58 (List._∷_ 58 (List._∷_ 83 (List._∷_ 113 (List._∷_ 108 (List._∷_ 67 (List._∷_ 97 (List._∷_ 114 (List._∷_ 100 List.[])))))))))))))))) (Syntax.tcons Syntax.tyBool (Syntax.tcons (Syntax.tyInt Syntax.w32) (Syntax.tcons (Syntax.tyArray (Syntax.tyInt Syntax.w8) 5) (Syntax.tcons (Syntax.tyArray (Syntax.tyInt Syntax.w8) 8) (Syntax.tcons (Syntax.tyInt Syntax.w8) (Syntax.tcons (Syntax.tyArray (Syntax.tyInt Syntax.w32) 6) (Syntax.tcons (Syntax.tyInt Syntax.w64) (Syntax.tcons (Syntax.tyInt Syntax.w32) (Syntax.tcons (Syntax.tyArray (Syntax.tyInt Syntax.w8) 11) (Syntax.tcons (Syntax.tyInt Syntax.w64) (Syntax.tcons (Syntax.tyInt Syntax.w64) Syntax.tnil)))))))))))) (Syntax.tcons (Syntax.tyInt Syntax.w64) Syntax.tnil))))) (List._∷_ (9, Rows'.any-gone (Syntax.tyInt Syntax.w64)) (List._∷_ (10, Rows'.any-gone (Syntax.tyInt Syntax.w64)) (List._∷_ (11, Rows'.any-gone (Syntax.tyRef Syntax.erased Syntax.mut (Syntax.tyArray ColumnMetadataRow.named 4096))) (List._∷_ (12, Rows'.any-gone (Syntax.tyStruct (List._∷_ 38 (List._∷_ 91 (List._∷_ 93 List.[]))) (Syntax.tcons (Syntax.tyRef Syntax.erased Syntax.mut ColumnMetadataRow.named) (Syntax.tcons (Syntax.tyInt Syntax.w64) Syntax.tnil)))) (List._∷_ (13, Rows'.any-gone (Syntax.tyRef Syntax.erased Syntax.mut (Syntax.tyInt Syntax.w8))) (List._∷_ (14, Rows'.any-gone (Syntax.tyStruct (List._∷_ 38 (List._∷_ 91 (List._∷_ 93 List.[]))) (Syntax.tcons (Syntax.tyRef Syntax.erased Syntax.mut (Syntax.tyInt Syntax.w8)) (Syntax.tcons (Syntax.tyInt Syntax.w64) Syntax.tnil)))) (List._∷_ (15, Rows'.any-gone (Syntax.tyRef Syntax.erased Syntax.mut (Syntax.tyInt Syntax.w8))) List.[])))))))))))))))
+t36 = List._∷_ (0, Rows'.sc-here (Row.sInt Syntax.w64)) (List._∷_ (1, Mut.mslice (Referent.rtF (Referent.fInt Syntax.w8)) (Syntax.tyRef (Syntax.named 0) Syntax.mut (Syntax.tyInt Syntax.w8)) 0) (List._∷_ (2, Rows'.any-gone (Syntax.tyInt Syntax.w64)) (List._∷_ (3, Rows'.sc-here (Row.sInt Syntax.w16)) (List._∷_ (4, Rows'.sslice (Referent.rtF (Referent.fInt Syntax.w8)) (Syntax.tyRef (Syntax.named 1) Syntax.imm (Syntax.tyInt Syntax.w8)) 1) (List._∷_ (5, Mut.mslice (Referent.rtF (Referent.fInt Syntax.w8)) (Syntax.tyRef (Syntax.named 2) Syntax.mut (Syntax.tyInt Syntax.w8)) 2) (List._∷_ (6, Rows'.any-gone (ColumnMetadataRow.ty)) (List._∷_ (7, Rows'.any-gone (Syntax.tyArray (ColumnMetadataRow.ty) 4096)) (List._∷_ (8, Rows'.any-gone (Syntax.tyStruct (List._∷_ 115 (List._∷_ 113 (List._∷_ 108 (List._∷_ 100 (List._∷_ 97 (List._∷_ 114 (List._∷_ 100 (List._∷_ 58 (List._∷_ 58 (List._∷_ 83 (List._∷_ 113 (List._∷_ 108 (List._∷_ 100 (List._∷_ 97 (List._∷_ 114 (List._∷_ 100 (List._∷_ 65 (List._∷_ 110 (List._∷_ 115 (List._∷_ 119 (List._∷_ 101 (List._∷_ 114 List.[])))))))))))))))))))))) (Syntax.tcons (Syntax.tyEnum (List._∷_ 111 (List._∷_ 117 (List._∷_ 116 (List._∷_ 99 (List._∷_ 111 (List._∷_ 109 (List._∷_ 101 (List._∷_ 58 (List._∷_ 58 (List._∷_ 79 (List._∷_ 117 (List._∷_ 116 (List._∷_ 99 (List._∷_ 111 (List._∷_ 109 (List._∷_ 101 List.[])))))))))))))))) (Syntax.ttcons Syntax.tnil (Syntax.ttcons Syntax.tnil (Syntax.ttcons (Syntax.tcons (Syntax.tyInt Syntax.w64) (Syntax.tcons (Syntax.tyInt Syntax.w64) Syntax.tnil)) (Syntax.ttcons Syntax.tnil (Syntax.ttcons (Syntax.tcons (Syntax.tyInt Syntax.w16) Syntax.tnil) (Syntax.ttcons Syntax.tnil (Syntax.ttcons (Syntax.tcons (Syntax.tyInt Syntax.w64) Syntax.tnil) (Syntax.ttcons Syntax.tnil (Syntax.ttcons (Syntax.tcons (Syntax.tyInt Syntax.w16) Syntax.tnil) Syntax.ttnil)))))))))) (Syntax.tcons (Syntax.tyStruct (List._∷_ 115 (List._∷_ 113 (List._∷_ 108 (List._∷_ 99 (List._∷_ 97 (List._∷_ 114 (List._∷_ 100 (List._∷_ 58 (List._∷_ 58 (List._∷_ 83 (List._∷_ 113 (List._∷_ 108 (List._∷_ 67 (List._∷_ 97 (List._∷_ 114 (List._∷_ 100 List.[])))))))))))))))) (Syntax.tcons Syntax.tyBool (Syntax.tcons (Syntax.tyInt Syntax.w32) (Syntax.tcons (Syntax.tyArray (Syntax.tyInt Syntax.w8) 5) (Syntax.tcons (Syntax.tyArray (Syntax.tyInt Syntax.w8) 8) (Syntax.tcons (Syntax.tyInt Syntax.w8) (Syntax.tcons (Syntax.tyArray (Syntax.tyInt Syntax.w32) 6) (Syntax.tcons (Syntax.tyInt Syntax.w64) (Syntax.tcons (Syntax.tyInt Syntax.w32) (Syntax.tcons (Syntax.tyArray (Syntax.tyInt Syntax.w8) 11) (Syntax.tcons (Syntax.tyInt Syntax.w64) (Syntax.tcons (Syntax.tyInt Syntax.w64) Syntax.tnil)))))))))))) (Syntax.tcons (Syntax.tyInt Syntax.w64) Syntax.tnil))))) (List._∷_ (9, Rows'.any-gone (Syntax.tyInt Syntax.w64)) (List._∷_ (10, Rows'.any-gone (Syntax.tyInt Syntax.w64)) (List._∷_ (11, Rows'.any-gone (Syntax.tyRef Syntax.erased Syntax.mut (Syntax.tyArray ColumnMetadataRow.named 4096))) (List._∷_ (12, Rows'.any-gone (Syntax.tyStruct (List._∷_ 38 (List._∷_ 91 (List._∷_ 93 List.[]))) (Syntax.tcons (Syntax.tyRef Syntax.erased Syntax.mut ColumnMetadataRow.named) (Syntax.tcons (Syntax.tyInt Syntax.w64) Syntax.tnil)))) (List._∷_ (13, Rows'.any-gone (Syntax.tyRef Syntax.erased Syntax.mut (Syntax.tyInt Syntax.w8))) (List._∷_ (14, Rows'.any-gone (Syntax.tyStruct (List._∷_ 38 (List._∷_ 91 (List._∷_ 93 List.[]))) (Syntax.tcons (Syntax.tyRef Syntax.erased Syntax.mut (Syntax.tyInt Syntax.w8)) (Syntax.tcons (Syntax.tyInt Syntax.w64) Syntax.tnil)))) (List._∷_ (15, Rows'.any-gone (Syntax.tyRef Syntax.erased Syntax.mut (Syntax.tyInt Syntax.w8))) List.[])))))))))))))))
 
 abbrev pub T0 : Row.Cx
 T0 = record { locals = List._++_ t0 t1; slots = List.[] }
@@ -461,7 +461,7 @@ module _ (claims· : Claims) where
   s9 = λ bs. Relend.k-sl-aggregate (ColumnMetadataRow.RT) (Relend.asMut (ColumnMetadataRow.RT)) T10 11 12 3 (Syntax.tyRef Syntax.erased Syntax.mut (Syntax.tyArray ColumnMetadataRow.named 4096)) (Syntax.tyRef Syntax.erased Syntax.mut ColumnMetadataRow.named) (λ x. x) (Scalar.oBig Syntax.w64 4096)
 
   abbrev s10 : (bs : List.List Nat.ℕ) → Typed.Both T11 T12
-  s10 = λ bs. Call.callB ps·1 r·1 (claims· .2) (claims· .3) T11 (Num.vAt 3 λ x. x, (record { pos = 4; ty = Syntax.tyRef (Syntax.named 1) Syntax.imm (Syntax.tyInt Syntax.w8); ref = λ x. x }, (record { pos = 12; ty = Syntax.tyRef Syntax.erased Syntax.mut ColumnMetadataRow.named; ref = λ x. x }, tt))) 8 (List._∷_ 1 (List._∷_ 3 List.[])) (Syntax.tyStruct (List._∷_ 115 (List._∷_ 113 (List._∷_ 108 (List._∷_ 100 (List._∷_ 97 (List._∷_ 114 (List._∷_ 100 (List._∷_ 58 (List._∷_ 58 (List._∷_ 83 (List._∷_ 113 (List._∷_ 108 (List._∷_ 100 (List._∷_ 97 (List._∷_ 114 (List._∷_ 100 (List._∷_ 65 (List._∷_ 110 (List._∷_ 115 (List._∷_ 119 (List._∷_ 101 (List._∷_ 114 List.[])))))))))))))))))))))) (Syntax.tcons (Syntax.tyEnum (List._∷_ 111 (List._∷_ 117 (List._∷_ 116 (List._∷_ 99 (List._∷_ 111 (List._∷_ 109 (List._∷_ 101 (List._∷_ 58 (List._∷_ 58 (List._∷_ 79 (List._∷_ 117 (List._∷_ 116 (List._∷_ 99 (List._∷_ 111 (List._∷_ 109 (List._∷_ 101 List.[])))))))))))))))) (Syntax.ttcons Syntax.tnil (Syntax.ttcons Syntax.tnil (Syntax.ttcons (Syntax.tcons (Syntax.tyInt Syntax.w64) (Syntax.tcons (Syntax.tyInt Syntax.w64) Syntax.tnil)) (Syntax.ttcons Syntax.tnil (Syntax.ttcons (Syntax.tcons (Syntax.tyInt Syntax.w16) Syntax.tnil) (Syntax.ttcons Syntax.tnil (Syntax.ttcons (Syntax.tcons (Syntax.tyInt Syntax.w64) Syntax.tnil) (Syntax.ttcons Syntax.tnil Syntax.ttnil))))))))) (Syntax.tcons (Syntax.tyStruct (List._∷_ 115 (List._∷_ 113 (List._∷_ 108 (List._∷_ 99 (List._∷_ 97 (List._∷_ 114 (List._∷_ 100 (List._∷_ 58 (List._∷_ 58 (List._∷_ 83 (List._∷_ 113 (List._∷_ 108 (List._∷_ 67 (List._∷_ 97 (List._∷_ 114 (List._∷_ 100 List.[])))))))))))))))) (Syntax.tcons Syntax.tyBool (Syntax.tcons (Syntax.tyInt Syntax.w32) (Syntax.tcons (Syntax.tyArray (Syntax.tyInt Syntax.w8) 5) (Syntax.tcons (Syntax.tyArray (Syntax.tyInt Syntax.w8) 8) (Syntax.tcons (Syntax.tyInt Syntax.w8) (Syntax.tcons (Syntax.tyArray (Syntax.tyInt Syntax.w32) 6) (Syntax.tcons (Syntax.tyInt Syntax.w64) (Syntax.tcons (Syntax.tyInt Syntax.w32) (Syntax.tcons (Syntax.tyArray (Syntax.tyInt Syntax.w8) 11) (Syntax.tcons (Syntax.tyInt Syntax.w64) (Syntax.tcons (Syntax.tyInt Syntax.w64) Syntax.tnil)))))))))))) (Syntax.tcons (Syntax.tyInt Syntax.w64) Syntax.tnil))))
+  s10 = λ bs. Call.callB ps·1 r·1 (claims· .2) (claims· .3) T11 (Num.vAt 3 λ x. x, (record { pos = 4; ty = Syntax.tyRef (Syntax.named 1) Syntax.imm (Syntax.tyInt Syntax.w8); ref = λ x. x }, (record { pos = 12; ty = Syntax.tyRef Syntax.erased Syntax.mut ColumnMetadataRow.named; ref = λ x. x }, tt))) 8 (List._∷_ 1 (List._∷_ 3 List.[])) (Syntax.tyStruct (List._∷_ 115 (List._∷_ 113 (List._∷_ 108 (List._∷_ 100 (List._∷_ 97 (List._∷_ 114 (List._∷_ 100 (List._∷_ 58 (List._∷_ 58 (List._∷_ 83 (List._∷_ 113 (List._∷_ 108 (List._∷_ 100 (List._∷_ 97 (List._∷_ 114 (List._∷_ 100 (List._∷_ 65 (List._∷_ 110 (List._∷_ 115 (List._∷_ 119 (List._∷_ 101 (List._∷_ 114 List.[])))))))))))))))))))))) (Syntax.tcons (Syntax.tyEnum (List._∷_ 111 (List._∷_ 117 (List._∷_ 116 (List._∷_ 99 (List._∷_ 111 (List._∷_ 109 (List._∷_ 101 (List._∷_ 58 (List._∷_ 58 (List._∷_ 79 (List._∷_ 117 (List._∷_ 116 (List._∷_ 99 (List._∷_ 111 (List._∷_ 109 (List._∷_ 101 List.[])))))))))))))))) (Syntax.ttcons Syntax.tnil (Syntax.ttcons Syntax.tnil (Syntax.ttcons (Syntax.tcons (Syntax.tyInt Syntax.w64) (Syntax.tcons (Syntax.tyInt Syntax.w64) Syntax.tnil)) (Syntax.ttcons Syntax.tnil (Syntax.ttcons (Syntax.tcons (Syntax.tyInt Syntax.w16) Syntax.tnil) (Syntax.ttcons Syntax.tnil (Syntax.ttcons (Syntax.tcons (Syntax.tyInt Syntax.w64) Syntax.tnil) (Syntax.ttcons Syntax.tnil (Syntax.ttcons (Syntax.tcons (Syntax.tyInt Syntax.w16) Syntax.tnil) Syntax.ttnil)))))))))) (Syntax.tcons (Syntax.tyStruct (List._∷_ 115 (List._∷_ 113 (List._∷_ 108 (List._∷_ 99 (List._∷_ 97 (List._∷_ 114 (List._∷_ 100 (List._∷_ 58 (List._∷_ 58 (List._∷_ 83 (List._∷_ 113 (List._∷_ 108 (List._∷_ 67 (List._∷_ 97 (List._∷_ 114 (List._∷_ 100 List.[])))))))))))))))) (Syntax.tcons Syntax.tyBool (Syntax.tcons (Syntax.tyInt Syntax.w32) (Syntax.tcons (Syntax.tyArray (Syntax.tyInt Syntax.w8) 5) (Syntax.tcons (Syntax.tyArray (Syntax.tyInt Syntax.w8) 8) (Syntax.tcons (Syntax.tyInt Syntax.w8) (Syntax.tcons (Syntax.tyArray (Syntax.tyInt Syntax.w32) 6) (Syntax.tcons (Syntax.tyInt Syntax.w64) (Syntax.tcons (Syntax.tyInt Syntax.w32) (Syntax.tcons (Syntax.tyArray (Syntax.tyInt Syntax.w8) 11) (Syntax.tcons (Syntax.tyInt Syntax.w64) (Syntax.tcons (Syntax.tyInt Syntax.w64) Syntax.tnil)))))))))))) (Syntax.tcons (Syntax.tyInt Syntax.w64) Syntax.tnil))))
 
   abbrev s12 : (bs : List.List Nat.ℕ) → Typed.Both T12 T14
   s12 = λ bs. Borrow.k-back-arr (ColumnMetadataRow.RT) T12 12 7 3 4096 (Syntax.tyRef Syntax.erased Syntax.mut ColumnMetadataRow.named) (λ x. x) λ x. x
@@ -485,7 +485,7 @@ module _ (claims· : Claims) where
   s21 = λ bs. Call.callB ps·2 r·2 (claims· .4) (claims· .5) T22 (record { pos = 14; ty = Syntax.tyRef Syntax.erased Syntax.mut (Syntax.tyInt Syntax.w8); ref = λ x. x }, (Num.vAt 2 λ x. x, (record { pos = 4; ty = Syntax.tyRef (Syntax.named 1) Syntax.imm (Syntax.tyInt Syntax.w8); ref = λ x. x }, (record { pos = 8; st = List.[]; d = 0; at = λ x. x }, (record { pos = 16; ty = Syntax.tyRef Syntax.erased Syntax.mut (Syntax.tyInt Syntax.w8); ref = λ x. x }, tt))))) 10 (List._∷_ 4 (List._∷_ 1 (List._∷_ 5 List.[]))) (Syntax.tyInt Syntax.w64)
 
   abbrev s22 : (bs : List.List Nat.ℕ) → Typed.Mo T23 → Typed.Mo T24
-  s22 = λ bs. Scalar.n-room T23 8 (Syntax.tyStruct (List._∷_ 115 (List._∷_ 113 (List._∷_ 108 (List._∷_ 100 (List._∷_ 97 (List._∷_ 114 (List._∷_ 100 (List._∷_ 58 (List._∷_ 58 (List._∷_ 83 (List._∷_ 113 (List._∷_ 108 (List._∷_ 100 (List._∷_ 97 (List._∷_ 114 (List._∷_ 100 (List._∷_ 65 (List._∷_ 110 (List._∷_ 115 (List._∷_ 119 (List._∷_ 101 (List._∷_ 114 List.[])))))))))))))))))))))) (Syntax.tcons (Syntax.tyEnum (List._∷_ 111 (List._∷_ 117 (List._∷_ 116 (List._∷_ 99 (List._∷_ 111 (List._∷_ 109 (List._∷_ 101 (List._∷_ 58 (List._∷_ 58 (List._∷_ 79 (List._∷_ 117 (List._∷_ 116 (List._∷_ 99 (List._∷_ 111 (List._∷_ 109 (List._∷_ 101 List.[])))))))))))))))) (Syntax.ttcons Syntax.tnil (Syntax.ttcons Syntax.tnil (Syntax.ttcons (Syntax.tcons (Syntax.tyInt Syntax.w64) (Syntax.tcons (Syntax.tyInt Syntax.w64) Syntax.tnil)) (Syntax.ttcons Syntax.tnil (Syntax.ttcons (Syntax.tcons (Syntax.tyInt Syntax.w16) Syntax.tnil) (Syntax.ttcons Syntax.tnil (Syntax.ttcons (Syntax.tcons (Syntax.tyInt Syntax.w64) Syntax.tnil) (Syntax.ttcons Syntax.tnil Syntax.ttnil))))))))) (Syntax.tcons (Syntax.tyStruct (List._∷_ 115 (List._∷_ 113 (List._∷_ 108 (List._∷_ 99 (List._∷_ 97 (List._∷_ 114 (List._∷_ 100 (List._∷_ 58 (List._∷_ 58 (List._∷_ 83 (List._∷_ 113 (List._∷_ 108 (List._∷_ 67 (List._∷_ 97 (List._∷_ 114 (List._∷_ 100 List.[])))))))))))))))) (Syntax.tcons Syntax.tyBool (Syntax.tcons (Syntax.tyInt Syntax.w32) (Syntax.tcons (Syntax.tyArray (Syntax.tyInt Syntax.w8) 5) (Syntax.tcons (Syntax.tyArray (Syntax.tyInt Syntax.w8) 8) (Syntax.tcons (Syntax.tyInt Syntax.w8) (Syntax.tcons (Syntax.tyArray (Syntax.tyInt Syntax.w32) 6) (Syntax.tcons (Syntax.tyInt Syntax.w64) (Syntax.tcons (Syntax.tyInt Syntax.w32) (Syntax.tcons (Syntax.tyArray (Syntax.tyInt Syntax.w8) 11) (Syntax.tcons (Syntax.tyInt Syntax.w64) (Syntax.tcons (Syntax.tyInt Syntax.w64) Syntax.tnil)))))))))))) (Syntax.tcons (Syntax.tyInt Syntax.w64) Syntax.tnil))))
+  s22 = λ bs. Scalar.n-room T23 8 (Syntax.tyStruct (List._∷_ 115 (List._∷_ 113 (List._∷_ 108 (List._∷_ 100 (List._∷_ 97 (List._∷_ 114 (List._∷_ 100 (List._∷_ 58 (List._∷_ 58 (List._∷_ 83 (List._∷_ 113 (List._∷_ 108 (List._∷_ 100 (List._∷_ 97 (List._∷_ 114 (List._∷_ 100 (List._∷_ 65 (List._∷_ 110 (List._∷_ 115 (List._∷_ 119 (List._∷_ 101 (List._∷_ 114 List.[])))))))))))))))))))))) (Syntax.tcons (Syntax.tyEnum (List._∷_ 111 (List._∷_ 117 (List._∷_ 116 (List._∷_ 99 (List._∷_ 111 (List._∷_ 109 (List._∷_ 101 (List._∷_ 58 (List._∷_ 58 (List._∷_ 79 (List._∷_ 117 (List._∷_ 116 (List._∷_ 99 (List._∷_ 111 (List._∷_ 109 (List._∷_ 101 List.[])))))))))))))))) (Syntax.ttcons Syntax.tnil (Syntax.ttcons Syntax.tnil (Syntax.ttcons (Syntax.tcons (Syntax.tyInt Syntax.w64) (Syntax.tcons (Syntax.tyInt Syntax.w64) Syntax.tnil)) (Syntax.ttcons Syntax.tnil (Syntax.ttcons (Syntax.tcons (Syntax.tyInt Syntax.w16) Syntax.tnil) (Syntax.ttcons Syntax.tnil (Syntax.ttcons (Syntax.tcons (Syntax.tyInt Syntax.w64) Syntax.tnil) (Syntax.ttcons Syntax.tnil (Syntax.ttcons (Syntax.tcons (Syntax.tyInt Syntax.w16) Syntax.tnil) Syntax.ttnil)))))))))) (Syntax.tcons (Syntax.tyStruct (List._∷_ 115 (List._∷_ 113 (List._∷_ 108 (List._∷_ 99 (List._∷_ 97 (List._∷_ 114 (List._∷_ 100 (List._∷_ 58 (List._∷_ 58 (List._∷_ 83 (List._∷_ 113 (List._∷_ 108 (List._∷_ 67 (List._∷_ 97 (List._∷_ 114 (List._∷_ 100 List.[])))))))))))))))) (Syntax.tcons Syntax.tyBool (Syntax.tcons (Syntax.tyInt Syntax.w32) (Syntax.tcons (Syntax.tyArray (Syntax.tyInt Syntax.w8) 5) (Syntax.tcons (Syntax.tyArray (Syntax.tyInt Syntax.w8) 8) (Syntax.tcons (Syntax.tyInt Syntax.w8) (Syntax.tcons (Syntax.tyArray (Syntax.tyInt Syntax.w32) 6) (Syntax.tcons (Syntax.tyInt Syntax.w64) (Syntax.tcons (Syntax.tyInt Syntax.w32) (Syntax.tcons (Syntax.tyArray (Syntax.tyInt Syntax.w8) 11) (Syntax.tcons (Syntax.tyInt Syntax.w64) (Syntax.tcons (Syntax.tyInt Syntax.w64) Syntax.tnil)))))))))))) (Syntax.tcons (Syntax.tyInt Syntax.w64) Syntax.tnil))))
 
   abbrev s24 : (bs : List.List Nat.ℕ) → Typed.Both T24 T26
   s24 = λ bs. Relend.k-back-sl (Referent.rtF (Referent.fInt Syntax.w8)) T24 14 1 0 4 (Syntax.tyRef (Syntax.named 0) Syntax.mut (Syntax.tyInt Syntax.w8)) (Syntax.tyRef Syntax.erased Syntax.mut (Syntax.tyInt Syntax.w8)) Row.off (λ x. x) λ x. x
@@ -727,25 +727,25 @@ module _ (claims· : Claims) where
         g17 = List._∷_ (0, Rows'.any-gone (Syntax.tyInt Syntax.w64)) (List._∷_ (1, Relend.mslice-owed (Referent.rtF (Referent.fInt Syntax.w8)) (Syntax.tyRef (Syntax.named 0) Syntax.mut (Syntax.tyInt Syntax.w8)) 0 4 (Row.lease (κs .0) (qs .0))) (List._∷_ (2, Rows'.sc-here (Row.sInt Syntax.w64)) (List._∷_ (3, Rows'.sc-here (Row.sInt Syntax.w16)) (List._∷_ (4, Rows'.sslice (Referent.rtF (Referent.fInt Syntax.w8)) (Syntax.tyRef (Syntax.named 1) Syntax.imm (Syntax.tyInt Syntax.w8)) 1) (List._∷_ (5, Relend.mslice-owed (Referent.rtF (Referent.fInt Syntax.w8)) (Syntax.tyRef (Syntax.named 2) Syntax.mut (Syntax.tyInt Syntax.w8)) 2 5 (Row.lease (κs .1 .1 .0) (qs .1 .1 .0))) (List._∷_ (6, Rows'.any-gone (ColumnMetadataRow.ty)) (List._∷_ (7, Rows.arrF (ColumnMetadataRow.RT) 4096 0) (List._∷_ (8, Rows'.whole (Declared.row SqldardAnswer.the-type)) (List._∷_ (9, Rows'.sc-here (Row.sInt Syntax.w64)) (List._∷_ (10, Rows'.sc-here (Row.sInt Syntax.w64)) (List._∷_ (11, Rows'.any-gone (Syntax.tyRef Syntax.erased Syntax.mut (Syntax.tyArray ColumnMetadataRow.named 4096))) (List._∷_ (12, Rows'.any-gone (Syntax.tyStruct (List._∷_ 38 (List._∷_ 91 (List._∷_ 93 List.[]))) (Syntax.tcons (Syntax.tyRef Syntax.erased Syntax.mut ColumnMetadataRow.named) (Syntax.tcons (Syntax.tyInt Syntax.w64) Syntax.tnil)))) (List._∷_ (13, Rows'.any-gone (Syntax.tyRef Syntax.erased Syntax.mut (Syntax.tyInt Syntax.w8))) (List._∷_ (14, Mut.msleft (Referent.rtF (Referent.fInt Syntax.w8)) (Syntax.tyRef Syntax.erased Syntax.mut (Syntax.tyInt Syntax.w8))) (List._∷_ (15, Rows'.any-gone (Syntax.tyRef Syntax.erased Syntax.mut (Syntax.tyInt Syntax.w8))) List.[])))))))))))))))
 
         abbrev g19 : List.List Row.Entry
-        g19 = List._∷_ (0, Rows'.any-gone (Syntax.tyInt Syntax.w64)) (List._∷_ (1, Relend.mslice-owed (Referent.rtF (Referent.fInt Syntax.w8)) (Syntax.tyRef (Syntax.named 0) Syntax.mut (Syntax.tyInt Syntax.w8)) 0 4 (Row.lease (κs .0) (qs .0))) (List._∷_ (2, Rows'.sc-here (Row.sInt Syntax.w64)) (List._∷_ (3, Rows'.sc-here (Row.sInt Syntax.w16)) (List._∷_ (4, Rows'.sslice (Referent.rtF (Referent.fInt Syntax.w8)) (Syntax.tyRef (Syntax.named 1) Syntax.imm (Syntax.tyInt Syntax.w8)) 1) (List._∷_ (5, Relend.mslice-owed (Referent.rtF (Referent.fInt Syntax.w8)) (Syntax.tyRef (Syntax.named 2) Syntax.mut (Syntax.tyInt Syntax.w8)) 2 5 (Row.lease (κs .1 .1 .0) (qs .1 .1 .0))) (List._∷_ (6, Rows'.any-gone (ColumnMetadataRow.ty)) (List._∷_ (7, Rows.arrF (ColumnMetadataRow.RT) 4096 0) (List._∷_ (8, Rows'.any-gone (Syntax.tyStruct (List._∷_ 115 (List._∷_ 113 (List._∷_ 108 (List._∷_ 100 (List._∷_ 97 (List._∷_ 114 (List._∷_ 100 (List._∷_ 58 (List._∷_ 58 (List._∷_ 83 (List._∷_ 113 (List._∷_ 108 (List._∷_ 100 (List._∷_ 97 (List._∷_ 114 (List._∷_ 100 (List._∷_ 65 (List._∷_ 110 (List._∷_ 115 (List._∷_ 119 (List._∷_ 101 (List._∷_ 114 List.[])))))))))))))))))))))) (Syntax.tcons (Syntax.tyEnum (List._∷_ 111 (List._∷_ 117 (List._∷_ 116 (List._∷_ 99 (List._∷_ 111 (List._∷_ 109 (List._∷_ 101 (List._∷_ 58 (List._∷_ 58 (List._∷_ 79 (List._∷_ 117 (List._∷_ 116 (List._∷_ 99 (List._∷_ 111 (List._∷_ 109 (List._∷_ 101 List.[])))))))))))))))) (Syntax.ttcons Syntax.tnil (Syntax.ttcons Syntax.tnil (Syntax.ttcons (Syntax.tcons (Syntax.tyInt Syntax.w64) (Syntax.tcons (Syntax.tyInt Syntax.w64) Syntax.tnil)) (Syntax.ttcons Syntax.tnil (Syntax.ttcons (Syntax.tcons (Syntax.tyInt Syntax.w16) Syntax.tnil) (Syntax.ttcons Syntax.tnil (Syntax.ttcons (Syntax.tcons (Syntax.tyInt Syntax.w64) Syntax.tnil) (Syntax.ttcons Syntax.tnil Syntax.ttnil))))))))) (Syntax.tcons (Syntax.tyStruct (List._∷_ 115 (List._∷_ 113 (List._∷_ 108 (List._∷_ 99 (List._∷_ 97 (List._∷_ 114 (List._∷_ 100 (List._∷_ 58 (List._∷_ 58 (List._∷_ 83 (List._∷_ 113 (List._∷_ 108 (List._∷_ 67 (List._∷_ 97 (List._∷_ 114 (List._∷_ 100 List.[])))))))))))))))) (Syntax.tcons Syntax.tyBool (Syntax.tcons (Syntax.tyInt Syntax.w32) (Syntax.tcons (Syntax.tyArray (Syntax.tyInt Syntax.w8) 5) (Syntax.tcons (Syntax.tyArray (Syntax.tyInt Syntax.w8) 8) (Syntax.tcons (Syntax.tyInt Syntax.w8) (Syntax.tcons (Syntax.tyArray (Syntax.tyInt Syntax.w32) 6) (Syntax.tcons (Syntax.tyInt Syntax.w64) (Syntax.tcons (Syntax.tyInt Syntax.w32) (Syntax.tcons (Syntax.tyArray (Syntax.tyInt Syntax.w8) 11) (Syntax.tcons (Syntax.tyInt Syntax.w64) (Syntax.tcons (Syntax.tyInt Syntax.w64) Syntax.tnil)))))))))))) (Syntax.tcons (Syntax.tyInt Syntax.w64) Syntax.tnil))))) (List._∷_ (9, Rows'.sc-here (Row.sInt Syntax.w64)) (List._∷_ (10, Rows'.sc-here (Row.sInt Syntax.w64)) (List._∷_ (11, Rows'.any-gone (Syntax.tyRef Syntax.erased Syntax.mut (Syntax.tyArray ColumnMetadataRow.named 4096))) (List._∷_ (12, Rows'.any-gone (Syntax.tyStruct (List._∷_ 38 (List._∷_ 91 (List._∷_ 93 List.[]))) (Syntax.tcons (Syntax.tyRef Syntax.erased Syntax.mut ColumnMetadataRow.named) (Syntax.tcons (Syntax.tyInt Syntax.w64) Syntax.tnil)))) (List._∷_ (13, Rows'.any-gone (Syntax.tyRef Syntax.erased Syntax.mut (Syntax.tyInt Syntax.w8))) (List._∷_ (14, Mut.msleft (Referent.rtF (Referent.fInt Syntax.w8)) (Syntax.tyRef Syntax.erased Syntax.mut (Syntax.tyInt Syntax.w8))) (List._∷_ (15, Rows'.any-gone (Syntax.tyRef Syntax.erased Syntax.mut (Syntax.tyInt Syntax.w8))) List.[])))))))))))))))
+        g19 = List._∷_ (0, Rows'.any-gone (Syntax.tyInt Syntax.w64)) (List._∷_ (1, Relend.mslice-owed (Referent.rtF (Referent.fInt Syntax.w8)) (Syntax.tyRef (Syntax.named 0) Syntax.mut (Syntax.tyInt Syntax.w8)) 0 4 (Row.lease (κs .0) (qs .0))) (List._∷_ (2, Rows'.sc-here (Row.sInt Syntax.w64)) (List._∷_ (3, Rows'.sc-here (Row.sInt Syntax.w16)) (List._∷_ (4, Rows'.sslice (Referent.rtF (Referent.fInt Syntax.w8)) (Syntax.tyRef (Syntax.named 1) Syntax.imm (Syntax.tyInt Syntax.w8)) 1) (List._∷_ (5, Relend.mslice-owed (Referent.rtF (Referent.fInt Syntax.w8)) (Syntax.tyRef (Syntax.named 2) Syntax.mut (Syntax.tyInt Syntax.w8)) 2 5 (Row.lease (κs .1 .1 .0) (qs .1 .1 .0))) (List._∷_ (6, Rows'.any-gone (ColumnMetadataRow.ty)) (List._∷_ (7, Rows.arrF (ColumnMetadataRow.RT) 4096 0) (List._∷_ (8, Rows'.any-gone (Syntax.tyStruct (List._∷_ 115 (List._∷_ 113 (List._∷_ 108 (List._∷_ 100 (List._∷_ 97 (List._∷_ 114 (List._∷_ 100 (List._∷_ 58 (List._∷_ 58 (List._∷_ 83 (List._∷_ 113 (List._∷_ 108 (List._∷_ 100 (List._∷_ 97 (List._∷_ 114 (List._∷_ 100 (List._∷_ 65 (List._∷_ 110 (List._∷_ 115 (List._∷_ 119 (List._∷_ 101 (List._∷_ 114 List.[])))))))))))))))))))))) (Syntax.tcons (Syntax.tyEnum (List._∷_ 111 (List._∷_ 117 (List._∷_ 116 (List._∷_ 99 (List._∷_ 111 (List._∷_ 109 (List._∷_ 101 (List._∷_ 58 (List._∷_ 58 (List._∷_ 79 (List._∷_ 117 (List._∷_ 116 (List._∷_ 99 (List._∷_ 111 (List._∷_ 109 (List._∷_ 101 List.[])))))))))))))))) (Syntax.ttcons Syntax.tnil (Syntax.ttcons Syntax.tnil (Syntax.ttcons (Syntax.tcons (Syntax.tyInt Syntax.w64) (Syntax.tcons (Syntax.tyInt Syntax.w64) Syntax.tnil)) (Syntax.ttcons Syntax.tnil (Syntax.ttcons (Syntax.tcons (Syntax.tyInt Syntax.w16) Syntax.tnil) (Syntax.ttcons Syntax.tnil (Syntax.ttcons (Syntax.tcons (Syntax.tyInt Syntax.w64) Syntax.tnil) (Syntax.ttcons Syntax.tnil (Syntax.ttcons (Syntax.tcons (Syntax.tyInt Syntax.w16) Syntax.tnil) Syntax.ttnil)))))))))) (Syntax.tcons (Syntax.tyStruct (List._∷_ 115 (List._∷_ 113 (List._∷_ 108 (List._∷_ 99 (List._∷_ 97 (List._∷_ 114 (List._∷_ 100 (List._∷_ 58 (List._∷_ 58 (List._∷_ 83 (List._∷_ 113 (List._∷_ 108 (List._∷_ 67 (List._∷_ 97 (List._∷_ 114 (List._∷_ 100 List.[])))))))))))))))) (Syntax.tcons Syntax.tyBool (Syntax.tcons (Syntax.tyInt Syntax.w32) (Syntax.tcons (Syntax.tyArray (Syntax.tyInt Syntax.w8) 5) (Syntax.tcons (Syntax.tyArray (Syntax.tyInt Syntax.w8) 8) (Syntax.tcons (Syntax.tyInt Syntax.w8) (Syntax.tcons (Syntax.tyArray (Syntax.tyInt Syntax.w32) 6) (Syntax.tcons (Syntax.tyInt Syntax.w64) (Syntax.tcons (Syntax.tyInt Syntax.w32) (Syntax.tcons (Syntax.tyArray (Syntax.tyInt Syntax.w8) 11) (Syntax.tcons (Syntax.tyInt Syntax.w64) (Syntax.tcons (Syntax.tyInt Syntax.w64) Syntax.tnil)))))))))))) (Syntax.tcons (Syntax.tyInt Syntax.w64) Syntax.tnil))))) (List._∷_ (9, Rows'.sc-here (Row.sInt Syntax.w64)) (List._∷_ (10, Rows'.sc-here (Row.sInt Syntax.w64)) (List._∷_ (11, Rows'.any-gone (Syntax.tyRef Syntax.erased Syntax.mut (Syntax.tyArray ColumnMetadataRow.named 4096))) (List._∷_ (12, Rows'.any-gone (Syntax.tyStruct (List._∷_ 38 (List._∷_ 91 (List._∷_ 93 List.[]))) (Syntax.tcons (Syntax.tyRef Syntax.erased Syntax.mut ColumnMetadataRow.named) (Syntax.tcons (Syntax.tyInt Syntax.w64) Syntax.tnil)))) (List._∷_ (13, Rows'.any-gone (Syntax.tyRef Syntax.erased Syntax.mut (Syntax.tyInt Syntax.w8))) (List._∷_ (14, Mut.msleft (Referent.rtF (Referent.fInt Syntax.w8)) (Syntax.tyRef Syntax.erased Syntax.mut (Syntax.tyInt Syntax.w8))) (List._∷_ (15, Rows'.any-gone (Syntax.tyRef Syntax.erased Syntax.mut (Syntax.tyInt Syntax.w8))) List.[])))))))))))))))
 
         abbrev g20 : List.List Row.Entry
-        g20 = List._∷_ (0, Rows'.any-gone (Syntax.tyInt Syntax.w64)) (List._∷_ (1, Mut.mslice (Referent.rtF (Referent.fInt Syntax.w8)) (Syntax.tyRef (Syntax.named 0) Syntax.mut (Syntax.tyInt Syntax.w8)) 0) (List._∷_ (2, Rows'.sc-here (Row.sInt Syntax.w64)) (List._∷_ (3, Rows'.sc-here (Row.sInt Syntax.w16)) (List._∷_ (4, Rows'.sslice (Referent.rtF (Referent.fInt Syntax.w8)) (Syntax.tyRef (Syntax.named 1) Syntax.imm (Syntax.tyInt Syntax.w8)) 1) (List._∷_ (5, Relend.mslice-owed (Referent.rtF (Referent.fInt Syntax.w8)) (Syntax.tyRef (Syntax.named 2) Syntax.mut (Syntax.tyInt Syntax.w8)) 2 5 (Row.lease (κs .1 .1 .0) (qs .1 .1 .0))) (List._∷_ (6, Rows'.any-gone (ColumnMetadataRow.ty)) (List._∷_ (7, Rows.arrF (ColumnMetadataRow.RT) 4096 0) (List._∷_ (8, Rows'.any-gone (Syntax.tyStruct (List._∷_ 115 (List._∷_ 113 (List._∷_ 108 (List._∷_ 100 (List._∷_ 97 (List._∷_ 114 (List._∷_ 100 (List._∷_ 58 (List._∷_ 58 (List._∷_ 83 (List._∷_ 113 (List._∷_ 108 (List._∷_ 100 (List._∷_ 97 (List._∷_ 114 (List._∷_ 100 (List._∷_ 65 (List._∷_ 110 (List._∷_ 115 (List._∷_ 119 (List._∷_ 101 (List._∷_ 114 List.[])))))))))))))))))))))) (Syntax.tcons (Syntax.tyEnum (List._∷_ 111 (List._∷_ 117 (List._∷_ 116 (List._∷_ 99 (List._∷_ 111 (List._∷_ 109 (List._∷_ 101 (List._∷_ 58 (List._∷_ 58 (List._∷_ 79 (List._∷_ 117 (List._∷_ 116 (List._∷_ 99 (List._∷_ 111 (List._∷_ 109 (List._∷_ 101 List.[])))))))))))))))) (Syntax.ttcons Syntax.tnil (Syntax.ttcons Syntax.tnil (Syntax.ttcons (Syntax.tcons (Syntax.tyInt Syntax.w64) (Syntax.tcons (Syntax.tyInt Syntax.w64) Syntax.tnil)) (Syntax.ttcons Syntax.tnil (Syntax.ttcons (Syntax.tcons (Syntax.tyInt Syntax.w16) Syntax.tnil) (Syntax.ttcons Syntax.tnil (Syntax.ttcons (Syntax.tcons (Syntax.tyInt Syntax.w64) Syntax.tnil) (Syntax.ttcons Syntax.tnil Syntax.ttnil))))))))) (Syntax.tcons (Syntax.tyStruct (List._∷_ 115 (List._∷_ 113 (List._∷_ 108 (List._∷_ 99 (List._∷_ 97 (List._∷_ 114 (List._∷_ 100 (List._∷_ 58 (List._∷_ 58 (List._∷_ 83 (List._∷_ 113 (List._∷_ 108 (List._∷_ 67 (List._∷_ 97 (List._∷_ 114 (List._∷_ 100 List.[])))))))))))))))) (Syntax.tcons Syntax.tyBool (Syntax.tcons (Syntax.tyInt Syntax.w32) (Syntax.tcons (Syntax.tyArray (Syntax.tyInt Syntax.w8) 5) (Syntax.tcons (Syntax.tyArray (Syntax.tyInt Syntax.w8) 8) (Syntax.tcons (Syntax.tyInt Syntax.w8) (Syntax.tcons (Syntax.tyArray (Syntax.tyInt Syntax.w32) 6) (Syntax.tcons (Syntax.tyInt Syntax.w64) (Syntax.tcons (Syntax.tyInt Syntax.w32) (Syntax.tcons (Syntax.tyArray (Syntax.tyInt Syntax.w8) 11) (Syntax.tcons (Syntax.tyInt Syntax.w64) (Syntax.tcons (Syntax.tyInt Syntax.w64) Syntax.tnil)))))))))))) (Syntax.tcons (Syntax.tyInt Syntax.w64) Syntax.tnil))))) (List._∷_ (9, Rows'.sc-here (Row.sInt Syntax.w64)) (List._∷_ (10, Rows'.sc-here (Row.sInt Syntax.w64)) (List._∷_ (11, Rows'.any-gone (Syntax.tyRef Syntax.erased Syntax.mut (Syntax.tyArray ColumnMetadataRow.named 4096))) (List._∷_ (12, Rows'.any-gone (Syntax.tyStruct (List._∷_ 38 (List._∷_ 91 (List._∷_ 93 List.[]))) (Syntax.tcons (Syntax.tyRef Syntax.erased Syntax.mut ColumnMetadataRow.named) (Syntax.tcons (Syntax.tyInt Syntax.w64) Syntax.tnil)))) (List._∷_ (13, Rows'.any-gone (Syntax.tyRef Syntax.erased Syntax.mut (Syntax.tyInt Syntax.w8))) (List._∷_ (14, Rows'.any-gone (Syntax.tyStruct (List._∷_ 38 (List._∷_ 91 (List._∷_ 93 List.[]))) (Syntax.tcons (Syntax.tyRef Syntax.erased Syntax.mut (Syntax.tyInt Syntax.w8)) (Syntax.tcons (Syntax.tyInt Syntax.w64) Syntax.tnil)))) (List._∷_ (15, Rows'.any-gone (Syntax.tyRef Syntax.erased Syntax.mut (Syntax.tyInt Syntax.w8))) List.[])))))))))))))))
+        g20 = List._∷_ (0, Rows'.any-gone (Syntax.tyInt Syntax.w64)) (List._∷_ (1, Mut.mslice (Referent.rtF (Referent.fInt Syntax.w8)) (Syntax.tyRef (Syntax.named 0) Syntax.mut (Syntax.tyInt Syntax.w8)) 0) (List._∷_ (2, Rows'.sc-here (Row.sInt Syntax.w64)) (List._∷_ (3, Rows'.sc-here (Row.sInt Syntax.w16)) (List._∷_ (4, Rows'.sslice (Referent.rtF (Referent.fInt Syntax.w8)) (Syntax.tyRef (Syntax.named 1) Syntax.imm (Syntax.tyInt Syntax.w8)) 1) (List._∷_ (5, Relend.mslice-owed (Referent.rtF (Referent.fInt Syntax.w8)) (Syntax.tyRef (Syntax.named 2) Syntax.mut (Syntax.tyInt Syntax.w8)) 2 5 (Row.lease (κs .1 .1 .0) (qs .1 .1 .0))) (List._∷_ (6, Rows'.any-gone (ColumnMetadataRow.ty)) (List._∷_ (7, Rows.arrF (ColumnMetadataRow.RT) 4096 0) (List._∷_ (8, Rows'.any-gone (Syntax.tyStruct (List._∷_ 115 (List._∷_ 113 (List._∷_ 108 (List._∷_ 100 (List._∷_ 97 (List._∷_ 114 (List._∷_ 100 (List._∷_ 58 (List._∷_ 58 (List._∷_ 83 (List._∷_ 113 (List._∷_ 108 (List._∷_ 100 (List._∷_ 97 (List._∷_ 114 (List._∷_ 100 (List._∷_ 65 (List._∷_ 110 (List._∷_ 115 (List._∷_ 119 (List._∷_ 101 (List._∷_ 114 List.[])))))))))))))))))))))) (Syntax.tcons (Syntax.tyEnum (List._∷_ 111 (List._∷_ 117 (List._∷_ 116 (List._∷_ 99 (List._∷_ 111 (List._∷_ 109 (List._∷_ 101 (List._∷_ 58 (List._∷_ 58 (List._∷_ 79 (List._∷_ 117 (List._∷_ 116 (List._∷_ 99 (List._∷_ 111 (List._∷_ 109 (List._∷_ 101 List.[])))))))))))))))) (Syntax.ttcons Syntax.tnil (Syntax.ttcons Syntax.tnil (Syntax.ttcons (Syntax.tcons (Syntax.tyInt Syntax.w64) (Syntax.tcons (Syntax.tyInt Syntax.w64) Syntax.tnil)) (Syntax.ttcons Syntax.tnil (Syntax.ttcons (Syntax.tcons (Syntax.tyInt Syntax.w16) Syntax.tnil) (Syntax.ttcons Syntax.tnil (Syntax.ttcons (Syntax.tcons (Syntax.tyInt Syntax.w64) Syntax.tnil) (Syntax.ttcons Syntax.tnil (Syntax.ttcons (Syntax.tcons (Syntax.tyInt Syntax.w16) Syntax.tnil) Syntax.ttnil)))))))))) (Syntax.tcons (Syntax.tyStruct (List._∷_ 115 (List._∷_ 113 (List._∷_ 108 (List._∷_ 99 (List._∷_ 97 (List._∷_ 114 (List._∷_ 100 (List._∷_ 58 (List._∷_ 58 (List._∷_ 83 (List._∷_ 113 (List._∷_ 108 (List._∷_ 67 (List._∷_ 97 (List._∷_ 114 (List._∷_ 100 List.[])))))))))))))))) (Syntax.tcons Syntax.tyBool (Syntax.tcons (Syntax.tyInt Syntax.w32) (Syntax.tcons (Syntax.tyArray (Syntax.tyInt Syntax.w8) 5) (Syntax.tcons (Syntax.tyArray (Syntax.tyInt Syntax.w8) 8) (Syntax.tcons (Syntax.tyInt Syntax.w8) (Syntax.tcons (Syntax.tyArray (Syntax.tyInt Syntax.w32) 6) (Syntax.tcons (Syntax.tyInt Syntax.w64) (Syntax.tcons (Syntax.tyInt Syntax.w32) (Syntax.tcons (Syntax.tyArray (Syntax.tyInt Syntax.w8) 11) (Syntax.tcons (Syntax.tyInt Syntax.w64) (Syntax.tcons (Syntax.tyInt Syntax.w64) Syntax.tnil)))))))))))) (Syntax.tcons (Syntax.tyInt Syntax.w64) Syntax.tnil))))) (List._∷_ (9, Rows'.sc-here (Row.sInt Syntax.w64)) (List._∷_ (10, Rows'.sc-here (Row.sInt Syntax.w64)) (List._∷_ (11, Rows'.any-gone (Syntax.tyRef Syntax.erased Syntax.mut (Syntax.tyArray ColumnMetadataRow.named 4096))) (List._∷_ (12, Rows'.any-gone (Syntax.tyStruct (List._∷_ 38 (List._∷_ 91 (List._∷_ 93 List.[]))) (Syntax.tcons (Syntax.tyRef Syntax.erased Syntax.mut ColumnMetadataRow.named) (Syntax.tcons (Syntax.tyInt Syntax.w64) Syntax.tnil)))) (List._∷_ (13, Rows'.any-gone (Syntax.tyRef Syntax.erased Syntax.mut (Syntax.tyInt Syntax.w8))) (List._∷_ (14, Rows'.any-gone (Syntax.tyStruct (List._∷_ 38 (List._∷_ 91 (List._∷_ 93 List.[]))) (Syntax.tcons (Syntax.tyRef Syntax.erased Syntax.mut (Syntax.tyInt Syntax.w8)) (Syntax.tcons (Syntax.tyInt Syntax.w64) Syntax.tnil)))) (List._∷_ (15, Rows'.any-gone (Syntax.tyRef Syntax.erased Syntax.mut (Syntax.tyInt Syntax.w8))) List.[])))))))))))))))
 
         abbrev g22 : List.List Row.Entry
-        g22 = List._∷_ (0, Rows'.any-gone (Syntax.tyInt Syntax.w64)) (List._∷_ (1, Relend.mslice-owed (Referent.rtF (Referent.fInt Syntax.w8)) (Syntax.tyRef (Syntax.named 0) Syntax.mut (Syntax.tyInt Syntax.w8)) 0 6 (Row.lease (κs .0) (qs .0))) (List._∷_ (2, Rows'.sc-here (Row.sInt Syntax.w64)) (List._∷_ (3, Rows'.sc-here (Row.sInt Syntax.w16)) (List._∷_ (4, Rows'.sslice (Referent.rtF (Referent.fInt Syntax.w8)) (Syntax.tyRef (Syntax.named 1) Syntax.imm (Syntax.tyInt Syntax.w8)) 1) (List._∷_ (5, Mut.mslice (Referent.rtF (Referent.fInt Syntax.w8)) (Syntax.tyRef (Syntax.named 2) Syntax.mut (Syntax.tyInt Syntax.w8)) 2) (List._∷_ (6, Rows'.any-gone (ColumnMetadataRow.ty)) (List._∷_ (7, Rows.arrF (ColumnMetadataRow.RT) 4096 0) (List._∷_ (8, Rows'.any-gone (Syntax.tyStruct (List._∷_ 115 (List._∷_ 113 (List._∷_ 108 (List._∷_ 100 (List._∷_ 97 (List._∷_ 114 (List._∷_ 100 (List._∷_ 58 (List._∷_ 58 (List._∷_ 83 (List._∷_ 113 (List._∷_ 108 (List._∷_ 100 (List._∷_ 97 (List._∷_ 114 (List._∷_ 100 (List._∷_ 65 (List._∷_ 110 (List._∷_ 115 (List._∷_ 119 (List._∷_ 101 (List._∷_ 114 List.[])))))))))))))))))))))) (Syntax.tcons (Syntax.tyEnum (List._∷_ 111 (List._∷_ 117 (List._∷_ 116 (List._∷_ 99 (List._∷_ 111 (List._∷_ 109 (List._∷_ 101 (List._∷_ 58 (List._∷_ 58 (List._∷_ 79 (List._∷_ 117 (List._∷_ 116 (List._∷_ 99 (List._∷_ 111 (List._∷_ 109 (List._∷_ 101 List.[])))))))))))))))) (Syntax.ttcons Syntax.tnil (Syntax.ttcons Syntax.tnil (Syntax.ttcons (Syntax.tcons (Syntax.tyInt Syntax.w64) (Syntax.tcons (Syntax.tyInt Syntax.w64) Syntax.tnil)) (Syntax.ttcons Syntax.tnil (Syntax.ttcons (Syntax.tcons (Syntax.tyInt Syntax.w16) Syntax.tnil) (Syntax.ttcons Syntax.tnil (Syntax.ttcons (Syntax.tcons (Syntax.tyInt Syntax.w64) Syntax.tnil) (Syntax.ttcons Syntax.tnil Syntax.ttnil))))))))) (Syntax.tcons (Syntax.tyStruct (List._∷_ 115 (List._∷_ 113 (List._∷_ 108 (List._∷_ 99 (List._∷_ 97 (List._∷_ 114 (List._∷_ 100 (List._∷_ 58 (List._∷_ 58 (List._∷_ 83 (List._∷_ 113 (List._∷_ 108 (List._∷_ 67 (List._∷_ 97 (List._∷_ 114 (List._∷_ 100 List.[])))))))))))))))) (Syntax.tcons Syntax.tyBool (Syntax.tcons (Syntax.tyInt Syntax.w32) (Syntax.tcons (Syntax.tyArray (Syntax.tyInt Syntax.w8) 5) (Syntax.tcons (Syntax.tyArray (Syntax.tyInt Syntax.w8) 8) (Syntax.tcons (Syntax.tyInt Syntax.w8) (Syntax.tcons (Syntax.tyArray (Syntax.tyInt Syntax.w32) 6) (Syntax.tcons (Syntax.tyInt Syntax.w64) (Syntax.tcons (Syntax.tyInt Syntax.w32) (Syntax.tcons (Syntax.tyArray (Syntax.tyInt Syntax.w8) 11) (Syntax.tcons (Syntax.tyInt Syntax.w64) (Syntax.tcons (Syntax.tyInt Syntax.w64) Syntax.tnil)))))))))))) (Syntax.tcons (Syntax.tyInt Syntax.w64) Syntax.tnil))))) (List._∷_ (9, Rows'.sc-here (Row.sInt Syntax.w64)) (List._∷_ (10, Rows'.sc-here (Row.sInt Syntax.w64)) (List._∷_ (11, Rows'.any-gone (Syntax.tyRef Syntax.erased Syntax.mut (Syntax.tyArray ColumnMetadataRow.named 4096))) (List._∷_ (12, Rows'.any-gone (Syntax.tyStruct (List._∷_ 38 (List._∷_ 91 (List._∷_ 93 List.[]))) (Syntax.tcons (Syntax.tyRef Syntax.erased Syntax.mut ColumnMetadataRow.named) (Syntax.tcons (Syntax.tyInt Syntax.w64) Syntax.tnil)))) (List._∷_ (13, Rows'.any-gone (Syntax.tyRef Syntax.erased Syntax.mut (Syntax.tyInt Syntax.w8))) (List._∷_ (14, Rows'.any-gone (Syntax.tyStruct (List._∷_ 38 (List._∷_ 91 (List._∷_ 93 List.[]))) (Syntax.tcons (Syntax.tyRef Syntax.erased Syntax.mut (Syntax.tyInt Syntax.w8)) (Syntax.tcons (Syntax.tyInt Syntax.w64) Syntax.tnil)))) (List._∷_ (15, Rows'.any-gone (Syntax.tyRef Syntax.erased Syntax.mut (Syntax.tyInt Syntax.w8))) List.[])))))))))))))))
+        g22 = List._∷_ (0, Rows'.any-gone (Syntax.tyInt Syntax.w64)) (List._∷_ (1, Relend.mslice-owed (Referent.rtF (Referent.fInt Syntax.w8)) (Syntax.tyRef (Syntax.named 0) Syntax.mut (Syntax.tyInt Syntax.w8)) 0 6 (Row.lease (κs .0) (qs .0))) (List._∷_ (2, Rows'.sc-here (Row.sInt Syntax.w64)) (List._∷_ (3, Rows'.sc-here (Row.sInt Syntax.w16)) (List._∷_ (4, Rows'.sslice (Referent.rtF (Referent.fInt Syntax.w8)) (Syntax.tyRef (Syntax.named 1) Syntax.imm (Syntax.tyInt Syntax.w8)) 1) (List._∷_ (5, Mut.mslice (Referent.rtF (Referent.fInt Syntax.w8)) (Syntax.tyRef (Syntax.named 2) Syntax.mut (Syntax.tyInt Syntax.w8)) 2) (List._∷_ (6, Rows'.any-gone (ColumnMetadataRow.ty)) (List._∷_ (7, Rows.arrF (ColumnMetadataRow.RT) 4096 0) (List._∷_ (8, Rows'.any-gone (Syntax.tyStruct (List._∷_ 115 (List._∷_ 113 (List._∷_ 108 (List._∷_ 100 (List._∷_ 97 (List._∷_ 114 (List._∷_ 100 (List._∷_ 58 (List._∷_ 58 (List._∷_ 83 (List._∷_ 113 (List._∷_ 108 (List._∷_ 100 (List._∷_ 97 (List._∷_ 114 (List._∷_ 100 (List._∷_ 65 (List._∷_ 110 (List._∷_ 115 (List._∷_ 119 (List._∷_ 101 (List._∷_ 114 List.[])))))))))))))))))))))) (Syntax.tcons (Syntax.tyEnum (List._∷_ 111 (List._∷_ 117 (List._∷_ 116 (List._∷_ 99 (List._∷_ 111 (List._∷_ 109 (List._∷_ 101 (List._∷_ 58 (List._∷_ 58 (List._∷_ 79 (List._∷_ 117 (List._∷_ 116 (List._∷_ 99 (List._∷_ 111 (List._∷_ 109 (List._∷_ 101 List.[])))))))))))))))) (Syntax.ttcons Syntax.tnil (Syntax.ttcons Syntax.tnil (Syntax.ttcons (Syntax.tcons (Syntax.tyInt Syntax.w64) (Syntax.tcons (Syntax.tyInt Syntax.w64) Syntax.tnil)) (Syntax.ttcons Syntax.tnil (Syntax.ttcons (Syntax.tcons (Syntax.tyInt Syntax.w16) Syntax.tnil) (Syntax.ttcons Syntax.tnil (Syntax.ttcons (Syntax.tcons (Syntax.tyInt Syntax.w64) Syntax.tnil) (Syntax.ttcons Syntax.tnil (Syntax.ttcons (Syntax.tcons (Syntax.tyInt Syntax.w16) Syntax.tnil) Syntax.ttnil)))))))))) (Syntax.tcons (Syntax.tyStruct (List._∷_ 115 (List._∷_ 113 (List._∷_ 108 (List._∷_ 99 (List._∷_ 97 (List._∷_ 114 (List._∷_ 100 (List._∷_ 58 (List._∷_ 58 (List._∷_ 83 (List._∷_ 113 (List._∷_ 108 (List._∷_ 67 (List._∷_ 97 (List._∷_ 114 (List._∷_ 100 List.[])))))))))))))))) (Syntax.tcons Syntax.tyBool (Syntax.tcons (Syntax.tyInt Syntax.w32) (Syntax.tcons (Syntax.tyArray (Syntax.tyInt Syntax.w8) 5) (Syntax.tcons (Syntax.tyArray (Syntax.tyInt Syntax.w8) 8) (Syntax.tcons (Syntax.tyInt Syntax.w8) (Syntax.tcons (Syntax.tyArray (Syntax.tyInt Syntax.w32) 6) (Syntax.tcons (Syntax.tyInt Syntax.w64) (Syntax.tcons (Syntax.tyInt Syntax.w32) (Syntax.tcons (Syntax.tyArray (Syntax.tyInt Syntax.w8) 11) (Syntax.tcons (Syntax.tyInt Syntax.w64) (Syntax.tcons (Syntax.tyInt Syntax.w64) Syntax.tnil)))))))))))) (Syntax.tcons (Syntax.tyInt Syntax.w64) Syntax.tnil))))) (List._∷_ (9, Rows'.sc-here (Row.sInt Syntax.w64)) (List._∷_ (10, Rows'.sc-here (Row.sInt Syntax.w64)) (List._∷_ (11, Rows'.any-gone (Syntax.tyRef Syntax.erased Syntax.mut (Syntax.tyArray ColumnMetadataRow.named 4096))) (List._∷_ (12, Rows'.any-gone (Syntax.tyStruct (List._∷_ 38 (List._∷_ 91 (List._∷_ 93 List.[]))) (Syntax.tcons (Syntax.tyRef Syntax.erased Syntax.mut ColumnMetadataRow.named) (Syntax.tcons (Syntax.tyInt Syntax.w64) Syntax.tnil)))) (List._∷_ (13, Rows'.any-gone (Syntax.tyRef Syntax.erased Syntax.mut (Syntax.tyInt Syntax.w8))) (List._∷_ (14, Rows'.any-gone (Syntax.tyStruct (List._∷_ 38 (List._∷_ 91 (List._∷_ 93 List.[]))) (Syntax.tcons (Syntax.tyRef Syntax.erased Syntax.mut (Syntax.tyInt Syntax.w8)) (Syntax.tcons (Syntax.tyInt Syntax.w64) Syntax.tnil)))) (List._∷_ (15, Rows'.any-gone (Syntax.tyRef Syntax.erased Syntax.mut (Syntax.tyInt Syntax.w8))) List.[])))))))))))))))
 
         abbrev g25 : List.List Row.Entry
-        g25 = List._∷_ (0, Rows'.any-gone (Syntax.tyInt Syntax.w64)) (List._∷_ (1, Relend.mslice-owed (Referent.rtF (Referent.fInt Syntax.w8)) (Syntax.tyRef (Syntax.named 0) Syntax.mut (Syntax.tyInt Syntax.w8)) 0 6 (Row.lease (κs .0) (qs .0))) (List._∷_ (2, Rows'.sc-here (Row.sInt Syntax.w64)) (List._∷_ (3, Rows'.sc-here (Row.sInt Syntax.w16)) (List._∷_ (4, Rows'.sslice (Referent.rtF (Referent.fInt Syntax.w8)) (Syntax.tyRef (Syntax.named 1) Syntax.imm (Syntax.tyInt Syntax.w8)) 1) (List._∷_ (5, Mut.mslice (Referent.rtF (Referent.fInt Syntax.w8)) (Syntax.tyRef (Syntax.named 2) Syntax.mut (Syntax.tyInt Syntax.w8)) 2) (List._∷_ (6, Rows'.any-gone (ColumnMetadataRow.ty)) (List._∷_ (7, Rows.arr-shrP (ColumnMetadataRow.RT) 4096 7) (List._∷_ (8, Rows'.any-gone (Syntax.tyStruct (List._∷_ 115 (List._∷_ 113 (List._∷_ 108 (List._∷_ 100 (List._∷_ 97 (List._∷_ 114 (List._∷_ 100 (List._∷_ 58 (List._∷_ 58 (List._∷_ 83 (List._∷_ 113 (List._∷_ 108 (List._∷_ 100 (List._∷_ 97 (List._∷_ 114 (List._∷_ 100 (List._∷_ 65 (List._∷_ 110 (List._∷_ 115 (List._∷_ 119 (List._∷_ 101 (List._∷_ 114 List.[])))))))))))))))))))))) (Syntax.tcons (Syntax.tyEnum (List._∷_ 111 (List._∷_ 117 (List._∷_ 116 (List._∷_ 99 (List._∷_ 111 (List._∷_ 109 (List._∷_ 101 (List._∷_ 58 (List._∷_ 58 (List._∷_ 79 (List._∷_ 117 (List._∷_ 116 (List._∷_ 99 (List._∷_ 111 (List._∷_ 109 (List._∷_ 101 List.[])))))))))))))))) (Syntax.ttcons Syntax.tnil (Syntax.ttcons Syntax.tnil (Syntax.ttcons (Syntax.tcons (Syntax.tyInt Syntax.w64) (Syntax.tcons (Syntax.tyInt Syntax.w64) Syntax.tnil)) (Syntax.ttcons Syntax.tnil (Syntax.ttcons (Syntax.tcons (Syntax.tyInt Syntax.w16) Syntax.tnil) (Syntax.ttcons Syntax.tnil (Syntax.ttcons (Syntax.tcons (Syntax.tyInt Syntax.w64) Syntax.tnil) (Syntax.ttcons Syntax.tnil Syntax.ttnil))))))))) (Syntax.tcons (Syntax.tyStruct (List._∷_ 115 (List._∷_ 113 (List._∷_ 108 (List._∷_ 99 (List._∷_ 97 (List._∷_ 114 (List._∷_ 100 (List._∷_ 58 (List._∷_ 58 (List._∷_ 83 (List._∷_ 113 (List._∷_ 108 (List._∷_ 67 (List._∷_ 97 (List._∷_ 114 (List._∷_ 100 List.[])))))))))))))))) (Syntax.tcons Syntax.tyBool (Syntax.tcons (Syntax.tyInt Syntax.w32) (Syntax.tcons (Syntax.tyArray (Syntax.tyInt Syntax.w8) 5) (Syntax.tcons (Syntax.tyArray (Syntax.tyInt Syntax.w8) 8) (Syntax.tcons (Syntax.tyInt Syntax.w8) (Syntax.tcons (Syntax.tyArray (Syntax.tyInt Syntax.w32) 6) (Syntax.tcons (Syntax.tyInt Syntax.w64) (Syntax.tcons (Syntax.tyInt Syntax.w32) (Syntax.tcons (Syntax.tyArray (Syntax.tyInt Syntax.w8) 11) (Syntax.tcons (Syntax.tyInt Syntax.w64) (Syntax.tcons (Syntax.tyInt Syntax.w64) Syntax.tnil)))))))))))) (Syntax.tcons (Syntax.tyInt Syntax.w64) Syntax.tnil))))) (List._∷_ (9, Rows'.sc-here (Row.sInt Syntax.w64)) (List._∷_ (10, Rows'.sc-here (Row.sInt Syntax.w64)) (List._∷_ (11, Rows'.any-gone (Syntax.tyRef Syntax.erased Syntax.mut (Syntax.tyArray ColumnMetadataRow.named 4096))) (List._∷_ (12, Rows'.any-gone (Syntax.tyStruct (List._∷_ 38 (List._∷_ 91 (List._∷_ 93 List.[]))) (Syntax.tcons (Syntax.tyRef Syntax.erased Syntax.mut ColumnMetadataRow.named) (Syntax.tcons (Syntax.tyInt Syntax.w64) Syntax.tnil)))) (List._∷_ (13, Rows'.any-gone (Syntax.tyRef Syntax.erased Syntax.mut (Syntax.tyInt Syntax.w8))) (List._∷_ (14, Rows'.any-gone (Syntax.tyStruct (List._∷_ 38 (List._∷_ 91 (List._∷_ 93 List.[]))) (Syntax.tcons (Syntax.tyRef Syntax.erased Syntax.mut (Syntax.tyInt Syntax.w8)) (Syntax.tcons (Syntax.tyInt Syntax.w64) Syntax.tnil)))) (List._∷_ (15, Rows'.any-gone (Syntax.tyRef Syntax.erased Syntax.mut (Syntax.tyInt Syntax.w8))) List.[])))))))))))))))
+        g25 = List._∷_ (0, Rows'.any-gone (Syntax.tyInt Syntax.w64)) (List._∷_ (1, Relend.mslice-owed (Referent.rtF (Referent.fInt Syntax.w8)) (Syntax.tyRef (Syntax.named 0) Syntax.mut (Syntax.tyInt Syntax.w8)) 0 6 (Row.lease (κs .0) (qs .0))) (List._∷_ (2, Rows'.sc-here (Row.sInt Syntax.w64)) (List._∷_ (3, Rows'.sc-here (Row.sInt Syntax.w16)) (List._∷_ (4, Rows'.sslice (Referent.rtF (Referent.fInt Syntax.w8)) (Syntax.tyRef (Syntax.named 1) Syntax.imm (Syntax.tyInt Syntax.w8)) 1) (List._∷_ (5, Mut.mslice (Referent.rtF (Referent.fInt Syntax.w8)) (Syntax.tyRef (Syntax.named 2) Syntax.mut (Syntax.tyInt Syntax.w8)) 2) (List._∷_ (6, Rows'.any-gone (ColumnMetadataRow.ty)) (List._∷_ (7, Rows.arr-shrP (ColumnMetadataRow.RT) 4096 7) (List._∷_ (8, Rows'.any-gone (Syntax.tyStruct (List._∷_ 115 (List._∷_ 113 (List._∷_ 108 (List._∷_ 100 (List._∷_ 97 (List._∷_ 114 (List._∷_ 100 (List._∷_ 58 (List._∷_ 58 (List._∷_ 83 (List._∷_ 113 (List._∷_ 108 (List._∷_ 100 (List._∷_ 97 (List._∷_ 114 (List._∷_ 100 (List._∷_ 65 (List._∷_ 110 (List._∷_ 115 (List._∷_ 119 (List._∷_ 101 (List._∷_ 114 List.[])))))))))))))))))))))) (Syntax.tcons (Syntax.tyEnum (List._∷_ 111 (List._∷_ 117 (List._∷_ 116 (List._∷_ 99 (List._∷_ 111 (List._∷_ 109 (List._∷_ 101 (List._∷_ 58 (List._∷_ 58 (List._∷_ 79 (List._∷_ 117 (List._∷_ 116 (List._∷_ 99 (List._∷_ 111 (List._∷_ 109 (List._∷_ 101 List.[])))))))))))))))) (Syntax.ttcons Syntax.tnil (Syntax.ttcons Syntax.tnil (Syntax.ttcons (Syntax.tcons (Syntax.tyInt Syntax.w64) (Syntax.tcons (Syntax.tyInt Syntax.w64) Syntax.tnil)) (Syntax.ttcons Syntax.tnil (Syntax.ttcons (Syntax.tcons (Syntax.tyInt Syntax.w16) Syntax.tnil) (Syntax.ttcons Syntax.tnil (Syntax.ttcons (Syntax.tcons (Syntax.tyInt Syntax.w64) Syntax.tnil) (Syntax.ttcons Syntax.tnil (Syntax.ttcons (Syntax.tcons (Syntax.tyInt Syntax.w16) Syntax.tnil) Syntax.ttnil)))))))))) (Syntax.tcons (Syntax.tyStruct (List._∷_ 115 (List._∷_ 113 (List._∷_ 108 (List._∷_ 99 (List._∷_ 97 (List._∷_ 114 (List._∷_ 100 (List._∷_ 58 (List._∷_ 58 (List._∷_ 83 (List._∷_ 113 (List._∷_ 108 (List._∷_ 67 (List._∷_ 97 (List._∷_ 114 (List._∷_ 100 List.[])))))))))))))))) (Syntax.tcons Syntax.tyBool (Syntax.tcons (Syntax.tyInt Syntax.w32) (Syntax.tcons (Syntax.tyArray (Syntax.tyInt Syntax.w8) 5) (Syntax.tcons (Syntax.tyArray (Syntax.tyInt Syntax.w8) 8) (Syntax.tcons (Syntax.tyInt Syntax.w8) (Syntax.tcons (Syntax.tyArray (Syntax.tyInt Syntax.w32) 6) (Syntax.tcons (Syntax.tyInt Syntax.w64) (Syntax.tcons (Syntax.tyInt Syntax.w32) (Syntax.tcons (Syntax.tyArray (Syntax.tyInt Syntax.w8) 11) (Syntax.tcons (Syntax.tyInt Syntax.w64) (Syntax.tcons (Syntax.tyInt Syntax.w64) Syntax.tnil)))))))))))) (Syntax.tcons (Syntax.tyInt Syntax.w64) Syntax.tnil))))) (List._∷_ (9, Rows'.sc-here (Row.sInt Syntax.w64)) (List._∷_ (10, Rows'.sc-here (Row.sInt Syntax.w64)) (List._∷_ (11, Rows'.any-gone (Syntax.tyRef Syntax.erased Syntax.mut (Syntax.tyArray ColumnMetadataRow.named 4096))) (List._∷_ (12, Rows'.any-gone (Syntax.tyStruct (List._∷_ 38 (List._∷_ 91 (List._∷_ 93 List.[]))) (Syntax.tcons (Syntax.tyRef Syntax.erased Syntax.mut ColumnMetadataRow.named) (Syntax.tcons (Syntax.tyInt Syntax.w64) Syntax.tnil)))) (List._∷_ (13, Rows'.any-gone (Syntax.tyRef Syntax.erased Syntax.mut (Syntax.tyInt Syntax.w8))) (List._∷_ (14, Rows'.any-gone (Syntax.tyStruct (List._∷_ 38 (List._∷_ 91 (List._∷_ 93 List.[]))) (Syntax.tcons (Syntax.tyRef Syntax.erased Syntax.mut (Syntax.tyInt Syntax.w8)) (Syntax.tcons (Syntax.tyInt Syntax.w64) Syntax.tnil)))) (List._∷_ (15, Rows'.any-gone (Syntax.tyRef Syntax.erased Syntax.mut (Syntax.tyInt Syntax.w8))) List.[])))))))))))))))
 
         abbrev g28 : List.List Row.Entry
-        g28 = List._∷_ (0, Rows'.sc-here (Row.sInt Syntax.w64)) (List._∷_ (1, Relend.mslice-owed (Referent.rtF (Referent.fInt Syntax.w8)) (Syntax.tyRef (Syntax.named 0) Syntax.mut (Syntax.tyInt Syntax.w8)) 0 6 (Row.lease (κs .0) (qs .0))) (List._∷_ (2, Rows'.sc-here (Row.sInt Syntax.w64)) (List._∷_ (3, Rows'.sc-here (Row.sInt Syntax.w16)) (List._∷_ (4, Rows'.sslice (Referent.rtF (Referent.fInt Syntax.w8)) (Syntax.tyRef (Syntax.named 1) Syntax.imm (Syntax.tyInt Syntax.w8)) 1) (List._∷_ (5, Mut.mslice (Referent.rtF (Referent.fInt Syntax.w8)) (Syntax.tyRef (Syntax.named 2) Syntax.mut (Syntax.tyInt Syntax.w8)) 2) (List._∷_ (6, Rows'.any-gone (ColumnMetadataRow.ty)) (List._∷_ (7, Rows.arr-shrP (ColumnMetadataRow.RT) 4096 7) (List._∷_ (8, Rows'.any-gone (Syntax.tyStruct (List._∷_ 115 (List._∷_ 113 (List._∷_ 108 (List._∷_ 100 (List._∷_ 97 (List._∷_ 114 (List._∷_ 100 (List._∷_ 58 (List._∷_ 58 (List._∷_ 83 (List._∷_ 113 (List._∷_ 108 (List._∷_ 100 (List._∷_ 97 (List._∷_ 114 (List._∷_ 100 (List._∷_ 65 (List._∷_ 110 (List._∷_ 115 (List._∷_ 119 (List._∷_ 101 (List._∷_ 114 List.[])))))))))))))))))))))) (Syntax.tcons (Syntax.tyEnum (List._∷_ 111 (List._∷_ 117 (List._∷_ 116 (List._∷_ 99 (List._∷_ 111 (List._∷_ 109 (List._∷_ 101 (List._∷_ 58 (List._∷_ 58 (List._∷_ 79 (List._∷_ 117 (List._∷_ 116 (List._∷_ 99 (List._∷_ 111 (List._∷_ 109 (List._∷_ 101 List.[])))))))))))))))) (Syntax.ttcons Syntax.tnil (Syntax.ttcons Syntax.tnil (Syntax.ttcons (Syntax.tcons (Syntax.tyInt Syntax.w64) (Syntax.tcons (Syntax.tyInt Syntax.w64) Syntax.tnil)) (Syntax.ttcons Syntax.tnil (Syntax.ttcons (Syntax.tcons (Syntax.tyInt Syntax.w16) Syntax.tnil) (Syntax.ttcons Syntax.tnil (Syntax.ttcons (Syntax.tcons (Syntax.tyInt Syntax.w64) Syntax.tnil) (Syntax.ttcons Syntax.tnil Syntax.ttnil))))))))) (Syntax.tcons (Syntax.tyStruct (List._∷_ 115 (List._∷_ 113 (List._∷_ 108 (List._∷_ 99 (List._∷_ 97 (List._∷_ 114 (List._∷_ 100 (List._∷_ 58 (List._∷_ 58 (List._∷_ 83 (List._∷_ 113 (List._∷_ 108 (List._∷_ 67 (List._∷_ 97 (List._∷_ 114 (List._∷_ 100 List.[])))))))))))))))) (Syntax.tcons Syntax.tyBool (Syntax.tcons (Syntax.tyInt Syntax.w32) (Syntax.tcons (Syntax.tyArray (Syntax.tyInt Syntax.w8) 5) (Syntax.tcons (Syntax.tyArray (Syntax.tyInt Syntax.w8) 8) (Syntax.tcons (Syntax.tyInt Syntax.w8) (Syntax.tcons (Syntax.tyArray (Syntax.tyInt Syntax.w32) 6) (Syntax.tcons (Syntax.tyInt Syntax.w64) (Syntax.tcons (Syntax.tyInt Syntax.w32) (Syntax.tcons (Syntax.tyArray (Syntax.tyInt Syntax.w8) 11) (Syntax.tcons (Syntax.tyInt Syntax.w64) (Syntax.tcons (Syntax.tyInt Syntax.w64) Syntax.tnil)))))))))))) (Syntax.tcons (Syntax.tyInt Syntax.w64) Syntax.tnil))))) (List._∷_ (9, Rows'.sc-here (Row.sInt Syntax.w64)) (List._∷_ (10, Rows'.sc-here (Row.sInt Syntax.w64)) (List._∷_ (11, Rows'.any-gone (Syntax.tyRef Syntax.erased Syntax.mut (Syntax.tyArray ColumnMetadataRow.named 4096))) (List._∷_ (12, Rows'.any-gone (Syntax.tyStruct (List._∷_ 38 (List._∷_ 91 (List._∷_ 93 List.[]))) (Syntax.tcons (Syntax.tyRef Syntax.erased Syntax.mut ColumnMetadataRow.named) (Syntax.tcons (Syntax.tyInt Syntax.w64) Syntax.tnil)))) (List._∷_ (13, Rows'.any-gone (Syntax.tyRef Syntax.erased Syntax.mut (Syntax.tyInt Syntax.w8))) (List._∷_ (14, Rows'.any-gone (Syntax.tyStruct (List._∷_ 38 (List._∷_ 91 (List._∷_ 93 List.[]))) (Syntax.tcons (Syntax.tyRef Syntax.erased Syntax.mut (Syntax.tyInt Syntax.w8)) (Syntax.tcons (Syntax.tyInt Syntax.w64) Syntax.tnil)))) (List._∷_ (15, Rows'.any-gone (Syntax.tyRef Syntax.erased Syntax.mut (Syntax.tyInt Syntax.w8))) List.[])))))))))))))))
+        g28 = List._∷_ (0, Rows'.sc-here (Row.sInt Syntax.w64)) (List._∷_ (1, Relend.mslice-owed (Referent.rtF (Referent.fInt Syntax.w8)) (Syntax.tyRef (Syntax.named 0) Syntax.mut (Syntax.tyInt Syntax.w8)) 0 6 (Row.lease (κs .0) (qs .0))) (List._∷_ (2, Rows'.sc-here (Row.sInt Syntax.w64)) (List._∷_ (3, Rows'.sc-here (Row.sInt Syntax.w16)) (List._∷_ (4, Rows'.sslice (Referent.rtF (Referent.fInt Syntax.w8)) (Syntax.tyRef (Syntax.named 1) Syntax.imm (Syntax.tyInt Syntax.w8)) 1) (List._∷_ (5, Mut.mslice (Referent.rtF (Referent.fInt Syntax.w8)) (Syntax.tyRef (Syntax.named 2) Syntax.mut (Syntax.tyInt Syntax.w8)) 2) (List._∷_ (6, Rows'.any-gone (ColumnMetadataRow.ty)) (List._∷_ (7, Rows.arr-shrP (ColumnMetadataRow.RT) 4096 7) (List._∷_ (8, Rows'.any-gone (Syntax.tyStruct (List._∷_ 115 (List._∷_ 113 (List._∷_ 108 (List._∷_ 100 (List._∷_ 97 (List._∷_ 114 (List._∷_ 100 (List._∷_ 58 (List._∷_ 58 (List._∷_ 83 (List._∷_ 113 (List._∷_ 108 (List._∷_ 100 (List._∷_ 97 (List._∷_ 114 (List._∷_ 100 (List._∷_ 65 (List._∷_ 110 (List._∷_ 115 (List._∷_ 119 (List._∷_ 101 (List._∷_ 114 List.[])))))))))))))))))))))) (Syntax.tcons (Syntax.tyEnum (List._∷_ 111 (List._∷_ 117 (List._∷_ 116 (List._∷_ 99 (List._∷_ 111 (List._∷_ 109 (List._∷_ 101 (List._∷_ 58 (List._∷_ 58 (List._∷_ 79 (List._∷_ 117 (List._∷_ 116 (List._∷_ 99 (List._∷_ 111 (List._∷_ 109 (List._∷_ 101 List.[])))))))))))))))) (Syntax.ttcons Syntax.tnil (Syntax.ttcons Syntax.tnil (Syntax.ttcons (Syntax.tcons (Syntax.tyInt Syntax.w64) (Syntax.tcons (Syntax.tyInt Syntax.w64) Syntax.tnil)) (Syntax.ttcons Syntax.tnil (Syntax.ttcons (Syntax.tcons (Syntax.tyInt Syntax.w16) Syntax.tnil) (Syntax.ttcons Syntax.tnil (Syntax.ttcons (Syntax.tcons (Syntax.tyInt Syntax.w64) Syntax.tnil) (Syntax.ttcons Syntax.tnil (Syntax.ttcons (Syntax.tcons (Syntax.tyInt Syntax.w16) Syntax.tnil) Syntax.ttnil)))))))))) (Syntax.tcons (Syntax.tyStruct (List._∷_ 115 (List._∷_ 113 (List._∷_ 108 (List._∷_ 99 (List._∷_ 97 (List._∷_ 114 (List._∷_ 100 (List._∷_ 58 (List._∷_ 58 (List._∷_ 83 (List._∷_ 113 (List._∷_ 108 (List._∷_ 67 (List._∷_ 97 (List._∷_ 114 (List._∷_ 100 List.[])))))))))))))))) (Syntax.tcons Syntax.tyBool (Syntax.tcons (Syntax.tyInt Syntax.w32) (Syntax.tcons (Syntax.tyArray (Syntax.tyInt Syntax.w8) 5) (Syntax.tcons (Syntax.tyArray (Syntax.tyInt Syntax.w8) 8) (Syntax.tcons (Syntax.tyInt Syntax.w8) (Syntax.tcons (Syntax.tyArray (Syntax.tyInt Syntax.w32) 6) (Syntax.tcons (Syntax.tyInt Syntax.w64) (Syntax.tcons (Syntax.tyInt Syntax.w32) (Syntax.tcons (Syntax.tyArray (Syntax.tyInt Syntax.w8) 11) (Syntax.tcons (Syntax.tyInt Syntax.w64) (Syntax.tcons (Syntax.tyInt Syntax.w64) Syntax.tnil)))))))))))) (Syntax.tcons (Syntax.tyInt Syntax.w64) Syntax.tnil))))) (List._∷_ (9, Rows'.sc-here (Row.sInt Syntax.w64)) (List._∷_ (10, Rows'.sc-here (Row.sInt Syntax.w64)) (List._∷_ (11, Rows'.any-gone (Syntax.tyRef Syntax.erased Syntax.mut (Syntax.tyArray ColumnMetadataRow.named 4096))) (List._∷_ (12, Rows'.any-gone (Syntax.tyStruct (List._∷_ 38 (List._∷_ 91 (List._∷_ 93 List.[]))) (Syntax.tcons (Syntax.tyRef Syntax.erased Syntax.mut ColumnMetadataRow.named) (Syntax.tcons (Syntax.tyInt Syntax.w64) Syntax.tnil)))) (List._∷_ (13, Rows'.any-gone (Syntax.tyRef Syntax.erased Syntax.mut (Syntax.tyInt Syntax.w8))) (List._∷_ (14, Rows'.any-gone (Syntax.tyStruct (List._∷_ 38 (List._∷_ 91 (List._∷_ 93 List.[]))) (Syntax.tcons (Syntax.tyRef Syntax.erased Syntax.mut (Syntax.tyInt Syntax.w8)) (Syntax.tcons (Syntax.tyInt Syntax.w64) Syntax.tnil)))) (List._∷_ (15, Rows'.any-gone (Syntax.tyRef Syntax.erased Syntax.mut (Syntax.tyInt Syntax.w8))) List.[])))))))))))))))
 
         abbrev g31 : List.List Row.Entry
-        g31 = List._∷_ (0, Rows'.sc-here (Row.sInt Syntax.w64)) (List._∷_ (1, Relend.mslice-owed (Referent.rtF (Referent.fInt Syntax.w8)) (Syntax.tyRef (Syntax.named 0) Syntax.mut (Syntax.tyInt Syntax.w8)) 0 6 (Row.lease (κs .0) (qs .0))) (List._∷_ (2, Rows'.sc-here (Row.sInt Syntax.w64)) (List._∷_ (3, Rows'.sc-here (Row.sInt Syntax.w16)) (List._∷_ (4, Rows'.sslice (Referent.rtF (Referent.fInt Syntax.w8)) (Syntax.tyRef (Syntax.named 1) Syntax.imm (Syntax.tyInt Syntax.w8)) 1) (List._∷_ (5, Mut.mslice (Referent.rtF (Referent.fInt Syntax.w8)) (Syntax.tyRef (Syntax.named 2) Syntax.mut (Syntax.tyInt Syntax.w8)) 2) (List._∷_ (6, Rows'.any-gone (ColumnMetadataRow.ty)) (List._∷_ (7, Rows.arr-shrP (ColumnMetadataRow.RT) 4096 7) (List._∷_ (8, Rows'.any-gone (Syntax.tyStruct (List._∷_ 115 (List._∷_ 113 (List._∷_ 108 (List._∷_ 100 (List._∷_ 97 (List._∷_ 114 (List._∷_ 100 (List._∷_ 58 (List._∷_ 58 (List._∷_ 83 (List._∷_ 113 (List._∷_ 108 (List._∷_ 100 (List._∷_ 97 (List._∷_ 114 (List._∷_ 100 (List._∷_ 65 (List._∷_ 110 (List._∷_ 115 (List._∷_ 119 (List._∷_ 101 (List._∷_ 114 List.[])))))))))))))))))))))) (Syntax.tcons (Syntax.tyEnum (List._∷_ 111 (List._∷_ 117 (List._∷_ 116 (List._∷_ 99 (List._∷_ 111 (List._∷_ 109 (List._∷_ 101 (List._∷_ 58 (List._∷_ 58 (List._∷_ 79 (List._∷_ 117 (List._∷_ 116 (List._∷_ 99 (List._∷_ 111 (List._∷_ 109 (List._∷_ 101 List.[])))))))))))))))) (Syntax.ttcons Syntax.tnil (Syntax.ttcons Syntax.tnil (Syntax.ttcons (Syntax.tcons (Syntax.tyInt Syntax.w64) (Syntax.tcons (Syntax.tyInt Syntax.w64) Syntax.tnil)) (Syntax.ttcons Syntax.tnil (Syntax.ttcons (Syntax.tcons (Syntax.tyInt Syntax.w16) Syntax.tnil) (Syntax.ttcons Syntax.tnil (Syntax.ttcons (Syntax.tcons (Syntax.tyInt Syntax.w64) Syntax.tnil) (Syntax.ttcons Syntax.tnil Syntax.ttnil))))))))) (Syntax.tcons (Syntax.tyStruct (List._∷_ 115 (List._∷_ 113 (List._∷_ 108 (List._∷_ 99 (List._∷_ 97 (List._∷_ 114 (List._∷_ 100 (List._∷_ 58 (List._∷_ 58 (List._∷_ 83 (List._∷_ 113 (List._∷_ 108 (List._∷_ 67 (List._∷_ 97 (List._∷_ 114 (List._∷_ 100 List.[])))))))))))))))) (Syntax.tcons Syntax.tyBool (Syntax.tcons (Syntax.tyInt Syntax.w32) (Syntax.tcons (Syntax.tyArray (Syntax.tyInt Syntax.w8) 5) (Syntax.tcons (Syntax.tyArray (Syntax.tyInt Syntax.w8) 8) (Syntax.tcons (Syntax.tyInt Syntax.w8) (Syntax.tcons (Syntax.tyArray (Syntax.tyInt Syntax.w32) 6) (Syntax.tcons (Syntax.tyInt Syntax.w64) (Syntax.tcons (Syntax.tyInt Syntax.w32) (Syntax.tcons (Syntax.tyArray (Syntax.tyInt Syntax.w8) 11) (Syntax.tcons (Syntax.tyInt Syntax.w64) (Syntax.tcons (Syntax.tyInt Syntax.w64) Syntax.tnil)))))))))))) (Syntax.tcons (Syntax.tyInt Syntax.w64) Syntax.tnil))))) (List._∷_ (9, Rows'.any-gone (Syntax.tyInt Syntax.w64)) (List._∷_ (10, Rows'.sc-here (Row.sInt Syntax.w64)) (List._∷_ (11, Rows'.any-gone (Syntax.tyRef Syntax.erased Syntax.mut (Syntax.tyArray ColumnMetadataRow.named 4096))) (List._∷_ (12, Rows'.any-gone (Syntax.tyStruct (List._∷_ 38 (List._∷_ 91 (List._∷_ 93 List.[]))) (Syntax.tcons (Syntax.tyRef Syntax.erased Syntax.mut ColumnMetadataRow.named) (Syntax.tcons (Syntax.tyInt Syntax.w64) Syntax.tnil)))) (List._∷_ (13, Rows'.any-gone (Syntax.tyRef Syntax.erased Syntax.mut (Syntax.tyInt Syntax.w8))) (List._∷_ (14, Rows'.any-gone (Syntax.tyStruct (List._∷_ 38 (List._∷_ 91 (List._∷_ 93 List.[]))) (Syntax.tcons (Syntax.tyRef Syntax.erased Syntax.mut (Syntax.tyInt Syntax.w8)) (Syntax.tcons (Syntax.tyInt Syntax.w64) Syntax.tnil)))) (List._∷_ (15, Rows'.any-gone (Syntax.tyRef Syntax.erased Syntax.mut (Syntax.tyInt Syntax.w8))) List.[])))))))))))))))
+        g31 = List._∷_ (0, Rows'.sc-here (Row.sInt Syntax.w64)) (List._∷_ (1, Relend.mslice-owed (Referent.rtF (Referent.fInt Syntax.w8)) (Syntax.tyRef (Syntax.named 0) Syntax.mut (Syntax.tyInt Syntax.w8)) 0 6 (Row.lease (κs .0) (qs .0))) (List._∷_ (2, Rows'.sc-here (Row.sInt Syntax.w64)) (List._∷_ (3, Rows'.sc-here (Row.sInt Syntax.w16)) (List._∷_ (4, Rows'.sslice (Referent.rtF (Referent.fInt Syntax.w8)) (Syntax.tyRef (Syntax.named 1) Syntax.imm (Syntax.tyInt Syntax.w8)) 1) (List._∷_ (5, Mut.mslice (Referent.rtF (Referent.fInt Syntax.w8)) (Syntax.tyRef (Syntax.named 2) Syntax.mut (Syntax.tyInt Syntax.w8)) 2) (List._∷_ (6, Rows'.any-gone (ColumnMetadataRow.ty)) (List._∷_ (7, Rows.arr-shrP (ColumnMetadataRow.RT) 4096 7) (List._∷_ (8, Rows'.any-gone (Syntax.tyStruct (List._∷_ 115 (List._∷_ 113 (List._∷_ 108 (List._∷_ 100 (List._∷_ 97 (List._∷_ 114 (List._∷_ 100 (List._∷_ 58 (List._∷_ 58 (List._∷_ 83 (List._∷_ 113 (List._∷_ 108 (List._∷_ 100 (List._∷_ 97 (List._∷_ 114 (List._∷_ 100 (List._∷_ 65 (List._∷_ 110 (List._∷_ 115 (List._∷_ 119 (List._∷_ 101 (List._∷_ 114 List.[])))))))))))))))))))))) (Syntax.tcons (Syntax.tyEnum (List._∷_ 111 (List._∷_ 117 (List._∷_ 116 (List._∷_ 99 (List._∷_ 111 (List._∷_ 109 (List._∷_ 101 (List._∷_ 58 (List._∷_ 58 (List._∷_ 79 (List._∷_ 117 (List._∷_ 116 (List._∷_ 99 (List._∷_ 111 (List._∷_ 109 (List._∷_ 101 List.[])))))))))))))))) (Syntax.ttcons Syntax.tnil (Syntax.ttcons Syntax.tnil (Syntax.ttcons (Syntax.tcons (Syntax.tyInt Syntax.w64) (Syntax.tcons (Syntax.tyInt Syntax.w64) Syntax.tnil)) (Syntax.ttcons Syntax.tnil (Syntax.ttcons (Syntax.tcons (Syntax.tyInt Syntax.w16) Syntax.tnil) (Syntax.ttcons Syntax.tnil (Syntax.ttcons (Syntax.tcons (Syntax.tyInt Syntax.w64) Syntax.tnil) (Syntax.ttcons Syntax.tnil (Syntax.ttcons (Syntax.tcons (Syntax.tyInt Syntax.w16) Syntax.tnil) Syntax.ttnil)))))))))) (Syntax.tcons (Syntax.tyStruct (List._∷_ 115 (List._∷_ 113 (List._∷_ 108 (List._∷_ 99 (List._∷_ 97 (List._∷_ 114 (List._∷_ 100 (List._∷_ 58 (List._∷_ 58 (List._∷_ 83 (List._∷_ 113 (List._∷_ 108 (List._∷_ 67 (List._∷_ 97 (List._∷_ 114 (List._∷_ 100 List.[])))))))))))))))) (Syntax.tcons Syntax.tyBool (Syntax.tcons (Syntax.tyInt Syntax.w32) (Syntax.tcons (Syntax.tyArray (Syntax.tyInt Syntax.w8) 5) (Syntax.tcons (Syntax.tyArray (Syntax.tyInt Syntax.w8) 8) (Syntax.tcons (Syntax.tyInt Syntax.w8) (Syntax.tcons (Syntax.tyArray (Syntax.tyInt Syntax.w32) 6) (Syntax.tcons (Syntax.tyInt Syntax.w64) (Syntax.tcons (Syntax.tyInt Syntax.w32) (Syntax.tcons (Syntax.tyArray (Syntax.tyInt Syntax.w8) 11) (Syntax.tcons (Syntax.tyInt Syntax.w64) (Syntax.tcons (Syntax.tyInt Syntax.w64) Syntax.tnil)))))))))))) (Syntax.tcons (Syntax.tyInt Syntax.w64) Syntax.tnil))))) (List._∷_ (9, Rows'.any-gone (Syntax.tyInt Syntax.w64)) (List._∷_ (10, Rows'.sc-here (Row.sInt Syntax.w64)) (List._∷_ (11, Rows'.any-gone (Syntax.tyRef Syntax.erased Syntax.mut (Syntax.tyArray ColumnMetadataRow.named 4096))) (List._∷_ (12, Rows'.any-gone (Syntax.tyStruct (List._∷_ 38 (List._∷_ 91 (List._∷_ 93 List.[]))) (Syntax.tcons (Syntax.tyRef Syntax.erased Syntax.mut ColumnMetadataRow.named) (Syntax.tcons (Syntax.tyInt Syntax.w64) Syntax.tnil)))) (List._∷_ (13, Rows'.any-gone (Syntax.tyRef Syntax.erased Syntax.mut (Syntax.tyInt Syntax.w8))) (List._∷_ (14, Rows'.any-gone (Syntax.tyStruct (List._∷_ 38 (List._∷_ 91 (List._∷_ 93 List.[]))) (Syntax.tcons (Syntax.tyRef Syntax.erased Syntax.mut (Syntax.tyInt Syntax.w8)) (Syntax.tcons (Syntax.tyInt Syntax.w64) Syntax.tnil)))) (List._∷_ (15, Rows'.any-gone (Syntax.tyRef Syntax.erased Syntax.mut (Syntax.tyInt Syntax.w8))) List.[])))))))))))))))
 
         abbrev g32 : List.List Row.Entry
-        g32 = List._∷_ (0, Rows'.sc-here (Row.sInt Syntax.w64)) (List._∷_ (1, Relend.mslice-owed (Referent.rtF (Referent.fInt Syntax.w8)) (Syntax.tyRef (Syntax.named 0) Syntax.mut (Syntax.tyInt Syntax.w8)) 0 6 (Row.lease (κs .0) (qs .0))) (List._∷_ (2, Rows'.sc-here (Row.sInt Syntax.w64)) (List._∷_ (3, Rows'.sc-here (Row.sInt Syntax.w16)) (List._∷_ (4, Rows'.sslice (Referent.rtF (Referent.fInt Syntax.w8)) (Syntax.tyRef (Syntax.named 1) Syntax.imm (Syntax.tyInt Syntax.w8)) 1) (List._∷_ (5, Mut.mslice (Referent.rtF (Referent.fInt Syntax.w8)) (Syntax.tyRef (Syntax.named 2) Syntax.mut (Syntax.tyInt Syntax.w8)) 2) (List._∷_ (6, Rows'.any-gone (ColumnMetadataRow.ty)) (List._∷_ (7, Rows.arr-shrP (ColumnMetadataRow.RT) 4096 7) (List._∷_ (8, Rows'.any-gone (Syntax.tyStruct (List._∷_ 115 (List._∷_ 113 (List._∷_ 108 (List._∷_ 100 (List._∷_ 97 (List._∷_ 114 (List._∷_ 100 (List._∷_ 58 (List._∷_ 58 (List._∷_ 83 (List._∷_ 113 (List._∷_ 108 (List._∷_ 100 (List._∷_ 97 (List._∷_ 114 (List._∷_ 100 (List._∷_ 65 (List._∷_ 110 (List._∷_ 115 (List._∷_ 119 (List._∷_ 101 (List._∷_ 114 List.[])))))))))))))))))))))) (Syntax.tcons (Syntax.tyEnum (List._∷_ 111 (List._∷_ 117 (List._∷_ 116 (List._∷_ 99 (List._∷_ 111 (List._∷_ 109 (List._∷_ 101 (List._∷_ 58 (List._∷_ 58 (List._∷_ 79 (List._∷_ 117 (List._∷_ 116 (List._∷_ 99 (List._∷_ 111 (List._∷_ 109 (List._∷_ 101 List.[])))))))))))))))) (Syntax.ttcons Syntax.tnil (Syntax.ttcons Syntax.tnil (Syntax.ttcons (Syntax.tcons (Syntax.tyInt Syntax.w64) (Syntax.tcons (Syntax.tyInt Syntax.w64) Syntax.tnil)) (Syntax.ttcons Syntax.tnil (Syntax.ttcons (Syntax.tcons (Syntax.tyInt Syntax.w16) Syntax.tnil) (Syntax.ttcons Syntax.tnil (Syntax.ttcons (Syntax.tcons (Syntax.tyInt Syntax.w64) Syntax.tnil) (Syntax.ttcons Syntax.tnil Syntax.ttnil))))))))) (Syntax.tcons (Syntax.tyStruct (List._∷_ 115 (List._∷_ 113 (List._∷_ 108 (List._∷_ 99 (List._∷_ 97 (List._∷_ 114 (List._∷_ 100 (List._∷_ 58 (List._∷_ 58 (List._∷_ 83 (List._∷_ 113 (List._∷_ 108 (List._∷_ 67 (List._∷_ 97 (List._∷_ 114 (List._∷_ 100 List.[])))))))))))))))) (Syntax.tcons Syntax.tyBool (Syntax.tcons (Syntax.tyInt Syntax.w32) (Syntax.tcons (Syntax.tyArray (Syntax.tyInt Syntax.w8) 5) (Syntax.tcons (Syntax.tyArray (Syntax.tyInt Syntax.w8) 8) (Syntax.tcons (Syntax.tyInt Syntax.w8) (Syntax.tcons (Syntax.tyArray (Syntax.tyInt Syntax.w32) 6) (Syntax.tcons (Syntax.tyInt Syntax.w64) (Syntax.tcons (Syntax.tyInt Syntax.w32) (Syntax.tcons (Syntax.tyArray (Syntax.tyInt Syntax.w8) 11) (Syntax.tcons (Syntax.tyInt Syntax.w64) (Syntax.tcons (Syntax.tyInt Syntax.w64) Syntax.tnil)))))))))))) (Syntax.tcons (Syntax.tyInt Syntax.w64) Syntax.tnil))))) (List._∷_ (9, Rows'.any-gone (Syntax.tyInt Syntax.w64)) (List._∷_ (10, Rows'.any-gone (Syntax.tyInt Syntax.w64)) (List._∷_ (11, Rows'.any-gone (Syntax.tyRef Syntax.erased Syntax.mut (Syntax.tyArray ColumnMetadataRow.named 4096))) (List._∷_ (12, Rows'.any-gone (Syntax.tyStruct (List._∷_ 38 (List._∷_ 91 (List._∷_ 93 List.[]))) (Syntax.tcons (Syntax.tyRef Syntax.erased Syntax.mut ColumnMetadataRow.named) (Syntax.tcons (Syntax.tyInt Syntax.w64) Syntax.tnil)))) (List._∷_ (13, Rows'.any-gone (Syntax.tyRef Syntax.erased Syntax.mut (Syntax.tyInt Syntax.w8))) (List._∷_ (14, Rows'.any-gone (Syntax.tyStruct (List._∷_ 38 (List._∷_ 91 (List._∷_ 93 List.[]))) (Syntax.tcons (Syntax.tyRef Syntax.erased Syntax.mut (Syntax.tyInt Syntax.w8)) (Syntax.tcons (Syntax.tyInt Syntax.w64) Syntax.tnil)))) (List._∷_ (15, Rows'.any-gone (Syntax.tyRef Syntax.erased Syntax.mut (Syntax.tyInt Syntax.w8))) List.[])))))))))))))))
+        g32 = List._∷_ (0, Rows'.sc-here (Row.sInt Syntax.w64)) (List._∷_ (1, Relend.mslice-owed (Referent.rtF (Referent.fInt Syntax.w8)) (Syntax.tyRef (Syntax.named 0) Syntax.mut (Syntax.tyInt Syntax.w8)) 0 6 (Row.lease (κs .0) (qs .0))) (List._∷_ (2, Rows'.sc-here (Row.sInt Syntax.w64)) (List._∷_ (3, Rows'.sc-here (Row.sInt Syntax.w16)) (List._∷_ (4, Rows'.sslice (Referent.rtF (Referent.fInt Syntax.w8)) (Syntax.tyRef (Syntax.named 1) Syntax.imm (Syntax.tyInt Syntax.w8)) 1) (List._∷_ (5, Mut.mslice (Referent.rtF (Referent.fInt Syntax.w8)) (Syntax.tyRef (Syntax.named 2) Syntax.mut (Syntax.tyInt Syntax.w8)) 2) (List._∷_ (6, Rows'.any-gone (ColumnMetadataRow.ty)) (List._∷_ (7, Rows.arr-shrP (ColumnMetadataRow.RT) 4096 7) (List._∷_ (8, Rows'.any-gone (Syntax.tyStruct (List._∷_ 115 (List._∷_ 113 (List._∷_ 108 (List._∷_ 100 (List._∷_ 97 (List._∷_ 114 (List._∷_ 100 (List._∷_ 58 (List._∷_ 58 (List._∷_ 83 (List._∷_ 113 (List._∷_ 108 (List._∷_ 100 (List._∷_ 97 (List._∷_ 114 (List._∷_ 100 (List._∷_ 65 (List._∷_ 110 (List._∷_ 115 (List._∷_ 119 (List._∷_ 101 (List._∷_ 114 List.[])))))))))))))))))))))) (Syntax.tcons (Syntax.tyEnum (List._∷_ 111 (List._∷_ 117 (List._∷_ 116 (List._∷_ 99 (List._∷_ 111 (List._∷_ 109 (List._∷_ 101 (List._∷_ 58 (List._∷_ 58 (List._∷_ 79 (List._∷_ 117 (List._∷_ 116 (List._∷_ 99 (List._∷_ 111 (List._∷_ 109 (List._∷_ 101 List.[])))))))))))))))) (Syntax.ttcons Syntax.tnil (Syntax.ttcons Syntax.tnil (Syntax.ttcons (Syntax.tcons (Syntax.tyInt Syntax.w64) (Syntax.tcons (Syntax.tyInt Syntax.w64) Syntax.tnil)) (Syntax.ttcons Syntax.tnil (Syntax.ttcons (Syntax.tcons (Syntax.tyInt Syntax.w16) Syntax.tnil) (Syntax.ttcons Syntax.tnil (Syntax.ttcons (Syntax.tcons (Syntax.tyInt Syntax.w64) Syntax.tnil) (Syntax.ttcons Syntax.tnil (Syntax.ttcons (Syntax.tcons (Syntax.tyInt Syntax.w16) Syntax.tnil) Syntax.ttnil)))))))))) (Syntax.tcons (Syntax.tyStruct (List._∷_ 115 (List._∷_ 113 (List._∷_ 108 (List._∷_ 99 (List._∷_ 97 (List._∷_ 114 (List._∷_ 100 (List._∷_ 58 (List._∷_ 58 (List._∷_ 83 (List._∷_ 113 (List._∷_ 108 (List._∷_ 67 (List._∷_ 97 (List._∷_ 114 (List._∷_ 100 List.[])))))))))))))))) (Syntax.tcons Syntax.tyBool (Syntax.tcons (Syntax.tyInt Syntax.w32) (Syntax.tcons (Syntax.tyArray (Syntax.tyInt Syntax.w8) 5) (Syntax.tcons (Syntax.tyArray (Syntax.tyInt Syntax.w8) 8) (Syntax.tcons (Syntax.tyInt Syntax.w8) (Syntax.tcons (Syntax.tyArray (Syntax.tyInt Syntax.w32) 6) (Syntax.tcons (Syntax.tyInt Syntax.w64) (Syntax.tcons (Syntax.tyInt Syntax.w32) (Syntax.tcons (Syntax.tyArray (Syntax.tyInt Syntax.w8) 11) (Syntax.tcons (Syntax.tyInt Syntax.w64) (Syntax.tcons (Syntax.tyInt Syntax.w64) Syntax.tnil)))))))))))) (Syntax.tcons (Syntax.tyInt Syntax.w64) Syntax.tnil))))) (List._∷_ (9, Rows'.any-gone (Syntax.tyInt Syntax.w64)) (List._∷_ (10, Rows'.any-gone (Syntax.tyInt Syntax.w64)) (List._∷_ (11, Rows'.any-gone (Syntax.tyRef Syntax.erased Syntax.mut (Syntax.tyArray ColumnMetadataRow.named 4096))) (List._∷_ (12, Rows'.any-gone (Syntax.tyStruct (List._∷_ 38 (List._∷_ 91 (List._∷_ 93 List.[]))) (Syntax.tcons (Syntax.tyRef Syntax.erased Syntax.mut ColumnMetadataRow.named) (Syntax.tcons (Syntax.tyInt Syntax.w64) Syntax.tnil)))) (List._∷_ (13, Rows'.any-gone (Syntax.tyRef Syntax.erased Syntax.mut (Syntax.tyInt Syntax.w8))) (List._∷_ (14, Rows'.any-gone (Syntax.tyStruct (List._∷_ 38 (List._∷_ 91 (List._∷_ 93 List.[]))) (Syntax.tcons (Syntax.tyRef Syntax.erased Syntax.mut (Syntax.tyInt Syntax.w8)) (Syntax.tcons (Syntax.tyInt Syntax.w64) Syntax.tnil)))) (List._∷_ (15, Rows'.any-gone (Syntax.tyRef Syntax.erased Syntax.mut (Syntax.tyInt Syntax.w8))) List.[])))))))))))))))
 
         abbrev G0 : Row.Cx
         G0 = record { locals = List._++_ t0 t1; slots = List._∷_ (Row.lease (κs .0) (qs .0)) (List._∷_ (Row.lease (κs .1 .0) (qs .1 .0)) (List._∷_ (Row.lease (κs .1 .1 .0) (qs .1 .1 .0)) (List._∷_ Row.off (List._∷_ Row.off (List._∷_ Row.off (List._∷_ Row.off (List._∷_ Row.off List.[]))))))) }
@@ -1001,7 +1001,7 @@ module _ (claims· : Claims) where
           d28 = Typed.g-pre 𝓤 H A W 𝓣 E G24 G25 b21 Δ0 (λ Ψ. Ψ) (at27 bs) (Lifetime.g-end 𝓤 H A W E G24 4 Path'.refl) d27
 
           d29 : Typed.Typed 𝓤 H A 𝓣 E G23 b21 Δ0 (at29 bs)
-          d29 = Typed.g-pre 𝓤 H A W 𝓣 E G23 G24 b21 Δ0 (Typed.pass T23 T24 (s22 bs)) (at28 bs) (Scalar.g-room 𝓤 H A W E G23 8 (Syntax.tyStruct (List._∷_ 115 (List._∷_ 113 (List._∷_ 108 (List._∷_ 100 (List._∷_ 97 (List._∷_ 114 (List._∷_ 100 (List._∷_ 58 (List._∷_ 58 (List._∷_ 83 (List._∷_ 113 (List._∷_ 108 (List._∷_ 100 (List._∷_ 97 (List._∷_ 114 (List._∷_ 100 (List._∷_ 65 (List._∷_ 110 (List._∷_ 115 (List._∷_ 119 (List._∷_ 101 (List._∷_ 114 List.[])))))))))))))))))))))) (Syntax.tcons (Syntax.tyEnum (List._∷_ 111 (List._∷_ 117 (List._∷_ 116 (List._∷_ 99 (List._∷_ 111 (List._∷_ 109 (List._∷_ 101 (List._∷_ 58 (List._∷_ 58 (List._∷_ 79 (List._∷_ 117 (List._∷_ 116 (List._∷_ 99 (List._∷_ 111 (List._∷_ 109 (List._∷_ 101 List.[])))))))))))))))) (Syntax.ttcons Syntax.tnil (Syntax.ttcons Syntax.tnil (Syntax.ttcons (Syntax.tcons (Syntax.tyInt Syntax.w64) (Syntax.tcons (Syntax.tyInt Syntax.w64) Syntax.tnil)) (Syntax.ttcons Syntax.tnil (Syntax.ttcons (Syntax.tcons (Syntax.tyInt Syntax.w16) Syntax.tnil) (Syntax.ttcons Syntax.tnil (Syntax.ttcons (Syntax.tcons (Syntax.tyInt Syntax.w64) Syntax.tnil) (Syntax.ttcons Syntax.tnil Syntax.ttnil))))))))) (Syntax.tcons (Syntax.tyStruct (List._∷_ 115 (List._∷_ 113 (List._∷_ 108 (List._∷_ 99 (List._∷_ 97 (List._∷_ 114 (List._∷_ 100 (List._∷_ 58 (List._∷_ 58 (List._∷_ 83 (List._∷_ 113 (List._∷_ 108 (List._∷_ 67 (List._∷_ 97 (List._∷_ 114 (List._∷_ 100 List.[])))))))))))))))) (Syntax.tcons Syntax.tyBool (Syntax.tcons (Syntax.tyInt Syntax.w32) (Syntax.tcons (Syntax.tyArray (Syntax.tyInt Syntax.w8) 5) (Syntax.tcons (Syntax.tyArray (Syntax.tyInt Syntax.w8) 8) (Syntax.tcons (Syntax.tyInt Syntax.w8) (Syntax.tcons (Syntax.tyArray (Syntax.tyInt Syntax.w32) 6) (Syntax.tcons (Syntax.tyInt Syntax.w64) (Syntax.tcons (Syntax.tyInt Syntax.w32) (Syntax.tcons (Syntax.tyArray (Syntax.tyInt Syntax.w8) 11) (Syntax.tcons (Syntax.tyInt Syntax.w64) (Syntax.tcons (Syntax.tyInt Syntax.w64) Syntax.tnil)))))))))))) (Syntax.tcons (Syntax.tyInt Syntax.w64) Syntax.tnil)))) (Local.room-whole 𝓤 H A W (Declared.row SqldardAnswer.the-type) (Syntax.tyStruct (List._∷_ 115 (List._∷_ 113 (List._∷_ 108 (List._∷_ 100 (List._∷_ 97 (List._∷_ 114 (List._∷_ 100 (List._∷_ 58 (List._∷_ 58 (List._∷_ 83 (List._∷_ 113 (List._∷_ 108 (List._∷_ 100 (List._∷_ 97 (List._∷_ 114 (List._∷_ 100 (List._∷_ 65 (List._∷_ 110 (List._∷_ 115 (List._∷_ 119 (List._∷_ 101 (List._∷_ 114 List.[])))))))))))))))))))))) (Syntax.tcons (Syntax.tyEnum (List._∷_ 111 (List._∷_ 117 (List._∷_ 116 (List._∷_ 99 (List._∷_ 111 (List._∷_ 109 (List._∷_ 101 (List._∷_ 58 (List._∷_ 58 (List._∷_ 79 (List._∷_ 117 (List._∷_ 116 (List._∷_ 99 (List._∷_ 111 (List._∷_ 109 (List._∷_ 101 List.[])))))))))))))))) (Syntax.ttcons Syntax.tnil (Syntax.ttcons Syntax.tnil (Syntax.ttcons (Syntax.tcons (Syntax.tyInt Syntax.w64) (Syntax.tcons (Syntax.tyInt Syntax.w64) Syntax.tnil)) (Syntax.ttcons Syntax.tnil (Syntax.ttcons (Syntax.tcons (Syntax.tyInt Syntax.w16) Syntax.tnil) (Syntax.ttcons Syntax.tnil (Syntax.ttcons (Syntax.tcons (Syntax.tyInt Syntax.w64) Syntax.tnil) (Syntax.ttcons Syntax.tnil Syntax.ttnil))))))))) (Syntax.tcons (Syntax.tyStruct (List._∷_ 115 (List._∷_ 113 (List._∷_ 108 (List._∷_ 99 (List._∷_ 97 (List._∷_ 114 (List._∷_ 100 (List._∷_ 58 (List._∷_ 58 (List._∷_ 83 (List._∷_ 113 (List._∷_ 108 (List._∷_ 67 (List._∷_ 97 (List._∷_ 114 (List._∷_ 100 List.[])))))))))))))))) (Syntax.tcons Syntax.tyBool (Syntax.tcons (Syntax.tyInt Syntax.w32) (Syntax.tcons (Syntax.tyArray (Syntax.tyInt Syntax.w8) 5) (Syntax.tcons (Syntax.tyArray (Syntax.tyInt Syntax.w8) 8) (Syntax.tcons (Syntax.tyInt Syntax.w8) (Syntax.tcons (Syntax.tyArray (Syntax.tyInt Syntax.w32) 6) (Syntax.tcons (Syntax.tyInt Syntax.w64) (Syntax.tcons (Syntax.tyInt Syntax.w32) (Syntax.tcons (Syntax.tyArray (Syntax.tyInt Syntax.w8) 11) (Syntax.tcons (Syntax.tyInt Syntax.w64) (Syntax.tcons (Syntax.tyInt Syntax.w64) Syntax.tnil)))))))))))) (Syntax.tcons (Syntax.tyInt Syntax.w64) Syntax.tnil)))) Path'.refl)) d28
+          d29 = Typed.g-pre 𝓤 H A W 𝓣 E G23 G24 b21 Δ0 (Typed.pass T23 T24 (s22 bs)) (at28 bs) (Scalar.g-room 𝓤 H A W E G23 8 (Syntax.tyStruct (List._∷_ 115 (List._∷_ 113 (List._∷_ 108 (List._∷_ 100 (List._∷_ 97 (List._∷_ 114 (List._∷_ 100 (List._∷_ 58 (List._∷_ 58 (List._∷_ 83 (List._∷_ 113 (List._∷_ 108 (List._∷_ 100 (List._∷_ 97 (List._∷_ 114 (List._∷_ 100 (List._∷_ 65 (List._∷_ 110 (List._∷_ 115 (List._∷_ 119 (List._∷_ 101 (List._∷_ 114 List.[])))))))))))))))))))))) (Syntax.tcons (Syntax.tyEnum (List._∷_ 111 (List._∷_ 117 (List._∷_ 116 (List._∷_ 99 (List._∷_ 111 (List._∷_ 109 (List._∷_ 101 (List._∷_ 58 (List._∷_ 58 (List._∷_ 79 (List._∷_ 117 (List._∷_ 116 (List._∷_ 99 (List._∷_ 111 (List._∷_ 109 (List._∷_ 101 List.[])))))))))))))))) (Syntax.ttcons Syntax.tnil (Syntax.ttcons Syntax.tnil (Syntax.ttcons (Syntax.tcons (Syntax.tyInt Syntax.w64) (Syntax.tcons (Syntax.tyInt Syntax.w64) Syntax.tnil)) (Syntax.ttcons Syntax.tnil (Syntax.ttcons (Syntax.tcons (Syntax.tyInt Syntax.w16) Syntax.tnil) (Syntax.ttcons Syntax.tnil (Syntax.ttcons (Syntax.tcons (Syntax.tyInt Syntax.w64) Syntax.tnil) (Syntax.ttcons Syntax.tnil (Syntax.ttcons (Syntax.tcons (Syntax.tyInt Syntax.w16) Syntax.tnil) Syntax.ttnil)))))))))) (Syntax.tcons (Syntax.tyStruct (List._∷_ 115 (List._∷_ 113 (List._∷_ 108 (List._∷_ 99 (List._∷_ 97 (List._∷_ 114 (List._∷_ 100 (List._∷_ 58 (List._∷_ 58 (List._∷_ 83 (List._∷_ 113 (List._∷_ 108 (List._∷_ 67 (List._∷_ 97 (List._∷_ 114 (List._∷_ 100 List.[])))))))))))))))) (Syntax.tcons Syntax.tyBool (Syntax.tcons (Syntax.tyInt Syntax.w32) (Syntax.tcons (Syntax.tyArray (Syntax.tyInt Syntax.w8) 5) (Syntax.tcons (Syntax.tyArray (Syntax.tyInt Syntax.w8) 8) (Syntax.tcons (Syntax.tyInt Syntax.w8) (Syntax.tcons (Syntax.tyArray (Syntax.tyInt Syntax.w32) 6) (Syntax.tcons (Syntax.tyInt Syntax.w64) (Syntax.tcons (Syntax.tyInt Syntax.w32) (Syntax.tcons (Syntax.tyArray (Syntax.tyInt Syntax.w8) 11) (Syntax.tcons (Syntax.tyInt Syntax.w64) (Syntax.tcons (Syntax.tyInt Syntax.w64) Syntax.tnil)))))))))))) (Syntax.tcons (Syntax.tyInt Syntax.w64) Syntax.tnil)))) (Local.room-whole 𝓤 H A W (Declared.row SqldardAnswer.the-type) (Syntax.tyStruct (List._∷_ 115 (List._∷_ 113 (List._∷_ 108 (List._∷_ 100 (List._∷_ 97 (List._∷_ 114 (List._∷_ 100 (List._∷_ 58 (List._∷_ 58 (List._∷_ 83 (List._∷_ 113 (List._∷_ 108 (List._∷_ 100 (List._∷_ 97 (List._∷_ 114 (List._∷_ 100 (List._∷_ 65 (List._∷_ 110 (List._∷_ 115 (List._∷_ 119 (List._∷_ 101 (List._∷_ 114 List.[])))))))))))))))))))))) (Syntax.tcons (Syntax.tyEnum (List._∷_ 111 (List._∷_ 117 (List._∷_ 116 (List._∷_ 99 (List._∷_ 111 (List._∷_ 109 (List._∷_ 101 (List._∷_ 58 (List._∷_ 58 (List._∷_ 79 (List._∷_ 117 (List._∷_ 116 (List._∷_ 99 (List._∷_ 111 (List._∷_ 109 (List._∷_ 101 List.[])))))))))))))))) (Syntax.ttcons Syntax.tnil (Syntax.ttcons Syntax.tnil (Syntax.ttcons (Syntax.tcons (Syntax.tyInt Syntax.w64) (Syntax.tcons (Syntax.tyInt Syntax.w64) Syntax.tnil)) (Syntax.ttcons Syntax.tnil (Syntax.ttcons (Syntax.tcons (Syntax.tyInt Syntax.w16) Syntax.tnil) (Syntax.ttcons Syntax.tnil (Syntax.ttcons (Syntax.tcons (Syntax.tyInt Syntax.w64) Syntax.tnil) (Syntax.ttcons Syntax.tnil (Syntax.ttcons (Syntax.tcons (Syntax.tyInt Syntax.w16) Syntax.tnil) Syntax.ttnil)))))))))) (Syntax.tcons (Syntax.tyStruct (List._∷_ 115 (List._∷_ 113 (List._∷_ 108 (List._∷_ 99 (List._∷_ 97 (List._∷_ 114 (List._∷_ 100 (List._∷_ 58 (List._∷_ 58 (List._∷_ 83 (List._∷_ 113 (List._∷_ 108 (List._∷_ 67 (List._∷_ 97 (List._∷_ 114 (List._∷_ 100 List.[])))))))))))))))) (Syntax.tcons Syntax.tyBool (Syntax.tcons (Syntax.tyInt Syntax.w32) (Syntax.tcons (Syntax.tyArray (Syntax.tyInt Syntax.w8) 5) (Syntax.tcons (Syntax.tyArray (Syntax.tyInt Syntax.w8) 8) (Syntax.tcons (Syntax.tyInt Syntax.w8) (Syntax.tcons (Syntax.tyArray (Syntax.tyInt Syntax.w32) 6) (Syntax.tcons (Syntax.tyInt Syntax.w64) (Syntax.tcons (Syntax.tyInt Syntax.w32) (Syntax.tcons (Syntax.tyArray (Syntax.tyInt Syntax.w8) 11) (Syntax.tcons (Syntax.tyInt Syntax.w64) (Syntax.tcons (Syntax.tyInt Syntax.w64) Syntax.tnil)))))))))))) (Syntax.tcons (Syntax.tyInt Syntax.w64) Syntax.tnil)))) Path'.refl)) d28
 
           d30 : Typed.Typed 𝓤 H A 𝓣 E G22 b22 Δ0 (at30 bs)
           d30 = Typed.s-seq 𝓤 H A W 𝓣 E G22 G23 b10 b21 Δ0 (Typed.both (s21 bs)) (at29 bs) (Plain.t-call-plain 𝓤 H A W 𝓣 3 ps·2 r·2 (claims· .4) (claims· .5) "description_output::put_head" (known .2) E (λ pos β. β) G22 (record { pos = 14; ty = Syntax.tyRef Syntax.erased Syntax.mut (Syntax.tyInt Syntax.w8); ref = λ x. x }, (Num.vAt 2 λ x. x, (record { pos = 4; ty = Syntax.tyRef (Syntax.named 1) Syntax.imm (Syntax.tyInt Syntax.w8); ref = λ x. x }, (record { pos = 8; st = List.[]; d = 0; at = λ x. x }, (record { pos = 16; ty = Syntax.tyRef Syntax.erased Syntax.mut (Syntax.tyInt Syntax.w8); ref = λ x. x }, tt))))) 10 (List._∷_ 4 (List._∷_ 1 (List._∷_ 5 List.[]))) (Call.sub-id 𝓤 H A W (G22 .slots)) (Reads'.as-is 𝓤 H A (Mut.mslice (Referent.rtF (Referent.fInt Syntax.w8)) (Syntax.tyRef Syntax.erased Syntax.mut (Syntax.tyInt Syntax.w8)) 4), Mut.reads-mslice 𝓤 H A W (Referent.rtF (Referent.fInt Syntax.w8)) (Syntax.tyRef Syntax.erased Syntax.mut (Syntax.tyInt Syntax.w8)) 4, Path'.refl, ((Scalar.reads-sc 𝓤 H A W (Row.sInt Syntax.w64), Path'.refl), (ShrSlice.spares-sslice 𝓤 H A W (Referent.rtF (Referent.fInt Syntax.w8)) (Syntax.tyRef (Syntax.named 1) Syntax.imm (Syntax.tyInt Syntax.w8)) 1, Shared.reads-sslice 𝓤 H A W (Referent.rtF (Referent.fInt Syntax.w8)) (Syntax.tyRef (Syntax.named 1) Syntax.imm (Syntax.tyInt Syntax.w8)) 1, Path'.refl, ((Yields.yields-copy 𝓤 H A W (λ ρ. Unit) (Declared.row SqldardAnswer.the-type) Path'.refl (Copies.cStruct SqldardAnswer.the-type Laws.the-laws Laws.the-copy .copy 𝓤 H A W) (Rows'.whole (Declared.row SqldardAnswer.the-type)) (λ x. x) (λ x. x) (λ ρ told. Local.mem-whole 𝓤 H A W (Declared.row SqldardAnswer.the-type) ρ) λ ρ told. Local.whole-mem 𝓤 H A W (Declared.row SqldardAnswer.the-type) ρ, Path'.refl), (Reads'.as-is 𝓤 H A (Mut.mslice (Referent.rtF (Referent.fInt Syntax.w8)) (Syntax.tyRef Syntax.erased Syntax.mut (Syntax.tyInt Syntax.w8)) 5), Mut.reads-mslice 𝓤 H A W (Referent.rtF (Referent.fInt Syntax.w8)) (Syntax.tyRef Syntax.erased Syntax.mut (Syntax.tyInt Syntax.w8)) 5, Path'.refl, tt))))) (Reads'.room-gone 𝓤 H A (Syntax.tyInt Syntax.w64)) (tt, (tt, (tt, tt))) Path'.refl) d29
@@ -1037,7 +1037,7 @@ module _ (claims· : Claims) where
           d40 = Typed.g-pre 𝓤 H A W 𝓣 E G12 G13 b27 Δ0 (λ Ψ. Ψ) (at39 bs) (Lifetime.g-end 𝓤 H A W E G12 3 Path'.refl) d39
 
           d41 : Typed.Typed 𝓤 H A 𝓣 E G11 b28 Δ0 (at41 bs)
-          d41 = Typed.s-seq 𝓤 H A W 𝓣 E G11 G12 b4 b27 Δ0 (Typed.both (s10 bs)) (at40 bs) (Plain.t-call-plain 𝓤 H A W 𝓣 2 ps·1 r·1 (claims· .2) (claims· .3) "sqldard::parse_sqldard" (known .1) E (λ pos β. β) G11 (Num.vAt 3 λ x. x, (record { pos = 4; ty = Syntax.tyRef (Syntax.named 1) Syntax.imm (Syntax.tyInt Syntax.w8); ref = λ x. x }, (record { pos = 12; ty = Syntax.tyRef Syntax.erased Syntax.mut ColumnMetadataRow.named; ref = λ x. x }, tt))) 8 (List._∷_ 1 (List._∷_ 3 List.[])) (Call.sub-id 𝓤 H A W (G11 .slots)) ((Scalar.reads-sc 𝓤 H A W (Row.sInt Syntax.w16), Path'.refl), (ShrSlice.spares-sslice 𝓤 H A W (Referent.rtF (Referent.fInt Syntax.w8)) (Syntax.tyRef (Syntax.named 1) Syntax.imm (Syntax.tyInt Syntax.w8)) 1, Shared.reads-sslice 𝓤 H A W (Referent.rtF (Referent.fInt Syntax.w8)) (Syntax.tyRef (Syntax.named 1) Syntax.imm (Syntax.tyInt Syntax.w8)) 1, Path'.refl, (Reads'.as-is 𝓤 H A (Mut.mslice (ColumnMetadataRow.RT) (Syntax.tyRef Syntax.erased Syntax.mut ColumnMetadataRow.named) 3), Mut.reads-mslice 𝓤 H A W (ColumnMetadataRow.RT) (Syntax.tyRef Syntax.erased Syntax.mut ColumnMetadataRow.named) 3, Path'.refl, tt))) (Reads'.room-gone 𝓤 H A (Syntax.tyStruct (List._∷_ 115 (List._∷_ 113 (List._∷_ 108 (List._∷_ 100 (List._∷_ 97 (List._∷_ 114 (List._∷_ 100 (List._∷_ 58 (List._∷_ 58 (List._∷_ 83 (List._∷_ 113 (List._∷_ 108 (List._∷_ 100 (List._∷_ 97 (List._∷_ 114 (List._∷_ 100 (List._∷_ 65 (List._∷_ 110 (List._∷_ 115 (List._∷_ 119 (List._∷_ 101 (List._∷_ 114 List.[])))))))))))))))))))))) (Syntax.tcons (Syntax.tyEnum (List._∷_ 111 (List._∷_ 117 (List._∷_ 116 (List._∷_ 99 (List._∷_ 111 (List._∷_ 109 (List._∷_ 101 (List._∷_ 58 (List._∷_ 58 (List._∷_ 79 (List._∷_ 117 (List._∷_ 116 (List._∷_ 99 (List._∷_ 111 (List._∷_ 109 (List._∷_ 101 List.[])))))))))))))))) (Syntax.ttcons Syntax.tnil (Syntax.ttcons Syntax.tnil (Syntax.ttcons (Syntax.tcons (Syntax.tyInt Syntax.w64) (Syntax.tcons (Syntax.tyInt Syntax.w64) Syntax.tnil)) (Syntax.ttcons Syntax.tnil (Syntax.ttcons (Syntax.tcons (Syntax.tyInt Syntax.w16) Syntax.tnil) (Syntax.ttcons Syntax.tnil (Syntax.ttcons (Syntax.tcons (Syntax.tyInt Syntax.w64) Syntax.tnil) (Syntax.ttcons Syntax.tnil Syntax.ttnil))))))))) (Syntax.tcons (Syntax.tyStruct (List._∷_ 115 (List._∷_ 113 (List._∷_ 108 (List._∷_ 99 (List._∷_ 97 (List._∷_ 114 (List._∷_ 100 (List._∷_ 58 (List._∷_ 58 (List._∷_ 83 (List._∷_ 113 (List._∷_ 108 (List._∷_ 67 (List._∷_ 97 (List._∷_ 114 (List._∷_ 100 List.[])))))))))))))))) (Syntax.tcons Syntax.tyBool (Syntax.tcons (Syntax.tyInt Syntax.w32) (Syntax.tcons (Syntax.tyArray (Syntax.tyInt Syntax.w8) 5) (Syntax.tcons (Syntax.tyArray (Syntax.tyInt Syntax.w8) 8) (Syntax.tcons (Syntax.tyInt Syntax.w8) (Syntax.tcons (Syntax.tyArray (Syntax.tyInt Syntax.w32) 6) (Syntax.tcons (Syntax.tyInt Syntax.w64) (Syntax.tcons (Syntax.tyInt Syntax.w32) (Syntax.tcons (Syntax.tyArray (Syntax.tyInt Syntax.w8) 11) (Syntax.tcons (Syntax.tyInt Syntax.w64) (Syntax.tcons (Syntax.tyInt Syntax.w64) Syntax.tnil)))))))))))) (Syntax.tcons (Syntax.tyInt Syntax.w64) Syntax.tnil))))) (tt, (tt, tt)) Path'.refl) d40
+          d41 = Typed.s-seq 𝓤 H A W 𝓣 E G11 G12 b4 b27 Δ0 (Typed.both (s10 bs)) (at40 bs) (Plain.t-call-plain 𝓤 H A W 𝓣 2 ps·1 r·1 (claims· .2) (claims· .3) "sqldard::parse_sqldard" (known .1) E (λ pos β. β) G11 (Num.vAt 3 λ x. x, (record { pos = 4; ty = Syntax.tyRef (Syntax.named 1) Syntax.imm (Syntax.tyInt Syntax.w8); ref = λ x. x }, (record { pos = 12; ty = Syntax.tyRef Syntax.erased Syntax.mut ColumnMetadataRow.named; ref = λ x. x }, tt))) 8 (List._∷_ 1 (List._∷_ 3 List.[])) (Call.sub-id 𝓤 H A W (G11 .slots)) ((Scalar.reads-sc 𝓤 H A W (Row.sInt Syntax.w16), Path'.refl), (ShrSlice.spares-sslice 𝓤 H A W (Referent.rtF (Referent.fInt Syntax.w8)) (Syntax.tyRef (Syntax.named 1) Syntax.imm (Syntax.tyInt Syntax.w8)) 1, Shared.reads-sslice 𝓤 H A W (Referent.rtF (Referent.fInt Syntax.w8)) (Syntax.tyRef (Syntax.named 1) Syntax.imm (Syntax.tyInt Syntax.w8)) 1, Path'.refl, (Reads'.as-is 𝓤 H A (Mut.mslice (ColumnMetadataRow.RT) (Syntax.tyRef Syntax.erased Syntax.mut ColumnMetadataRow.named) 3), Mut.reads-mslice 𝓤 H A W (ColumnMetadataRow.RT) (Syntax.tyRef Syntax.erased Syntax.mut ColumnMetadataRow.named) 3, Path'.refl, tt))) (Reads'.room-gone 𝓤 H A (Syntax.tyStruct (List._∷_ 115 (List._∷_ 113 (List._∷_ 108 (List._∷_ 100 (List._∷_ 97 (List._∷_ 114 (List._∷_ 100 (List._∷_ 58 (List._∷_ 58 (List._∷_ 83 (List._∷_ 113 (List._∷_ 108 (List._∷_ 100 (List._∷_ 97 (List._∷_ 114 (List._∷_ 100 (List._∷_ 65 (List._∷_ 110 (List._∷_ 115 (List._∷_ 119 (List._∷_ 101 (List._∷_ 114 List.[])))))))))))))))))))))) (Syntax.tcons (Syntax.tyEnum (List._∷_ 111 (List._∷_ 117 (List._∷_ 116 (List._∷_ 99 (List._∷_ 111 (List._∷_ 109 (List._∷_ 101 (List._∷_ 58 (List._∷_ 58 (List._∷_ 79 (List._∷_ 117 (List._∷_ 116 (List._∷_ 99 (List._∷_ 111 (List._∷_ 109 (List._∷_ 101 List.[])))))))))))))))) (Syntax.ttcons Syntax.tnil (Syntax.ttcons Syntax.tnil (Syntax.ttcons (Syntax.tcons (Syntax.tyInt Syntax.w64) (Syntax.tcons (Syntax.tyInt Syntax.w64) Syntax.tnil)) (Syntax.ttcons Syntax.tnil (Syntax.ttcons (Syntax.tcons (Syntax.tyInt Syntax.w16) Syntax.tnil) (Syntax.ttcons Syntax.tnil (Syntax.ttcons (Syntax.tcons (Syntax.tyInt Syntax.w64) Syntax.tnil) (Syntax.ttcons Syntax.tnil (Syntax.ttcons (Syntax.tcons (Syntax.tyInt Syntax.w16) Syntax.tnil) Syntax.ttnil)))))))))) (Syntax.tcons (Syntax.tyStruct (List._∷_ 115 (List._∷_ 113 (List._∷_ 108 (List._∷_ 99 (List._∷_ 97 (List._∷_ 114 (List._∷_ 100 (List._∷_ 58 (List._∷_ 58 (List._∷_ 83 (List._∷_ 113 (List._∷_ 108 (List._∷_ 67 (List._∷_ 97 (List._∷_ 114 (List._∷_ 100 List.[])))))))))))))))) (Syntax.tcons Syntax.tyBool (Syntax.tcons (Syntax.tyInt Syntax.w32) (Syntax.tcons (Syntax.tyArray (Syntax.tyInt Syntax.w8) 5) (Syntax.tcons (Syntax.tyArray (Syntax.tyInt Syntax.w8) 8) (Syntax.tcons (Syntax.tyInt Syntax.w8) (Syntax.tcons (Syntax.tyArray (Syntax.tyInt Syntax.w32) 6) (Syntax.tcons (Syntax.tyInt Syntax.w64) (Syntax.tcons (Syntax.tyInt Syntax.w32) (Syntax.tcons (Syntax.tyArray (Syntax.tyInt Syntax.w8) 11) (Syntax.tcons (Syntax.tyInt Syntax.w64) (Syntax.tcons (Syntax.tyInt Syntax.w64) Syntax.tnil)))))))))))) (Syntax.tcons (Syntax.tyInt Syntax.w64) Syntax.tnil))))) (tt, (tt, tt)) Path'.refl) d40
 
           d42 : Typed.Typed 𝓤 H A 𝓣 E G10 b29 Δ0 (at42 bs)
           d42 = Typed.s-seq 𝓤 H A W 𝓣 E G10 G11 b3 b28 Δ0 (Typed.ask (s9 bs)) (at41 bs) (Relend.t-sl-aggregate 𝓤 H A W E (ColumnMetadataRow.RT) 𝓣 (Relend.asMut (ColumnMetadataRow.RT)) G10 11 12 3 (Syntax.tyRef Syntax.erased Syntax.mut (Syntax.tyArray ColumnMetadataRow.named 4096)) (Syntax.tyRef Syntax.erased Syntax.mut ColumnMetadataRow.named) (λ x. x) (Scalar.oBig Syntax.w64 4096) (Reads'.as-is 𝓤 H A (Relend.msptr (ColumnMetadataRow.RT) (Syntax.tyRef Syntax.erased Syntax.mut (Syntax.tyArray ColumnMetadataRow.named 4096)) 3)) (Reads'.room-gone 𝓤 H A (Syntax.tyStruct (List._∷_ 38 (List._∷_ 91 (List._∷_ 93 List.[]))) (Syntax.tcons (Syntax.tyRef Syntax.erased Syntax.mut ColumnMetadataRow.named) (Syntax.tcons (Syntax.tyInt Syntax.w64) Syntax.tnil)))) record { lower = record { fits = Dec'.lit< tt } } Path'.refl Path'.refl λ b o k. tt) d41

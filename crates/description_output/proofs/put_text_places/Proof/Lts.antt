@@ -67,7 +67,7 @@ abbrev pub r : Kinds.RK 2
 r = Num.rNum Syntax.w64
 
 abbrev pub xs : List.List Syntax.Ty
-xs = List._∷_ (ColumnMetadataRow.ty) (List._∷_ (Syntax.tyArray (ColumnMetadataRow.ty) 4096) (List._∷_ (Syntax.tyStruct (List._∷_ 115 (List._∷_ 113 (List._∷_ 108 (List._∷_ 100 (List._∷_ 97 (List._∷_ 114 (List._∷_ 100 (List._∷_ 58 (List._∷_ 58 (List._∷_ 83 (List._∷_ 113 (List._∷_ 108 (List._∷_ 100 (List._∷_ 97 (List._∷_ 114 (List._∷_ 100 (List._∷_ 65 (List._∷_ 110 (List._∷_ 115 (List._∷_ 119 (List._∷_ 101 (List._∷_ 114 List.[])))))))))))))))))))))) (Syntax.tcons (Syntax.tyEnum (List._∷_ 111 (List._∷_ 117 (List._∷_ 116 (List._∷_ 99 (List._∷_ 111 (List._∷_ 109 (List._∷_ 101 (List._∷_ 58 (List._∷_ 58 (List._∷_ 79 (List._∷_ 117 (List._∷_ 116 (List._∷_ 99 (List._∷_ 111 (List._∷_ 109 (List._∷_ 101 List.[])))))))))))))))) (Syntax.ttcons Syntax.tnil (Syntax.ttcons Syntax.tnil (Syntax.ttcons (Syntax.tcons (Syntax.tyInt Syntax.w64) (Syntax.tcons (Syntax.tyInt Syntax.w64) Syntax.tnil)) (Syntax.ttcons Syntax.tnil (Syntax.ttcons (Syntax.tcons (Syntax.tyInt Syntax.w16) Syntax.tnil) (Syntax.ttcons Syntax.tnil (Syntax.ttcons (Syntax.tcons (Syntax.tyInt Syntax.w64) Syntax.tnil) (Syntax.ttcons Syntax.tnil Syntax.ttnil))))))))) (Syntax.tcons (Syntax.tyStruct (List._∷_ 115 (List._∷_ 113 (List._∷_ 108 (List._∷_ 99 (List._∷_ 97 (List._∷_ 114 (List._∷_ 100 (List._∷_ 58 (List._∷_ 58 (List._∷_ 83 (List._∷_ 113 (List._∷_ 108 (List._∷_ 67 (List._∷_ 97 (List._∷_ 114 (List._∷_ 100 List.[])))))))))))))))) (Syntax.tcons Syntax.tyBool (Syntax.tcons (Syntax.tyInt Syntax.w32) (Syntax.tcons (Syntax.tyArray (Syntax.tyInt Syntax.w8) 5) (Syntax.tcons (Syntax.tyArray (Syntax.tyInt Syntax.w8) 8) (Syntax.tcons (Syntax.tyInt Syntax.w8) (Syntax.tcons (Syntax.tyArray (Syntax.tyInt Syntax.w32) 6) (Syntax.tcons (Syntax.tyInt Syntax.w64) (Syntax.tcons (Syntax.tyInt Syntax.w32) (Syntax.tcons (Syntax.tyArray (Syntax.tyInt Syntax.w8) 11) (Syntax.tcons (Syntax.tyInt Syntax.w64) (Syntax.tcons (Syntax.tyInt Syntax.w64) Syntax.tnil)))))))))))) (Syntax.tcons (Syntax.tyInt Syntax.w64) Syntax.tnil)))) (List._∷_ (Syntax.tyInt Syntax.w64) (List._∷_ (Syntax.tyInt Syntax.w64) (List._∷_ (Syntax.tyRef Syntax.erased Syntax.mut (Syntax.tyArray ColumnMetadataRow.named 4096)) (List._∷_ (Syntax.tyStruct (List._∷_ 38 (List._∷_ 91 (List._∷_ 93 List.[]))) (Syntax.tcons (Syntax.tyRef Syntax.erased Syntax.mut ColumnMetadataRow.named) (Syntax.tcons (Syntax.tyInt Syntax.w64) Syntax.tnil))) (List._∷_ (Syntax.tyRef Syntax.erased Syntax.mut (Syntax.tyInt Syntax.w8)) (List._∷_ (Syntax.tyStruct (List._∷_ 38 (List._∷_ 91 (List._∷_ 93 List.[]))) (Syntax.tcons (Syntax.tyRef Syntax.erased Syntax.mut (Syntax.tyInt Syntax.w8)) (Syntax.tcons (Syntax.tyInt Syntax.w64) Syntax.tnil))) (List._∷_ (Syntax.tyRef Syntax.erased Syntax.mut (Syntax.tyInt Syntax.w8)) (List._∷_ (Syntax.tyStruct (List._∷_ 38 (List._∷_ 91 (List._∷_ 93 List.[]))) (Syntax.tcons (Syntax.tyRef Syntax.erased Syntax.mut (Syntax.tyInt Syntax.w8)) (Syntax.tcons (Syntax.tyInt Syntax.w64) Syntax.tnil))) (List._∷_ (Syntax.tyRef Syntax.erased Syntax.imm (Syntax.tyArray ColumnMetadataRow.named 4096)) (List._∷_ (Syntax.tyStruct (List._∷_ 38 (List._∷_ 91 (List._∷_ 93 List.[]))) (Syntax.tcons (Syntax.tyRef Syntax.erased Syntax.imm ColumnMetadataRow.named) (Syntax.tcons (Syntax.tyInt Syntax.w64) Syntax.tnil))) List.[]))))))))))))
+xs = List._∷_ (ColumnMetadataRow.ty) (List._∷_ (Syntax.tyArray (ColumnMetadataRow.ty) 4096) (List._∷_ (Syntax.tyStruct (List._∷_ 115 (List._∷_ 113 (List._∷_ 108 (List._∷_ 100 (List._∷_ 97 (List._∷_ 114 (List._∷_ 100 (List._∷_ 58 (List._∷_ 58 (List._∷_ 83 (List._∷_ 113 (List._∷_ 108 (List._∷_ 100 (List._∷_ 97 (List._∷_ 114 (List._∷_ 100 (List._∷_ 65 (List._∷_ 110 (List._∷_ 115 (List._∷_ 119 (List._∷_ 101 (List._∷_ 114 List.[])))))))))))))))))))))) (Syntax.tcons (Syntax.tyEnum (List._∷_ 111 (List._∷_ 117 (List._∷_ 116 (List._∷_ 99 (List._∷_ 111 (List._∷_ 109 (List._∷_ 101 (List._∷_ 58 (List._∷_ 58 (List._∷_ 79 (List._∷_ 117 (List._∷_ 116 (List._∷_ 99 (List._∷_ 111 (List._∷_ 109 (List._∷_ 101 List.[])))))))))))))))) (Syntax.ttcons Syntax.tnil (Syntax.ttcons Syntax.tnil (Syntax.ttcons (Syntax.tcons (Syntax.tyInt Syntax.w64) (Syntax.tcons (Syntax.tyInt Syntax.w64) Syntax.tnil)) (Syntax.ttcons Syntax.tnil (Syntax.ttcons (Syntax.tcons (Syntax.tyInt Syntax.w16) Syntax.tnil) (Syntax.ttcons Syntax.tnil (Syntax.ttcons (Syntax.tcons (Syntax.tyInt Syntax.w64) Syntax.tnil) (Syntax.ttcons Syntax.tnil (Syntax.ttcons (Syntax.tcons (Syntax.tyInt Syntax.w16) Syntax.tnil) Syntax.ttnil)))))))))) (Syntax.tcons (Syntax.tyStruct (List._∷_ 115 (List._∷_ 113 (List._∷_ 108 (List._∷_ 99 (List._∷_ 97 (List._∷_ 114 (List._∷_ 100 (List._∷_ 58 (List._∷_ 58 (List._∷_ 83 (List._∷_ 113 (List._∷_ 108 (List._∷_ 67 (List._∷_ 97 (List._∷_ 114 (List._∷_ 100 List.[])))))))))))))))) (Syntax.tcons Syntax.tyBool (Syntax.tcons (Syntax.tyInt Syntax.w32) (Syntax.tcons (Syntax.tyArray (Syntax.tyInt Syntax.w8) 5) (Syntax.tcons (Syntax.tyArray (Syntax.tyInt Syntax.w8) 8) (Syntax.tcons (Syntax.tyInt Syntax.w8) (Syntax.tcons (Syntax.tyArray (Syntax.tyInt Syntax.w32) 6) (Syntax.tcons (Syntax.tyInt Syntax.w64) (Syntax.tcons (Syntax.tyInt Syntax.w32) (Syntax.tcons (Syntax.tyArray (Syntax.tyInt Syntax.w8) 11) (Syntax.tcons (Syntax.tyInt Syntax.w64) (Syntax.tcons (Syntax.tyInt Syntax.w64) Syntax.tnil)))))))))))) (Syntax.tcons (Syntax.tyInt Syntax.w64) Syntax.tnil)))) (List._∷_ (Syntax.tyInt Syntax.w64) (List._∷_ (Syntax.tyInt Syntax.w64) (List._∷_ (Syntax.tyRef Syntax.erased Syntax.mut (Syntax.tyArray ColumnMetadataRow.named 4096)) (List._∷_ (Syntax.tyStruct (List._∷_ 38 (List._∷_ 91 (List._∷_ 93 List.[]))) (Syntax.tcons (Syntax.tyRef Syntax.erased Syntax.mut ColumnMetadataRow.named) (Syntax.tcons (Syntax.tyInt Syntax.w64) Syntax.tnil))) (List._∷_ (Syntax.tyRef Syntax.erased Syntax.mut (Syntax.tyInt Syntax.w8)) (List._∷_ (Syntax.tyStruct (List._∷_ 38 (List._∷_ 91 (List._∷_ 93 List.[]))) (Syntax.tcons (Syntax.tyRef Syntax.erased Syntax.mut (Syntax.tyInt Syntax.w8)) (Syntax.tcons (Syntax.tyInt Syntax.w64) Syntax.tnil))) (List._∷_ (Syntax.tyRef Syntax.erased Syntax.mut (Syntax.tyInt Syntax.w8)) (List._∷_ (Syntax.tyStruct (List._∷_ 38 (List._∷_ 91 (List._∷_ 93 List.[]))) (Syntax.tcons (Syntax.tyRef Syntax.erased Syntax.mut (Syntax.tyInt Syntax.w8)) (Syntax.tcons (Syntax.tyInt Syntax.w64) Syntax.tnil))) (List._∷_ (Syntax.tyRef Syntax.erased Syntax.imm (Syntax.tyArray ColumnMetadataRow.named 4096)) (List._∷_ (Syntax.tyStruct (List._∷_ 38 (List._∷_ 91 (List._∷_ 93 List.[]))) (Syntax.tcons (Syntax.tyRef Syntax.erased Syntax.imm ColumnMetadataRow.named) (Syntax.tcons (Syntax.tyInt Syntax.w64) Syntax.tnil))) List.[]))))))))))))
 
 abbrev pub m : Nat.ℕ
 m = 4
@@ -193,31 +193,31 @@ abbrev pub Claims : Type 1
 Claims = Kinds.In 0 ps·0 × Kinds.Out 0 ps·0 r·0 × Kinds.In 2 ps·1 × Kinds.Out 2 ps·1 r·1 × Kinds.In 1 ps·2 × Kinds.Out 1 ps·2 r·2 × Kinds.In 2 ps·3 × Kinds.Out 2 ps·3 r·3
 
 abbrev pub t0 : List.List Row.Entry
-t0 = List._∷_ (0, Rows'.any-gone (Syntax.tyInt Syntax.w64)) (List._∷_ (1, Mut.mslice (Referent.rtF (Referent.fInt Syntax.w8)) (Syntax.tyRef (Syntax.named 0) Syntax.mut (Syntax.tyInt Syntax.w8)) 0) (List._∷_ (2, Rows'.sc-here (Row.sInt Syntax.w64)) (List._∷_ (3, Rows'.sslice (Referent.rtF (Referent.fInt Syntax.w8)) (Syntax.tyRef (Syntax.named 1) Syntax.imm (Syntax.tyInt Syntax.w8)) 1) (List._∷_ (4, Rows'.any-gone (ColumnMetadataRow.ty)) (List._∷_ (5, Rows'.any-gone (Syntax.tyArray (ColumnMetadataRow.ty) 4096)) (List._∷_ (6, Rows'.any-gone (Syntax.tyStruct (List._∷_ 115 (List._∷_ 113 (List._∷_ 108 (List._∷_ 100 (List._∷_ 97 (List._∷_ 114 (List._∷_ 100 (List._∷_ 58 (List._∷_ 58 (List._∷_ 83 (List._∷_ 113 (List._∷_ 108 (List._∷_ 100 (List._∷_ 97 (List._∷_ 114 (List._∷_ 100 (List._∷_ 65 (List._∷_ 110 (List._∷_ 115 (List._∷_ 119 (List._∷_ 101 (List._∷_ 114 List.[])))))))))))))))))))))) (Syntax.tcons (Syntax.tyEnum (List._∷_ 111 (List._∷_ 117 (List._∷_ 116 (List._∷_ 99 (List._∷_ 111 (List._∷_ 109 (List._∷_ 101 (List._∷_ 58 (List._∷_ 58 (List._∷_ 79 (List._∷_ 117 (List._∷_ 116 (List._∷_ 99 (List._∷_ 111 (List._∷_ 109 (List._∷_ 101 List.[])))))))))))))))) (Syntax.ttcons Syntax.tnil (Syntax.ttcons Syntax.tnil (Syntax.ttcons (Syntax.tcons (Syntax.tyInt Syntax.w64) (Syntax.tcons (Syntax.tyInt Syntax.w64) Syntax.tnil)) (Syntax.ttcons Syntax.tnil (Syntax.ttcons (Syntax.tcons (Syntax.tyInt Syntax.w16) Syntax.tnil) (Syntax.ttcons Syntax.tnil (Syntax.ttcons (Syntax.tcons (Syntax.tyInt Syntax.w64) Syntax.tnil) (Syntax.ttcons Syntax.tnil Syntax.ttnil))))))))) (Syntax.tcons (Syntax.tyStruct (List._∷_ 115 (List._∷_ 113 (List._∷_ 108 (List._∷_ 99 (List._∷_ 97 (List._∷_ 114 (List._∷_ 100 (List._∷_ 58 (List._∷_ 58 (List._∷_ 83 (List._∷_ 113 (List._∷_ 108 (List._∷_ 67 (List._∷_ 97 (List._∷_ 114 (List._∷_ 100 List.[])))))))))))))))) (Syntax.tcons Syntax.tyBool (Syntax.tcons (Syntax.tyInt Syntax.w32) (Syntax.tcons (Syntax.tyArray (Syntax.tyInt Syntax.w8) 5) (Syntax.tcons (Syntax.tyArray (Syntax.tyInt Syntax.w8) 8) (Syntax.tcons (Syntax.tyInt Syntax.w8) (Syntax.tcons (Syntax.tyArray (Syntax.tyInt Syntax.w32) 6) (Syntax.tcons (Syntax.tyInt Syntax.w64) (Syntax.tcons (Syntax.tyInt Syntax.w32) (Syntax.tcons (Syntax.tyArray (Syntax.tyInt Syntax.w8) 11) (Syntax.tcons (Syntax.tyInt Syntax.w64) (Syntax.tcons (Syntax.tyInt Syntax.w64) Syntax.tnil)))))))))))) (Syntax.tcons (Syntax.tyInt Syntax.w64) Syntax.tnil))))) (List._∷_ (7, Rows'.any-gone (Syntax.tyInt Syntax.w64)) (List._∷_ (8, Rows'.any-gone (Syntax.tyInt Syntax.w64)) (List._∷_ (9, Rows'.any-gone (Syntax.tyRef Syntax.erased Syntax.mut (Syntax.tyArray ColumnMetadataRow.named 4096))) (List._∷_ (10, Rows'.any-gone (Syntax.tyStruct (List._∷_ 38 (List._∷_ 91 (List._∷_ 93 List.[]))) (Syntax.tcons (Syntax.tyRef Syntax.erased Syntax.mut ColumnMetadataRow.named) (Syntax.tcons (Syntax.tyInt Syntax.w64) Syntax.tnil)))) (List._∷_ (11, Rows'.any-gone (Syntax.tyRef Syntax.erased Syntax.mut (Syntax.tyInt Syntax.w8))) (List._∷_ (12, Rows'.any-gone (Syntax.tyStruct (List._∷_ 38 (List._∷_ 91 (List._∷_ 93 List.[]))) (Syntax.tcons (Syntax.tyRef Syntax.erased Syntax.mut (Syntax.tyInt Syntax.w8)) (Syntax.tcons (Syntax.tyInt Syntax.w64) Syntax.tnil)))) (List._∷_ (13, Rows'.any-gone (Syntax.tyRef Syntax.erased Syntax.mut (Syntax.tyInt Syntax.w8))) (List._∷_ (14, Rows'.any-gone (Syntax.tyStruct (List._∷_ 38 (List._∷_ 91 (List._∷_ 93 List.[]))) (Syntax.tcons (Syntax.tyRef Syntax.erased Syntax.mut (Syntax.tyInt Syntax.w8)) (Syntax.tcons (Syntax.tyInt Syntax.w64) Syntax.tnil)))) (List._∷_ (15, Rows'.any-gone (Syntax.tyRef Syntax.erased Syntax.imm (Syntax.tyArray ColumnMetadataRow.named 4096))) List.[])))))))))))))))
+t0 = List._∷_ (0, Rows'.any-gone (Syntax.tyInt Syntax.w64)) (List._∷_ (1, Mut.mslice (Referent.rtF (Referent.fInt Syntax.w8)) (Syntax.tyRef (Syntax.named 0) Syntax.mut (Syntax.tyInt Syntax.w8)) 0) (List._∷_ (2, Rows'.sc-here (Row.sInt Syntax.w64)) (List._∷_ (3, Rows'.sslice (Referent.rtF (Referent.fInt Syntax.w8)) (Syntax.tyRef (Syntax.named 1) Syntax.imm (Syntax.tyInt Syntax.w8)) 1) (List._∷_ (4, Rows'.any-gone (ColumnMetadataRow.ty)) (List._∷_ (5, Rows'.any-gone (Syntax.tyArray (ColumnMetadataRow.ty) 4096)) (List._∷_ (6, Rows'.any-gone (Syntax.tyStruct (List._∷_ 115 (List._∷_ 113 (List._∷_ 108 (List._∷_ 100 (List._∷_ 97 (List._∷_ 114 (List._∷_ 100 (List._∷_ 58 (List._∷_ 58 (List._∷_ 83 (List._∷_ 113 (List._∷_ 108 (List._∷_ 100 (List._∷_ 97 (List._∷_ 114 (List._∷_ 100 (List._∷_ 65 (List._∷_ 110 (List._∷_ 115 (List._∷_ 119 (List._∷_ 101 (List._∷_ 114 List.[])))))))))))))))))))))) (Syntax.tcons (Syntax.tyEnum (List._∷_ 111 (List._∷_ 117 (List._∷_ 116 (List._∷_ 99 (List._∷_ 111 (List._∷_ 109 (List._∷_ 101 (List._∷_ 58 (List._∷_ 58 (List._∷_ 79 (List._∷_ 117 (List._∷_ 116 (List._∷_ 99 (List._∷_ 111 (List._∷_ 109 (List._∷_ 101 List.[])))))))))))))))) (Syntax.ttcons Syntax.tnil (Syntax.ttcons Syntax.tnil (Syntax.ttcons (Syntax.tcons (Syntax.tyInt Syntax.w64) (Syntax.tcons (Syntax.tyInt Syntax.w64) Syntax.tnil)) (Syntax.ttcons Syntax.tnil (Syntax.ttcons (Syntax.tcons (Syntax.tyInt Syntax.w16) Syntax.tnil) (Syntax.ttcons Syntax.tnil (Syntax.ttcons (Syntax.tcons (Syntax.tyInt Syntax.w64) Syntax.tnil) (Syntax.ttcons Syntax.tnil (Syntax.ttcons (Syntax.tcons (Syntax.tyInt Syntax.w16) Syntax.tnil) Syntax.ttnil)))))))))) (Syntax.tcons (Syntax.tyStruct (List._∷_ 115 (List._∷_ 113 (List._∷_ 108 (List._∷_ 99 (List._∷_ 97 (List._∷_ 114 (List._∷_ 100 (List._∷_ 58 (List._∷_ 58 (List._∷_ 83 (List._∷_ 113 (List._∷_ 108 (List._∷_ 67 (List._∷_ 97 (List._∷_ 114 (List._∷_ 100 List.[])))))))))))))))) (Syntax.tcons Syntax.tyBool (Syntax.tcons (Syntax.tyInt Syntax.w32) (Syntax.tcons (Syntax.tyArray (Syntax.tyInt Syntax.w8) 5) (Syntax.tcons (Syntax.tyArray (Syntax.tyInt Syntax.w8) 8) (Syntax.tcons (Syntax.tyInt Syntax.w8) (Syntax.tcons (Syntax.tyArray (Syntax.tyInt Syntax.w32) 6) (Syntax.tcons (Syntax.tyInt Syntax.w64) (Syntax.tcons (Syntax.tyInt Syntax.w32) (Syntax.tcons (Syntax.tyArray (Syntax.tyInt Syntax.w8) 11) (Syntax.tcons (Syntax.tyInt Syntax.w64) (Syntax.tcons (Syntax.tyInt Syntax.w64) Syntax.tnil)))))))))))) (Syntax.tcons (Syntax.tyInt Syntax.w64) Syntax.tnil))))) (List._∷_ (7, Rows'.any-gone (Syntax.tyInt Syntax.w64)) (List._∷_ (8, Rows'.any-gone (Syntax.tyInt Syntax.w64)) (List._∷_ (9, Rows'.any-gone (Syntax.tyRef Syntax.erased Syntax.mut (Syntax.tyArray ColumnMetadataRow.named 4096))) (List._∷_ (10, Rows'.any-gone (Syntax.tyStruct (List._∷_ 38 (List._∷_ 91 (List._∷_ 93 List.[]))) (Syntax.tcons (Syntax.tyRef Syntax.erased Syntax.mut ColumnMetadataRow.named) (Syntax.tcons (Syntax.tyInt Syntax.w64) Syntax.tnil)))) (List._∷_ (11, Rows'.any-gone (Syntax.tyRef Syntax.erased Syntax.mut (Syntax.tyInt Syntax.w8))) (List._∷_ (12, Rows'.any-gone (Syntax.tyStruct (List._∷_ 38 (List._∷_ 91 (List._∷_ 93 List.[]))) (Syntax.tcons (Syntax.tyRef Syntax.erased Syntax.mut (Syntax.tyInt Syntax.w8)) (Syntax.tcons (Syntax.tyInt Syntax.w64) Syntax.tnil)))) (List._∷_ (13, Rows'.any-gone (Syntax.tyRef Syntax.erased Syntax.mut (Syntax.tyInt Syntax.w8))) (List._∷_ (14, Rows'.any-gone (Syntax.tyStruct (List._∷_ 38 (List._∷_ 91 (List._∷_ 93 List.[]))) (Syntax.tcons (Syntax.tyRef Syntax.erased Syntax.mut (Syntax.tyInt Syntax.w8)) (Syntax.tcons (Syntax.tyInt Syntax.w64) Syntax.tnil)))) (List._∷_ (15, Rows'.any-gone (Syntax.tyRef Syntax.erased Syntax.imm (Syntax.tyArray ColumnMetadataRow.named 4096))) List.[])))))))))))))))
 
 abbrev pub t1 : List.List Row.Entry
 t1 = List._∷_ (16, Rows'.any-gone (Syntax.tyStruct (List._∷_ 38 (List._∷_ 91 (List._∷_ 93 List.[]))) (Syntax.tcons (Syntax.tyRef Syntax.erased Syntax.imm ColumnMetadataRow.named) (Syntax.tcons (Syntax.tyInt Syntax.w64) Syntax.tnil)))) List.[]
 
 abbrev pub t2 : List.List Row.Entry
-t2 = List._∷_ (0, Rows'.sc-here (Row.sInt Syntax.w64)) (List._∷_ (1, Mut.mslice (Referent.rtF (Referent.fInt Syntax.w8)) (Syntax.tyRef (Syntax.named 0) Syntax.mut (Syntax.tyInt Syntax.w8)) 0) (List._∷_ (2, Rows'.any-gone (Syntax.tyInt Syntax.w64)) (List._∷_ (3, Rows'.sslice (Referent.rtF (Referent.fInt Syntax.w8)) (Syntax.tyRef (Syntax.named 1) Syntax.imm (Syntax.tyInt Syntax.w8)) 1) (List._∷_ (4, Rows'.any-gone (ColumnMetadataRow.ty)) (List._∷_ (5, Rows'.any-gone (Syntax.tyArray (ColumnMetadataRow.ty) 4096)) (List._∷_ (6, Rows'.any-gone (Syntax.tyStruct (List._∷_ 115 (List._∷_ 113 (List._∷_ 108 (List._∷_ 100 (List._∷_ 97 (List._∷_ 114 (List._∷_ 100 (List._∷_ 58 (List._∷_ 58 (List._∷_ 83 (List._∷_ 113 (List._∷_ 108 (List._∷_ 100 (List._∷_ 97 (List._∷_ 114 (List._∷_ 100 (List._∷_ 65 (List._∷_ 110 (List._∷_ 115 (List._∷_ 119 (List._∷_ 101 (List._∷_ 114 List.[])))))))))))))))))))))) (Syntax.tcons (Syntax.tyEnum (List._∷_ 111 (List._∷_ 117 (List._∷_ 116 (List._∷_ 99 (List._∷_ 111 (List._∷_ 109 (List._∷_ 101 (List._∷_ 58 (List._∷_ 58 (List._∷_ 79 (List._∷_ 117 (List._∷_ 116 (List._∷_ 99 (List._∷_ 111 (List._∷_ 109 (List._∷_ 101 List.[])))))))))))))))) (Syntax.ttcons Syntax.tnil (Syntax.ttcons Syntax.tnil (Syntax.ttcons (Syntax.tcons (Syntax.tyInt Syntax.w64) (Syntax.tcons (Syntax.tyInt Syntax.w64) Syntax.tnil)) (Syntax.ttcons Syntax.tnil (Syntax.ttcons (Syntax.tcons (Syntax.tyInt Syntax.w16) Syntax.tnil) (Syntax.ttcons Syntax.tnil (Syntax.ttcons (Syntax.tcons (Syntax.tyInt Syntax.w64) Syntax.tnil) (Syntax.ttcons Syntax.tnil Syntax.ttnil))))))))) (Syntax.tcons (Syntax.tyStruct (List._∷_ 115 (List._∷_ 113 (List._∷_ 108 (List._∷_ 99 (List._∷_ 97 (List._∷_ 114 (List._∷_ 100 (List._∷_ 58 (List._∷_ 58 (List._∷_ 83 (List._∷_ 113 (List._∷_ 108 (List._∷_ 67 (List._∷_ 97 (List._∷_ 114 (List._∷_ 100 List.[])))))))))))))))) (Syntax.tcons Syntax.tyBool (Syntax.tcons (Syntax.tyInt Syntax.w32) (Syntax.tcons (Syntax.tyArray (Syntax.tyInt Syntax.w8) 5) (Syntax.tcons (Syntax.tyArray (Syntax.tyInt Syntax.w8) 8) (Syntax.tcons (Syntax.tyInt Syntax.w8) (Syntax.tcons (Syntax.tyArray (Syntax.tyInt Syntax.w32) 6) (Syntax.tcons (Syntax.tyInt Syntax.w64) (Syntax.tcons (Syntax.tyInt Syntax.w32) (Syntax.tcons (Syntax.tyArray (Syntax.tyInt Syntax.w8) 11) (Syntax.tcons (Syntax.tyInt Syntax.w64) (Syntax.tcons (Syntax.tyInt Syntax.w64) Syntax.tnil)))))))))))) (Syntax.tcons (Syntax.tyInt Syntax.w64) Syntax.tnil))))) (List._∷_ (7, Rows'.any-gone (Syntax.tyInt Syntax.w64)) (List._∷_ (8, Rows'.any-gone (Syntax.tyInt Syntax.w64)) (List._∷_ (9, Rows'.any-gone (Syntax.tyRef Syntax.erased Syntax.mut (Syntax.tyArray ColumnMetadataRow.named 4096))) (List._∷_ (10, Rows'.any-gone (Syntax.tyStruct (List._∷_ 38 (List._∷_ 91 (List._∷_ 93 List.[]))) (Syntax.tcons (Syntax.tyRef Syntax.erased Syntax.mut ColumnMetadataRow.named) (Syntax.tcons (Syntax.tyInt Syntax.w64) Syntax.tnil)))) (List._∷_ (11, Rows'.any-gone (Syntax.tyRef Syntax.erased Syntax.mut (Syntax.tyInt Syntax.w8))) (List._∷_ (12, Rows'.any-gone (Syntax.tyStruct (List._∷_ 38 (List._∷_ 91 (List._∷_ 93 List.[]))) (Syntax.tcons (Syntax.tyRef Syntax.erased Syntax.mut (Syntax.tyInt Syntax.w8)) (Syntax.tcons (Syntax.tyInt Syntax.w64) Syntax.tnil)))) (List._∷_ (13, Rows'.any-gone (Syntax.tyRef Syntax.erased Syntax.mut (Syntax.tyInt Syntax.w8))) (List._∷_ (14, Rows'.any-gone (Syntax.tyStruct (List._∷_ 38 (List._∷_ 91 (List._∷_ 93 List.[]))) (Syntax.tcons (Syntax.tyRef Syntax.erased Syntax.mut (Syntax.tyInt Syntax.w8)) (Syntax.tcons (Syntax.tyInt Syntax.w64) Syntax.tnil)))) (List._∷_ (15, Rows'.any-gone (Syntax.tyRef Syntax.erased Syntax.imm (Syntax.tyArray ColumnMetadataRow.named 4096))) List.[])))))))))))))))
+t2 = List._∷_ (0, Rows'.sc-here (Row.sInt Syntax.w64)) (List._∷_ (1, Mut.mslice (Referent.rtF (Referent.fInt Syntax.w8)) (Syntax.tyRef (Syntax.named 0) Syntax.mut (Syntax.tyInt Syntax.w8)) 0) (List._∷_ (2, Rows'.any-gone (Syntax.tyInt Syntax.w64)) (List._∷_ (3, Rows'.sslice (Referent.rtF (Referent.fInt Syntax.w8)) (Syntax.tyRef (Syntax.named 1) Syntax.imm (Syntax.tyInt Syntax.w8)) 1) (List._∷_ (4, Rows'.any-gone (ColumnMetadataRow.ty)) (List._∷_ (5, Rows'.any-gone (Syntax.tyArray (ColumnMetadataRow.ty) 4096)) (List._∷_ (6, Rows'.any-gone (Syntax.tyStruct (List._∷_ 115 (List._∷_ 113 (List._∷_ 108 (List._∷_ 100 (List._∷_ 97 (List._∷_ 114 (List._∷_ 100 (List._∷_ 58 (List._∷_ 58 (List._∷_ 83 (List._∷_ 113 (List._∷_ 108 (List._∷_ 100 (List._∷_ 97 (List._∷_ 114 (List._∷_ 100 (List._∷_ 65 (List._∷_ 110 (List._∷_ 115 (List._∷_ 119 (List._∷_ 101 (List._∷_ 114 List.[])))))))))))))))))))))) (Syntax.tcons (Syntax.tyEnum (List._∷_ 111 (List._∷_ 117 (List._∷_ 116 (List._∷_ 99 (List._∷_ 111 (List._∷_ 109 (List._∷_ 101 (List._∷_ 58 (List._∷_ 58 (List._∷_ 79 (List._∷_ 117 (List._∷_ 116 (List._∷_ 99 (List._∷_ 111 (List._∷_ 109 (List._∷_ 101 List.[])))))))))))))))) (Syntax.ttcons Syntax.tnil (Syntax.ttcons Syntax.tnil (Syntax.ttcons (Syntax.tcons (Syntax.tyInt Syntax.w64) (Syntax.tcons (Syntax.tyInt Syntax.w64) Syntax.tnil)) (Syntax.ttcons Syntax.tnil (Syntax.ttcons (Syntax.tcons (Syntax.tyInt Syntax.w16) Syntax.tnil) (Syntax.ttcons Syntax.tnil (Syntax.ttcons (Syntax.tcons (Syntax.tyInt Syntax.w64) Syntax.tnil) (Syntax.ttcons Syntax.tnil (Syntax.ttcons (Syntax.tcons (Syntax.tyInt Syntax.w16) Syntax.tnil) Syntax.ttnil)))))))))) (Syntax.tcons (Syntax.tyStruct (List._∷_ 115 (List._∷_ 113 (List._∷_ 108 (List._∷_ 99 (List._∷_ 97 (List._∷_ 114 (List._∷_ 100 (List._∷_ 58 (List._∷_ 58 (List._∷_ 83 (List._∷_ 113 (List._∷_ 108 (List._∷_ 67 (List._∷_ 97 (List._∷_ 114 (List._∷_ 100 List.[])))))))))))))))) (Syntax.tcons Syntax.tyBool (Syntax.tcons (Syntax.tyInt Syntax.w32) (Syntax.tcons (Syntax.tyArray (Syntax.tyInt Syntax.w8) 5) (Syntax.tcons (Syntax.tyArray (Syntax.tyInt Syntax.w8) 8) (Syntax.tcons (Syntax.tyInt Syntax.w8) (Syntax.tcons (Syntax.tyArray (Syntax.tyInt Syntax.w32) 6) (Syntax.tcons (Syntax.tyInt Syntax.w64) (Syntax.tcons (Syntax.tyInt Syntax.w32) (Syntax.tcons (Syntax.tyArray (Syntax.tyInt Syntax.w8) 11) (Syntax.tcons (Syntax.tyInt Syntax.w64) (Syntax.tcons (Syntax.tyInt Syntax.w64) Syntax.tnil)))))))))))) (Syntax.tcons (Syntax.tyInt Syntax.w64) Syntax.tnil))))) (List._∷_ (7, Rows'.any-gone (Syntax.tyInt Syntax.w64)) (List._∷_ (8, Rows'.any-gone (Syntax.tyInt Syntax.w64)) (List._∷_ (9, Rows'.any-gone (Syntax.tyRef Syntax.erased Syntax.mut (Syntax.tyArray ColumnMetadataRow.named 4096))) (List._∷_ (10, Rows'.any-gone (Syntax.tyStruct (List._∷_ 38 (List._∷_ 91 (List._∷_ 93 List.[]))) (Syntax.tcons (Syntax.tyRef Syntax.erased Syntax.mut ColumnMetadataRow.named) (Syntax.tcons (Syntax.tyInt Syntax.w64) Syntax.tnil)))) (List._∷_ (11, Rows'.any-gone (Syntax.tyRef Syntax.erased Syntax.mut (Syntax.tyInt Syntax.w8))) (List._∷_ (12, Rows'.any-gone (Syntax.tyStruct (List._∷_ 38 (List._∷_ 91 (List._∷_ 93 List.[]))) (Syntax.tcons (Syntax.tyRef Syntax.erased Syntax.mut (Syntax.tyInt Syntax.w8)) (Syntax.tcons (Syntax.tyInt Syntax.w64) Syntax.tnil)))) (List._∷_ (13, Rows'.any-gone (Syntax.tyRef Syntax.erased Syntax.mut (Syntax.tyInt Syntax.w8))) (List._∷_ (14, Rows'.any-gone (Syntax.tyStruct (List._∷_ 38 (List._∷_ 91 (List._∷_ 93 List.[]))) (Syntax.tcons (Syntax.tyRef Syntax.erased Syntax.mut (Syntax.tyInt Syntax.w8)) (Syntax.tcons (Syntax.tyInt Syntax.w64) Syntax.tnil)))) (List._∷_ (15, Rows'.any-gone (Syntax.tyRef Syntax.erased Syntax.imm (Syntax.tyArray ColumnMetadataRow.named 4096))) List.[])))))))))))))))
 
 abbrev pub t3 : List.List Row.Entry
-t3 = List._∷_ (0, Rows'.any-gone (Syntax.tyInt Syntax.w64)) (List._∷_ (1, Mut.mslice (Referent.rtF (Referent.fInt Syntax.w8)) (Syntax.tyRef (Syntax.named 0) Syntax.mut (Syntax.tyInt Syntax.w8)) 0) (List._∷_ (2, Rows'.sc-here (Row.sInt Syntax.w64)) (List._∷_ (3, Rows'.sslice (Referent.rtF (Referent.fInt Syntax.w8)) (Syntax.tyRef (Syntax.named 1) Syntax.imm (Syntax.tyInt Syntax.w8)) 1) (List._∷_ (4, ColumnMetadataRow.row) (List._∷_ (5, Rows'.any-gone (Syntax.tyArray (ColumnMetadataRow.ty) 4096)) (List._∷_ (6, Rows'.any-gone (Syntax.tyStruct (List._∷_ 115 (List._∷_ 113 (List._∷_ 108 (List._∷_ 100 (List._∷_ 97 (List._∷_ 114 (List._∷_ 100 (List._∷_ 58 (List._∷_ 58 (List._∷_ 83 (List._∷_ 113 (List._∷_ 108 (List._∷_ 100 (List._∷_ 97 (List._∷_ 114 (List._∷_ 100 (List._∷_ 65 (List._∷_ 110 (List._∷_ 115 (List._∷_ 119 (List._∷_ 101 (List._∷_ 114 List.[])))))))))))))))))))))) (Syntax.tcons (Syntax.tyEnum (List._∷_ 111 (List._∷_ 117 (List._∷_ 116 (List._∷_ 99 (List._∷_ 111 (List._∷_ 109 (List._∷_ 101 (List._∷_ 58 (List._∷_ 58 (List._∷_ 79 (List._∷_ 117 (List._∷_ 116 (List._∷_ 99 (List._∷_ 111 (List._∷_ 109 (List._∷_ 101 List.[])))))))))))))))) (Syntax.ttcons Syntax.tnil (Syntax.ttcons Syntax.tnil (Syntax.ttcons (Syntax.tcons (Syntax.tyInt Syntax.w64) (Syntax.tcons (Syntax.tyInt Syntax.w64) Syntax.tnil)) (Syntax.ttcons Syntax.tnil (Syntax.ttcons (Syntax.tcons (Syntax.tyInt Syntax.w16) Syntax.tnil) (Syntax.ttcons Syntax.tnil (Syntax.ttcons (Syntax.tcons (Syntax.tyInt Syntax.w64) Syntax.tnil) (Syntax.ttcons Syntax.tnil Syntax.ttnil))))))))) (Syntax.tcons (Syntax.tyStruct (List._∷_ 115 (List._∷_ 113 (List._∷_ 108 (List._∷_ 99 (List._∷_ 97 (List._∷_ 114 (List._∷_ 100 (List._∷_ 58 (List._∷_ 58 (List._∷_ 83 (List._∷_ 113 (List._∷_ 108 (List._∷_ 67 (List._∷_ 97 (List._∷_ 114 (List._∷_ 100 List.[])))))))))))))))) (Syntax.tcons Syntax.tyBool (Syntax.tcons (Syntax.tyInt Syntax.w32) (Syntax.tcons (Syntax.tyArray (Syntax.tyInt Syntax.w8) 5) (Syntax.tcons (Syntax.tyArray (Syntax.tyInt Syntax.w8) 8) (Syntax.tcons (Syntax.tyInt Syntax.w8) (Syntax.tcons (Syntax.tyArray (Syntax.tyInt Syntax.w32) 6) (Syntax.tcons (Syntax.tyInt Syntax.w64) (Syntax.tcons (Syntax.tyInt Syntax.w32) (Syntax.tcons (Syntax.tyArray (Syntax.tyInt Syntax.w8) 11) (Syntax.tcons (Syntax.tyInt Syntax.w64) (Syntax.tcons (Syntax.tyInt Syntax.w64) Syntax.tnil)))))))))))) (Syntax.tcons (Syntax.tyInt Syntax.w64) Syntax.tnil))))) (List._∷_ (7, Rows'.any-gone (Syntax.tyInt Syntax.w64)) (List._∷_ (8, Rows'.any-gone (Syntax.tyInt Syntax.w64)) (List._∷_ (9, Rows'.any-gone (Syntax.tyRef Syntax.erased Syntax.mut (Syntax.tyArray ColumnMetadataRow.named 4096))) (List._∷_ (10, Rows'.any-gone (Syntax.tyStruct (List._∷_ 38 (List._∷_ 91 (List._∷_ 93 List.[]))) (Syntax.tcons (Syntax.tyRef Syntax.erased Syntax.mut ColumnMetadataRow.named) (Syntax.tcons (Syntax.tyInt Syntax.w64) Syntax.tnil)))) (List._∷_ (11, Rows'.any-gone (Syntax.tyRef Syntax.erased Syntax.mut (Syntax.tyInt Syntax.w8))) (List._∷_ (12, Rows'.any-gone (Syntax.tyStruct (List._∷_ 38 (List._∷_ 91 (List._∷_ 93 List.[]))) (Syntax.tcons (Syntax.tyRef Syntax.erased Syntax.mut (Syntax.tyInt Syntax.w8)) (Syntax.tcons (Syntax.tyInt Syntax.w64) Syntax.tnil)))) (List._∷_ (13, Rows'.any-gone (Syntax.tyRef Syntax.erased Syntax.mut (Syntax.tyInt Syntax.w8))) (List._∷_ (14, Rows'.any-gone (Syntax.tyStruct (List._∷_ 38 (List._∷_ 91 (List._∷_ 93 List.[]))) (Syntax.tcons (Syntax.tyRef Syntax.erased Syntax.mut (Syntax.tyInt Syntax.w8)) (Syntax.tcons (Syntax.tyInt Syntax.w64) Syntax.tnil)))) (List._∷_ (15, Rows'.any-gone (Syntax.tyRef Syntax.erased Syntax.imm (Syntax.tyArray ColumnMetadataRow.named 4096))) List.[])))))))))))))))
+t3 = List._∷_ (0, Rows'.any-gone (Syntax.tyInt Syntax.w64)) (List._∷_ (1, Mut.mslice (Referent.rtF (Referent.fInt Syntax.w8)) (Syntax.tyRef (Syntax.named 0) Syntax.mut (Syntax.tyInt Syntax.w8)) 0) (List._∷_ (2, Rows'.sc-here (Row.sInt Syntax.w64)) (List._∷_ (3, Rows'.sslice (Referent.rtF (Referent.fInt Syntax.w8)) (Syntax.tyRef (Syntax.named 1) Syntax.imm (Syntax.tyInt Syntax.w8)) 1) (List._∷_ (4, ColumnMetadataRow.row) (List._∷_ (5, Rows'.any-gone (Syntax.tyArray (ColumnMetadataRow.ty) 4096)) (List._∷_ (6, Rows'.any-gone (Syntax.tyStruct (List._∷_ 115 (List._∷_ 113 (List._∷_ 108 (List._∷_ 100 (List._∷_ 97 (List._∷_ 114 (List._∷_ 100 (List._∷_ 58 (List._∷_ 58 (List._∷_ 83 (List._∷_ 113 (List._∷_ 108 (List._∷_ 100 (List._∷_ 97 (List._∷_ 114 (List._∷_ 100 (List._∷_ 65 (List._∷_ 110 (List._∷_ 115 (List._∷_ 119 (List._∷_ 101 (List._∷_ 114 List.[])))))))))))))))))))))) (Syntax.tcons (Syntax.tyEnum (List._∷_ 111 (List._∷_ 117 (List._∷_ 116 (List._∷_ 99 (List._∷_ 111 (List._∷_ 109 (List._∷_ 101 (List._∷_ 58 (List._∷_ 58 (List._∷_ 79 (List._∷_ 117 (List._∷_ 116 (List._∷_ 99 (List._∷_ 111 (List._∷_ 109 (List._∷_ 101 List.[])))))))))))))))) (Syntax.ttcons Syntax.tnil (Syntax.ttcons Syntax.tnil (Syntax.ttcons (Syntax.tcons (Syntax.tyInt Syntax.w64) (Syntax.tcons (Syntax.tyInt Syntax.w64) Syntax.tnil)) (Syntax.ttcons Syntax.tnil (Syntax.ttcons (Syntax.tcons (Syntax.tyInt Syntax.w16) Syntax.tnil) (Syntax.ttcons Syntax.tnil (Syntax.ttcons (Syntax.tcons (Syntax.tyInt Syntax.w64) Syntax.tnil) (Syntax.ttcons Syntax.tnil (Syntax.ttcons (Syntax.tcons (Syntax.tyInt Syntax.w16) Syntax.tnil) Syntax.ttnil)))))))))) (Syntax.tcons (Syntax.tyStruct (List._∷_ 115 (List._∷_ 113 (List._∷_ 108 (List._∷_ 99 (List._∷_ 97 (List._∷_ 114 (List._∷_ 100 (List._∷_ 58 (List._∷_ 58 (List._∷_ 83 (List._∷_ 113 (List._∷_ 108 (List._∷_ 67 (List._∷_ 97 (List._∷_ 114 (List._∷_ 100 List.[])))))))))))))))) (Syntax.tcons Syntax.tyBool (Syntax.tcons (Syntax.tyInt Syntax.w32) (Syntax.tcons (Syntax.tyArray (Syntax.tyInt Syntax.w8) 5) (Syntax.tcons (Syntax.tyArray (Syntax.tyInt Syntax.w8) 8) (Syntax.tcons (Syntax.tyInt Syntax.w8) (Syntax.tcons (Syntax.tyArray (Syntax.tyInt Syntax.w32) 6) (Syntax.tcons (Syntax.tyInt Syntax.w64) (Syntax.tcons (Syntax.tyInt Syntax.w32) (Syntax.tcons (Syntax.tyArray (Syntax.tyInt Syntax.w8) 11) (Syntax.tcons (Syntax.tyInt Syntax.w64) (Syntax.tcons (Syntax.tyInt Syntax.w64) Syntax.tnil)))))))))))) (Syntax.tcons (Syntax.tyInt Syntax.w64) Syntax.tnil))))) (List._∷_ (7, Rows'.any-gone (Syntax.tyInt Syntax.w64)) (List._∷_ (8, Rows'.any-gone (Syntax.tyInt Syntax.w64)) (List._∷_ (9, Rows'.any-gone (Syntax.tyRef Syntax.erased Syntax.mut (Syntax.tyArray ColumnMetadataRow.named 4096))) (List._∷_ (10, Rows'.any-gone (Syntax.tyStruct (List._∷_ 38 (List._∷_ 91 (List._∷_ 93 List.[]))) (Syntax.tcons (Syntax.tyRef Syntax.erased Syntax.mut ColumnMetadataRow.named) (Syntax.tcons (Syntax.tyInt Syntax.w64) Syntax.tnil)))) (List._∷_ (11, Rows'.any-gone (Syntax.tyRef Syntax.erased Syntax.mut (Syntax.tyInt Syntax.w8))) (List._∷_ (12, Rows'.any-gone (Syntax.tyStruct (List._∷_ 38 (List._∷_ 91 (List._∷_ 93 List.[]))) (Syntax.tcons (Syntax.tyRef Syntax.erased Syntax.mut (Syntax.tyInt Syntax.w8)) (Syntax.tcons (Syntax.tyInt Syntax.w64) Syntax.tnil)))) (List._∷_ (13, Rows'.any-gone (Syntax.tyRef Syntax.erased Syntax.mut (Syntax.tyInt Syntax.w8))) (List._∷_ (14, Rows'.any-gone (Syntax.tyStruct (List._∷_ 38 (List._∷_ 91 (List._∷_ 93 List.[]))) (Syntax.tcons (Syntax.tyRef Syntax.erased Syntax.mut (Syntax.tyInt Syntax.w8)) (Syntax.tcons (Syntax.tyInt Syntax.w64) Syntax.tnil)))) (List._∷_ (15, Rows'.any-gone (Syntax.tyRef Syntax.erased Syntax.imm (Syntax.tyArray ColumnMetadataRow.named 4096))) List.[])))))))))))))))
 
 abbrev pub t4 : List.List Row.Entry
-t4 = List._∷_ (0, Rows'.any-gone (Syntax.tyInt Syntax.w64)) (List._∷_ (1, Mut.mslice (Referent.rtF (Referent.fInt Syntax.w8)) (Syntax.tyRef (Syntax.named 0) Syntax.mut (Syntax.tyInt Syntax.w8)) 0) (List._∷_ (2, Rows'.sc-here (Row.sInt Syntax.w64)) (List._∷_ (3, Rows'.sslice (Referent.rtF (Referent.fInt Syntax.w8)) (Syntax.tyRef (Syntax.named 1) Syntax.imm (Syntax.tyInt Syntax.w8)) 1) (List._∷_ (4, ColumnMetadataRow.row) (List._∷_ (5, Rows'.whole (Array'.Array (ColumnMetadataRow.RT) 4096)) (List._∷_ (6, Rows'.any-gone (Syntax.tyStruct (List._∷_ 115 (List._∷_ 113 (List._∷_ 108 (List._∷_ 100 (List._∷_ 97 (List._∷_ 114 (List._∷_ 100 (List._∷_ 58 (List._∷_ 58 (List._∷_ 83 (List._∷_ 113 (List._∷_ 108 (List._∷_ 100 (List._∷_ 97 (List._∷_ 114 (List._∷_ 100 (List._∷_ 65 (List._∷_ 110 (List._∷_ 115 (List._∷_ 119 (List._∷_ 101 (List._∷_ 114 List.[])))))))))))))))))))))) (Syntax.tcons (Syntax.tyEnum (List._∷_ 111 (List._∷_ 117 (List._∷_ 116 (List._∷_ 99 (List._∷_ 111 (List._∷_ 109 (List._∷_ 101 (List._∷_ 58 (List._∷_ 58 (List._∷_ 79 (List._∷_ 117 (List._∷_ 116 (List._∷_ 99 (List._∷_ 111 (List._∷_ 109 (List._∷_ 101 List.[])))))))))))))))) (Syntax.ttcons Syntax.tnil (Syntax.ttcons Syntax.tnil (Syntax.ttcons (Syntax.tcons (Syntax.tyInt Syntax.w64) (Syntax.tcons (Syntax.tyInt Syntax.w64) Syntax.tnil)) (Syntax.ttcons Syntax.tnil (Syntax.ttcons (Syntax.tcons (Syntax.tyInt Syntax.w16) Syntax.tnil) (Syntax.ttcons Syntax.tnil (Syntax.ttcons (Syntax.tcons (Syntax.tyInt Syntax.w64) Syntax.tnil) (Syntax.ttcons Syntax.tnil Syntax.ttnil))))))))) (Syntax.tcons (Syntax.tyStruct (List._∷_ 115 (List._∷_ 113 (List._∷_ 108 (List._∷_ 99 (List._∷_ 97 (List._∷_ 114 (List._∷_ 100 (List._∷_ 58 (List._∷_ 58 (List._∷_ 83 (List._∷_ 113 (List._∷_ 108 (List._∷_ 67 (List._∷_ 97 (List._∷_ 114 (List._∷_ 100 List.[])))))))))))))))) (Syntax.tcons Syntax.tyBool (Syntax.tcons (Syntax.tyInt Syntax.w32) (Syntax.tcons (Syntax.tyArray (Syntax.tyInt Syntax.w8) 5) (Syntax.tcons (Syntax.tyArray (Syntax.tyInt Syntax.w8) 8) (Syntax.tcons (Syntax.tyInt Syntax.w8) (Syntax.tcons (Syntax.tyArray (Syntax.tyInt Syntax.w32) 6) (Syntax.tcons (Syntax.tyInt Syntax.w64) (Syntax.tcons (Syntax.tyInt Syntax.w32) (Syntax.tcons (Syntax.tyArray (Syntax.tyInt Syntax.w8) 11) (Syntax.tcons (Syntax.tyInt Syntax.w64) (Syntax.tcons (Syntax.tyInt Syntax.w64) Syntax.tnil)))))))))))) (Syntax.tcons (Syntax.tyInt Syntax.w64) Syntax.tnil))))) (List._∷_ (7, Rows'.any-gone (Syntax.tyInt Syntax.w64)) (List._∷_ (8, Rows'.any-gone (Syntax.tyInt Syntax.w64)) (List._∷_ (9, Rows'.any-gone (Syntax.tyRef Syntax.erased Syntax.mut (Syntax.tyArray ColumnMetadataRow.named 4096))) (List._∷_ (10, Rows'.any-gone (Syntax.tyStruct (List._∷_ 38 (List._∷_ 91 (List._∷_ 93 List.[]))) (Syntax.tcons (Syntax.tyRef Syntax.erased Syntax.mut ColumnMetadataRow.named) (Syntax.tcons (Syntax.tyInt Syntax.w64) Syntax.tnil)))) (List._∷_ (11, Rows'.any-gone (Syntax.tyRef Syntax.erased Syntax.mut (Syntax.tyInt Syntax.w8))) (List._∷_ (12, Rows'.any-gone (Syntax.tyStruct (List._∷_ 38 (List._∷_ 91 (List._∷_ 93 List.[]))) (Syntax.tcons (Syntax.tyRef Syntax.erased Syntax.mut (Syntax.tyInt Syntax.w8)) (Syntax.tcons (Syntax.tyInt Syntax.w64) Syntax.tnil)))) (List._∷_ (13, Rows'.any-gone (Syntax.tyRef Syntax.erased Syntax.mut (Syntax.tyInt Syntax.w8))) (List._∷_ (14, Rows'.any-gone (Syntax.tyStruct (List._∷_ 38 (List._∷_ 91 (List._∷_ 93 List.[]))) (Syntax.tcons (Syntax.tyRef Syntax.erased Syntax.mut (Syntax.tyInt Syntax.w8)) (Syntax.tcons (Syntax.tyInt Syntax.w64) Syntax.tnil)))) (List._∷_ (15, Rows'.any-gone (Syntax.tyRef Syntax.erased Syntax.imm (Syntax.tyArray ColumnMetadataRow.named 4096))) List.[])))))))))))))))
+t4 = List._∷_ (0, Rows'.any-gone (Syntax.tyInt Syntax.w64)) (List._∷_ (1, Mut.mslice (Referent.rtF (Referent.fInt Syntax.w8)) (Syntax.tyRef (Syntax.named 0) Syntax.mut (Syntax.tyInt Syntax.w8)) 0) (List._∷_ (2, Rows'.sc-here (Row.sInt Syntax.w64)) (List._∷_ (3, Rows'.sslice (Referent.rtF (Referent.fInt Syntax.w8)) (Syntax.tyRef (Syntax.named 1) Syntax.imm (Syntax.tyInt Syntax.w8)) 1) (List._∷_ (4, ColumnMetadataRow.row) (List._∷_ (5, Rows'.whole (Array'.Array (ColumnMetadataRow.RT) 4096)) (List._∷_ (6, Rows'.any-gone (Syntax.tyStruct (List._∷_ 115 (List._∷_ 113 (List._∷_ 108 (List._∷_ 100 (List._∷_ 97 (List._∷_ 114 (List._∷_ 100 (List._∷_ 58 (List._∷_ 58 (List._∷_ 83 (List._∷_ 113 (List._∷_ 108 (List._∷_ 100 (List._∷_ 97 (List._∷_ 114 (List._∷_ 100 (List._∷_ 65 (List._∷_ 110 (List._∷_ 115 (List._∷_ 119 (List._∷_ 101 (List._∷_ 114 List.[])))))))))))))))))))))) (Syntax.tcons (Syntax.tyEnum (List._∷_ 111 (List._∷_ 117 (List._∷_ 116 (List._∷_ 99 (List._∷_ 111 (List._∷_ 109 (List._∷_ 101 (List._∷_ 58 (List._∷_ 58 (List._∷_ 79 (List._∷_ 117 (List._∷_ 116 (List._∷_ 99 (List._∷_ 111 (List._∷_ 109 (List._∷_ 101 List.[])))))))))))))))) (Syntax.ttcons Syntax.tnil (Syntax.ttcons Syntax.tnil (Syntax.ttcons (Syntax.tcons (Syntax.tyInt Syntax.w64) (Syntax.tcons (Syntax.tyInt Syntax.w64) Syntax.tnil)) (Syntax.ttcons Syntax.tnil (Syntax.ttcons (Syntax.tcons (Syntax.tyInt Syntax.w16) Syntax.tnil) (Syntax.ttcons Syntax.tnil (Syntax.ttcons (Syntax.tcons (Syntax.tyInt Syntax.w64) Syntax.tnil) (Syntax.ttcons Syntax.tnil (Syntax.ttcons (Syntax.tcons (Syntax.tyInt Syntax.w16) Syntax.tnil) Syntax.ttnil)))))))))) (Syntax.tcons (Syntax.tyStruct (List._∷_ 115 (List._∷_ 113 (List._∷_ 108 (List._∷_ 99 (List._∷_ 97 (List._∷_ 114 (List._∷_ 100 (List._∷_ 58 (List._∷_ 58 (List._∷_ 83 (List._∷_ 113 (List._∷_ 108 (List._∷_ 67 (List._∷_ 97 (List._∷_ 114 (List._∷_ 100 List.[])))))))))))))))) (Syntax.tcons Syntax.tyBool (Syntax.tcons (Syntax.tyInt Syntax.w32) (Syntax.tcons (Syntax.tyArray (Syntax.tyInt Syntax.w8) 5) (Syntax.tcons (Syntax.tyArray (Syntax.tyInt Syntax.w8) 8) (Syntax.tcons (Syntax.tyInt Syntax.w8) (Syntax.tcons (Syntax.tyArray (Syntax.tyInt Syntax.w32) 6) (Syntax.tcons (Syntax.tyInt Syntax.w64) (Syntax.tcons (Syntax.tyInt Syntax.w32) (Syntax.tcons (Syntax.tyArray (Syntax.tyInt Syntax.w8) 11) (Syntax.tcons (Syntax.tyInt Syntax.w64) (Syntax.tcons (Syntax.tyInt Syntax.w64) Syntax.tnil)))))))))))) (Syntax.tcons (Syntax.tyInt Syntax.w64) Syntax.tnil))))) (List._∷_ (7, Rows'.any-gone (Syntax.tyInt Syntax.w64)) (List._∷_ (8, Rows'.any-gone (Syntax.tyInt Syntax.w64)) (List._∷_ (9, Rows'.any-gone (Syntax.tyRef Syntax.erased Syntax.mut (Syntax.tyArray ColumnMetadataRow.named 4096))) (List._∷_ (10, Rows'.any-gone (Syntax.tyStruct (List._∷_ 38 (List._∷_ 91 (List._∷_ 93 List.[]))) (Syntax.tcons (Syntax.tyRef Syntax.erased Syntax.mut ColumnMetadataRow.named) (Syntax.tcons (Syntax.tyInt Syntax.w64) Syntax.tnil)))) (List._∷_ (11, Rows'.any-gone (Syntax.tyRef Syntax.erased Syntax.mut (Syntax.tyInt Syntax.w8))) (List._∷_ (12, Rows'.any-gone (Syntax.tyStruct (List._∷_ 38 (List._∷_ 91 (List._∷_ 93 List.[]))) (Syntax.tcons (Syntax.tyRef Syntax.erased Syntax.mut (Syntax.tyInt Syntax.w8)) (Syntax.tcons (Syntax.tyInt Syntax.w64) Syntax.tnil)))) (List._∷_ (13, Rows'.any-gone (Syntax.tyRef Syntax.erased Syntax.mut (Syntax.tyInt Syntax.w8))) (List._∷_ (14, Rows'.any-gone (Syntax.tyStruct (List._∷_ 38 (List._∷_ 91 (List._∷_ 93 List.[]))) (Syntax.tcons (Syntax.tyRef Syntax.erased Syntax.mut (Syntax.tyInt Syntax.w8)) (Syntax.tcons (Syntax.tyInt Syntax.w64) Syntax.tnil)))) (List._∷_ (15, Rows'.any-gone (Syntax.tyRef Syntax.erased Syntax.imm (Syntax.tyArray ColumnMetadataRow.named 4096))) List.[])))))))))))))))
 
 abbrev pub t5 : List.List Row.Entry
-t5 = List._∷_ (0, Rows'.any-gone (Syntax.tyInt Syntax.w64)) (List._∷_ (1, Mut.mslice (Referent.rtF (Referent.fInt Syntax.w8)) (Syntax.tyRef (Syntax.named 0) Syntax.mut (Syntax.tyInt Syntax.w8)) 0) (List._∷_ (2, Rows'.sc-here (Row.sInt Syntax.w64)) (List._∷_ (3, Rows'.sslice (Referent.rtF (Referent.fInt Syntax.w8)) (Syntax.tyRef (Syntax.named 1) Syntax.imm (Syntax.tyInt Syntax.w8)) 1) (List._∷_ (4, ColumnMetadataRow.row) (List._∷_ (5, Rows.arrF (ColumnMetadataRow.RT) 4096 0) (List._∷_ (6, Rows'.any-gone (Syntax.tyStruct (List._∷_ 115 (List._∷_ 113 (List._∷_ 108 (List._∷_ 100 (List._∷_ 97 (List._∷_ 114 (List._∷_ 100 (List._∷_ 58 (List._∷_ 58 (List._∷_ 83 (List._∷_ 113 (List._∷_ 108 (List._∷_ 100 (List._∷_ 97 (List._∷_ 114 (List._∷_ 100 (List._∷_ 65 (List._∷_ 110 (List._∷_ 115 (List._∷_ 119 (List._∷_ 101 (List._∷_ 114 List.[])))))))))))))))))))))) (Syntax.tcons (Syntax.tyEnum (List._∷_ 111 (List._∷_ 117 (List._∷_ 116 (List._∷_ 99 (List._∷_ 111 (List._∷_ 109 (List._∷_ 101 (List._∷_ 58 (List._∷_ 58 (List._∷_ 79 (List._∷_ 117 (List._∷_ 116 (List._∷_ 99 (List._∷_ 111 (List._∷_ 109 (List._∷_ 101 List.[])))))))))))))))) (Syntax.ttcons Syntax.tnil (Syntax.ttcons Syntax.tnil (Syntax.ttcons (Syntax.tcons (Syntax.tyInt Syntax.w64) (Syntax.tcons (Syntax.tyInt Syntax.w64) Syntax.tnil)) (Syntax.ttcons Syntax.tnil (Syntax.ttcons (Syntax.tcons (Syntax.tyInt Syntax.w16) Syntax.tnil) (Syntax.ttcons Syntax.tnil (Syntax.ttcons (Syntax.tcons (Syntax.tyInt Syntax.w64) Syntax.tnil) (Syntax.ttcons Syntax.tnil Syntax.ttnil))))))))) (Syntax.tcons (Syntax.tyStruct (List._∷_ 115 (List._∷_ 113 (List._∷_ 108 (List._∷_ 99 (List._∷_ 97 (List._∷_ 114 (List._∷_ 100 (List._∷_ 58 (List._∷_ 58 (List._∷_ 83 (List._∷_ 113 (List._∷_ 108 (List._∷_ 67 (List._∷_ 97 (List._∷_ 114 (List._∷_ 100 List.[])))))))))))))))) (Syntax.tcons Syntax.tyBool (Syntax.tcons (Syntax.tyInt Syntax.w32) (Syntax.tcons (Syntax.tyArray (Syntax.tyInt Syntax.w8) 5) (Syntax.tcons (Syntax.tyArray (Syntax.tyInt Syntax.w8) 8) (Syntax.tcons (Syntax.tyInt Syntax.w8) (Syntax.tcons (Syntax.tyArray (Syntax.tyInt Syntax.w32) 6) (Syntax.tcons (Syntax.tyInt Syntax.w64) (Syntax.tcons (Syntax.tyInt Syntax.w32) (Syntax.tcons (Syntax.tyArray (Syntax.tyInt Syntax.w8) 11) (Syntax.tcons (Syntax.tyInt Syntax.w64) (Syntax.tcons (Syntax.tyInt Syntax.w64) Syntax.tnil)))))))))))) (Syntax.tcons (Syntax.tyInt Syntax.w64) Syntax.tnil))))) (List._∷_ (7, Rows'.any-gone (Syntax.tyInt Syntax.w64)) (List._∷_ (8, Rows'.any-gone (Syntax.tyInt Syntax.w64)) (List._∷_ (9, Rows'.any-gone (Syntax.tyRef Syntax.erased Syntax.mut (Syntax.tyArray ColumnMetadataRow.named 4096))) (List._∷_ (10, Rows'.any-gone (Syntax.tyStruct (List._∷_ 38 (List._∷_ 91 (List._∷_ 93 List.[]))) (Syntax.tcons (Syntax.tyRef Syntax.erased Syntax.mut ColumnMetadataRow.named) (Syntax.tcons (Syntax.tyInt Syntax.w64) Syntax.tnil)))) (List._∷_ (11, Rows'.any-gone (Syntax.tyRef Syntax.erased Syntax.mut (Syntax.tyInt Syntax.w8))) (List._∷_ (12, Rows'.any-gone (Syntax.tyStruct (List._∷_ 38 (List._∷_ 91 (List._∷_ 93 List.[]))) (Syntax.tcons (Syntax.tyRef Syntax.erased Syntax.mut (Syntax.tyInt Syntax.w8)) (Syntax.tcons (Syntax.tyInt Syntax.w64) Syntax.tnil)))) (List._∷_ (13, Rows'.any-gone (Syntax.tyRef Syntax.erased Syntax.mut (Syntax.tyInt Syntax.w8))) (List._∷_ (14, Rows'.any-gone (Syntax.tyStruct (List._∷_ 38 (List._∷_ 91 (List._∷_ 93 List.[]))) (Syntax.tcons (Syntax.tyRef Syntax.erased Syntax.mut (Syntax.tyInt Syntax.w8)) (Syntax.tcons (Syntax.tyInt Syntax.w64) Syntax.tnil)))) (List._∷_ (15, Rows'.any-gone (Syntax.tyRef Syntax.erased Syntax.imm (Syntax.tyArray ColumnMetadataRow.named 4096))) List.[])))))))))))))))
+t5 = List._∷_ (0, Rows'.any-gone (Syntax.tyInt Syntax.w64)) (List._∷_ (1, Mut.mslice (Referent.rtF (Referent.fInt Syntax.w8)) (Syntax.tyRef (Syntax.named 0) Syntax.mut (Syntax.tyInt Syntax.w8)) 0) (List._∷_ (2, Rows'.sc-here (Row.sInt Syntax.w64)) (List._∷_ (3, Rows'.sslice (Referent.rtF (Referent.fInt Syntax.w8)) (Syntax.tyRef (Syntax.named 1) Syntax.imm (Syntax.tyInt Syntax.w8)) 1) (List._∷_ (4, ColumnMetadataRow.row) (List._∷_ (5, Rows.arrF (ColumnMetadataRow.RT) 4096 0) (List._∷_ (6, Rows'.any-gone (Syntax.tyStruct (List._∷_ 115 (List._∷_ 113 (List._∷_ 108 (List._∷_ 100 (List._∷_ 97 (List._∷_ 114 (List._∷_ 100 (List._∷_ 58 (List._∷_ 58 (List._∷_ 83 (List._∷_ 113 (List._∷_ 108 (List._∷_ 100 (List._∷_ 97 (List._∷_ 114 (List._∷_ 100 (List._∷_ 65 (List._∷_ 110 (List._∷_ 115 (List._∷_ 119 (List._∷_ 101 (List._∷_ 114 List.[])))))))))))))))))))))) (Syntax.tcons (Syntax.tyEnum (List._∷_ 111 (List._∷_ 117 (List._∷_ 116 (List._∷_ 99 (List._∷_ 111 (List._∷_ 109 (List._∷_ 101 (List._∷_ 58 (List._∷_ 58 (List._∷_ 79 (List._∷_ 117 (List._∷_ 116 (List._∷_ 99 (List._∷_ 111 (List._∷_ 109 (List._∷_ 101 List.[])))))))))))))))) (Syntax.ttcons Syntax.tnil (Syntax.ttcons Syntax.tnil (Syntax.ttcons (Syntax.tcons (Syntax.tyInt Syntax.w64) (Syntax.tcons (Syntax.tyInt Syntax.w64) Syntax.tnil)) (Syntax.ttcons Syntax.tnil (Syntax.ttcons (Syntax.tcons (Syntax.tyInt Syntax.w16) Syntax.tnil) (Syntax.ttcons Syntax.tnil (Syntax.ttcons (Syntax.tcons (Syntax.tyInt Syntax.w64) Syntax.tnil) (Syntax.ttcons Syntax.tnil (Syntax.ttcons (Syntax.tcons (Syntax.tyInt Syntax.w16) Syntax.tnil) Syntax.ttnil)))))))))) (Syntax.tcons (Syntax.tyStruct (List._∷_ 115 (List._∷_ 113 (List._∷_ 108 (List._∷_ 99 (List._∷_ 97 (List._∷_ 114 (List._∷_ 100 (List._∷_ 58 (List._∷_ 58 (List._∷_ 83 (List._∷_ 113 (List._∷_ 108 (List._∷_ 67 (List._∷_ 97 (List._∷_ 114 (List._∷_ 100 List.[])))))))))))))))) (Syntax.tcons Syntax.tyBool (Syntax.tcons (Syntax.tyInt Syntax.w32) (Syntax.tcons (Syntax.tyArray (Syntax.tyInt Syntax.w8) 5) (Syntax.tcons (Syntax.tyArray (Syntax.tyInt Syntax.w8) 8) (Syntax.tcons (Syntax.tyInt Syntax.w8) (Syntax.tcons (Syntax.tyArray (Syntax.tyInt Syntax.w32) 6) (Syntax.tcons (Syntax.tyInt Syntax.w64) (Syntax.tcons (Syntax.tyInt Syntax.w32) (Syntax.tcons (Syntax.tyArray (Syntax.tyInt Syntax.w8) 11) (Syntax.tcons (Syntax.tyInt Syntax.w64) (Syntax.tcons (Syntax.tyInt Syntax.w64) Syntax.tnil)))))))))))) (Syntax.tcons (Syntax.tyInt Syntax.w64) Syntax.tnil))))) (List._∷_ (7, Rows'.any-gone (Syntax.tyInt Syntax.w64)) (List._∷_ (8, Rows'.any-gone (Syntax.tyInt Syntax.w64)) (List._∷_ (9, Rows'.any-gone (Syntax.tyRef Syntax.erased Syntax.mut (Syntax.tyArray ColumnMetadataRow.named 4096))) (List._∷_ (10, Rows'.any-gone (Syntax.tyStruct (List._∷_ 38 (List._∷_ 91 (List._∷_ 93 List.[]))) (Syntax.tcons (Syntax.tyRef Syntax.erased Syntax.mut ColumnMetadataRow.named) (Syntax.tcons (Syntax.tyInt Syntax.w64) Syntax.tnil)))) (List._∷_ (11, Rows'.any-gone (Syntax.tyRef Syntax.erased Syntax.mut (Syntax.tyInt Syntax.w8))) (List._∷_ (12, Rows'.any-gone (Syntax.tyStruct (List._∷_ 38 (List._∷_ 91 (List._∷_ 93 List.[]))) (Syntax.tcons (Syntax.tyRef Syntax.erased Syntax.mut (Syntax.tyInt Syntax.w8)) (Syntax.tcons (Syntax.tyInt Syntax.w64) Syntax.tnil)))) (List._∷_ (13, Rows'.any-gone (Syntax.tyRef Syntax.erased Syntax.mut (Syntax.tyInt Syntax.w8))) (List._∷_ (14, Rows'.any-gone (Syntax.tyStruct (List._∷_ 38 (List._∷_ 91 (List._∷_ 93 List.[]))) (Syntax.tcons (Syntax.tyRef Syntax.erased Syntax.mut (Syntax.tyInt Syntax.w8)) (Syntax.tcons (Syntax.tyInt Syntax.w64) Syntax.tnil)))) (List._∷_ (15, Rows'.any-gone (Syntax.tyRef Syntax.erased Syntax.imm (Syntax.tyArray ColumnMetadataRow.named 4096))) List.[])))))))))))))))
 
 abbrev pub t6 : List.List Row.Entry
-t6 = List._∷_ (0, Rows'.any-gone (Syntax.tyInt Syntax.w64)) (List._∷_ (1, Mut.mslice (Referent.rtF (Referent.fInt Syntax.w8)) (Syntax.tyRef (Syntax.named 0) Syntax.mut (Syntax.tyInt Syntax.w8)) 0) (List._∷_ (2, Rows'.sc-here (Row.sInt Syntax.w64)) (List._∷_ (3, Rows'.sslice (Referent.rtF (Referent.fInt Syntax.w8)) (Syntax.tyRef (Syntax.named 1) Syntax.imm (Syntax.tyInt Syntax.w8)) 1) (List._∷_ (4, Rows'.any-gone (ColumnMetadataRow.ty)) (List._∷_ (5, Rows.arrF (ColumnMetadataRow.RT) 4096 0) (List._∷_ (6, Rows'.any-gone (Syntax.tyStruct (List._∷_ 115 (List._∷_ 113 (List._∷_ 108 (List._∷_ 100 (List._∷_ 97 (List._∷_ 114 (List._∷_ 100 (List._∷_ 58 (List._∷_ 58 (List._∷_ 83 (List._∷_ 113 (List._∷_ 108 (List._∷_ 100 (List._∷_ 97 (List._∷_ 114 (List._∷_ 100 (List._∷_ 65 (List._∷_ 110 (List._∷_ 115 (List._∷_ 119 (List._∷_ 101 (List._∷_ 114 List.[])))))))))))))))))))))) (Syntax.tcons (Syntax.tyEnum (List._∷_ 111 (List._∷_ 117 (List._∷_ 116 (List._∷_ 99 (List._∷_ 111 (List._∷_ 109 (List._∷_ 101 (List._∷_ 58 (List._∷_ 58 (List._∷_ 79 (List._∷_ 117 (List._∷_ 116 (List._∷_ 99 (List._∷_ 111 (List._∷_ 109 (List._∷_ 101 List.[])))))))))))))))) (Syntax.ttcons Syntax.tnil (Syntax.ttcons Syntax.tnil (Syntax.ttcons (Syntax.tcons (Syntax.tyInt Syntax.w64) (Syntax.tcons (Syntax.tyInt Syntax.w64) Syntax.tnil)) (Syntax.ttcons Syntax.tnil (Syntax.ttcons (Syntax.tcons (Syntax.tyInt Syntax.w16) Syntax.tnil) (Syntax.ttcons Syntax.tnil (Syntax.ttcons (Syntax.tcons (Syntax.tyInt Syntax.w64) Syntax.tnil) (Syntax.ttcons Syntax.tnil Syntax.ttnil))))))))) (Syntax.tcons (Syntax.tyStruct (List._∷_ 115 (List._∷_ 113 (List._∷_ 108 (List._∷_ 99 (List._∷_ 97 (List._∷_ 114 (List._∷_ 100 (List._∷_ 58 (List._∷_ 58 (List._∷_ 83 (List._∷_ 113 (List._∷_ 108 (List._∷_ 67 (List._∷_ 97 (List._∷_ 114 (List._∷_ 100 List.[])))))))))))))))) (Syntax.tcons Syntax.tyBool (Syntax.tcons (Syntax.tyInt Syntax.w32) (Syntax.tcons (Syntax.tyArray (Syntax.tyInt Syntax.w8) 5) (Syntax.tcons (Syntax.tyArray (Syntax.tyInt Syntax.w8) 8) (Syntax.tcons (Syntax.tyInt Syntax.w8) (Syntax.tcons (Syntax.tyArray (Syntax.tyInt Syntax.w32) 6) (Syntax.tcons (Syntax.tyInt Syntax.w64) (Syntax.tcons (Syntax.tyInt Syntax.w32) (Syntax.tcons (Syntax.tyArray (Syntax.tyInt Syntax.w8) 11) (Syntax.tcons (Syntax.tyInt Syntax.w64) (Syntax.tcons (Syntax.tyInt Syntax.w64) Syntax.tnil)))))))))))) (Syntax.tcons (Syntax.tyInt Syntax.w64) Syntax.tnil))))) (List._∷_ (7, Rows'.any-gone (Syntax.tyInt Syntax.w64)) (List._∷_ (8, Rows'.any-gone (Syntax.tyInt Syntax.w64)) (List._∷_ (9, Rows'.any-gone (Syntax.tyRef Syntax.erased Syntax.mut (Syntax.tyArray ColumnMetadataRow.named 4096))) (List._∷_ (10, Rows'.any-gone (Syntax.tyStruct (List._∷_ 38 (List._∷_ 91 (List._∷_ 93 List.[]))) (Syntax.tcons (Syntax.tyRef Syntax.erased Syntax.mut ColumnMetadataRow.named) (Syntax.tcons (Syntax.tyInt Syntax.w64) Syntax.tnil)))) (List._∷_ (11, Rows'.any-gone (Syntax.tyRef Syntax.erased Syntax.mut (Syntax.tyInt Syntax.w8))) (List._∷_ (12, Rows'.any-gone (Syntax.tyStruct (List._∷_ 38 (List._∷_ 91 (List._∷_ 93 List.[]))) (Syntax.tcons (Syntax.tyRef Syntax.erased Syntax.mut (Syntax.tyInt Syntax.w8)) (Syntax.tcons (Syntax.tyInt Syntax.w64) Syntax.tnil)))) (List._∷_ (13, Rows'.any-gone (Syntax.tyRef Syntax.erased Syntax.mut (Syntax.tyInt Syntax.w8))) (List._∷_ (14, Rows'.any-gone (Syntax.tyStruct (List._∷_ 38 (List._∷_ 91 (List._∷_ 93 List.[]))) (Syntax.tcons (Syntax.tyRef Syntax.erased Syntax.mut (Syntax.tyInt Syntax.w8)) (Syntax.tcons (Syntax.tyInt Syntax.w64) Syntax.tnil)))) (List._∷_ (15, Rows'.any-gone (Syntax.tyRef Syntax.erased Syntax.imm (Syntax.tyArray ColumnMetadataRow.named 4096))) List.[])))))))))))))))
+t6 = List._∷_ (0, Rows'.any-gone (Syntax.tyInt Syntax.w64)) (List._∷_ (1, Mut.mslice (Referent.rtF (Referent.fInt Syntax.w8)) (Syntax.tyRef (Syntax.named 0) Syntax.mut (Syntax.tyInt Syntax.w8)) 0) (List._∷_ (2, Rows'.sc-here (Row.sInt Syntax.w64)) (List._∷_ (3, Rows'.sslice (Referent.rtF (Referent.fInt Syntax.w8)) (Syntax.tyRef (Syntax.named 1) Syntax.imm (Syntax.tyInt Syntax.w8)) 1) (List._∷_ (4, Rows'.any-gone (ColumnMetadataRow.ty)) (List._∷_ (5, Rows.arrF (ColumnMetadataRow.RT) 4096 0) (List._∷_ (6, Rows'.any-gone (Syntax.tyStruct (List._∷_ 115 (List._∷_ 113 (List._∷_ 108 (List._∷_ 100 (List._∷_ 97 (List._∷_ 114 (List._∷_ 100 (List._∷_ 58 (List._∷_ 58 (List._∷_ 83 (List._∷_ 113 (List._∷_ 108 (List._∷_ 100 (List._∷_ 97 (List._∷_ 114 (List._∷_ 100 (List._∷_ 65 (List._∷_ 110 (List._∷_ 115 (List._∷_ 119 (List._∷_ 101 (List._∷_ 114 List.[])))))))))))))))))))))) (Syntax.tcons (Syntax.tyEnum (List._∷_ 111 (List._∷_ 117 (List._∷_ 116 (List._∷_ 99 (List._∷_ 111 (List._∷_ 109 (List._∷_ 101 (List._∷_ 58 (List._∷_ 58 (List._∷_ 79 (List._∷_ 117 (List._∷_ 116 (List._∷_ 99 (List._∷_ 111 (List._∷_ 109 (List._∷_ 101 List.[])))))))))))))))) (Syntax.ttcons Syntax.tnil (Syntax.ttcons Syntax.tnil (Syntax.ttcons (Syntax.tcons (Syntax.tyInt Syntax.w64) (Syntax.tcons (Syntax.tyInt Syntax.w64) Syntax.tnil)) (Syntax.ttcons Syntax.tnil (Syntax.ttcons (Syntax.tcons (Syntax.tyInt Syntax.w16) Syntax.tnil) (Syntax.ttcons Syntax.tnil (Syntax.ttcons (Syntax.tcons (Syntax.tyInt Syntax.w64) Syntax.tnil) (Syntax.ttcons Syntax.tnil (Syntax.ttcons (Syntax.tcons (Syntax.tyInt Syntax.w16) Syntax.tnil) Syntax.ttnil)))))))))) (Syntax.tcons (Syntax.tyStruct (List._∷_ 115 (List._∷_ 113 (List._∷_ 108 (List._∷_ 99 (List._∷_ 97 (List._∷_ 114 (List._∷_ 100 (List._∷_ 58 (List._∷_ 58 (List._∷_ 83 (List._∷_ 113 (List._∷_ 108 (List._∷_ 67 (List._∷_ 97 (List._∷_ 114 (List._∷_ 100 List.[])))))))))))))))) (Syntax.tcons Syntax.tyBool (Syntax.tcons (Syntax.tyInt Syntax.w32) (Syntax.tcons (Syntax.tyArray (Syntax.tyInt Syntax.w8) 5) (Syntax.tcons (Syntax.tyArray (Syntax.tyInt Syntax.w8) 8) (Syntax.tcons (Syntax.tyInt Syntax.w8) (Syntax.tcons (Syntax.tyArray (Syntax.tyInt Syntax.w32) 6) (Syntax.tcons (Syntax.tyInt Syntax.w64) (Syntax.tcons (Syntax.tyInt Syntax.w32) (Syntax.tcons (Syntax.tyArray (Syntax.tyInt Syntax.w8) 11) (Syntax.tcons (Syntax.tyInt Syntax.w64) (Syntax.tcons (Syntax.tyInt Syntax.w64) Syntax.tnil)))))))))))) (Syntax.tcons (Syntax.tyInt Syntax.w64) Syntax.tnil))))) (List._∷_ (7, Rows'.any-gone (Syntax.tyInt Syntax.w64)) (List._∷_ (8, Rows'.any-gone (Syntax.tyInt Syntax.w64)) (List._∷_ (9, Rows'.any-gone (Syntax.tyRef Syntax.erased Syntax.mut (Syntax.tyArray ColumnMetadataRow.named 4096))) (List._∷_ (10, Rows'.any-gone (Syntax.tyStruct (List._∷_ 38 (List._∷_ 91 (List._∷_ 93 List.[]))) (Syntax.tcons (Syntax.tyRef Syntax.erased Syntax.mut ColumnMetadataRow.named) (Syntax.tcons (Syntax.tyInt Syntax.w64) Syntax.tnil)))) (List._∷_ (11, Rows'.any-gone (Syntax.tyRef Syntax.erased Syntax.mut (Syntax.tyInt Syntax.w8))) (List._∷_ (12, Rows'.any-gone (Syntax.tyStruct (List._∷_ 38 (List._∷_ 91 (List._∷_ 93 List.[]))) (Syntax.tcons (Syntax.tyRef Syntax.erased Syntax.mut (Syntax.tyInt Syntax.w8)) (Syntax.tcons (Syntax.tyInt Syntax.w64) Syntax.tnil)))) (List._∷_ (13, Rows'.any-gone (Syntax.tyRef Syntax.erased Syntax.mut (Syntax.tyInt Syntax.w8))) (List._∷_ (14, Rows'.any-gone (Syntax.tyStruct (List._∷_ 38 (List._∷_ 91 (List._∷_ 93 List.[]))) (Syntax.tcons (Syntax.tyRef Syntax.erased Syntax.mut (Syntax.tyInt Syntax.w8)) (Syntax.tcons (Syntax.tyInt Syntax.w64) Syntax.tnil)))) (List._∷_ (15, Rows'.any-gone (Syntax.tyRef Syntax.erased Syntax.imm (Syntax.tyArray ColumnMetadataRow.named 4096))) List.[])))))))))))))))
 
 abbrev pub t7 : List.List Row.Entry
-t7 = List._∷_ (0, Rows'.any-gone (Syntax.tyInt Syntax.w64)) (List._∷_ (1, Mut.mslice (Referent.rtF (Referent.fInt Syntax.w8)) (Syntax.tyRef (Syntax.named 0) Syntax.mut (Syntax.tyInt Syntax.w8)) 0) (List._∷_ (2, Rows'.sc-here (Row.sInt Syntax.w64)) (List._∷_ (3, Rows'.sslice (Referent.rtF (Referent.fInt Syntax.w8)) (Syntax.tyRef (Syntax.named 1) Syntax.imm (Syntax.tyInt Syntax.w8)) 1) (List._∷_ (4, Rows'.any-gone (ColumnMetadataRow.ty)) (List._∷_ (5, Rows.arr-owed (ColumnMetadataRow.RT) 4096 2) (List._∷_ (6, Rows'.any-gone (Syntax.tyStruct (List._∷_ 115 (List._∷_ 113 (List._∷_ 108 (List._∷_ 100 (List._∷_ 97 (List._∷_ 114 (List._∷_ 100 (List._∷_ 58 (List._∷_ 58 (List._∷_ 83 (List._∷_ 113 (List._∷_ 108 (List._∷_ 100 (List._∷_ 97 (List._∷_ 114 (List._∷_ 100 (List._∷_ 65 (List._∷_ 110 (List._∷_ 115 (List._∷_ 119 (List._∷_ 101 (List._∷_ 114 List.[])))))))))))))))))))))) (Syntax.tcons (Syntax.tyEnum (List._∷_ 111 (List._∷_ 117 (List._∷_ 116 (List._∷_ 99 (List._∷_ 111 (List._∷_ 109 (List._∷_ 101 (List._∷_ 58 (List._∷_ 58 (List._∷_ 79 (List._∷_ 117 (List._∷_ 116 (List._∷_ 99 (List._∷_ 111 (List._∷_ 109 (List._∷_ 101 List.[])))))))))))))))) (Syntax.ttcons Syntax.tnil (Syntax.ttcons Syntax.tnil (Syntax.ttcons (Syntax.tcons (Syntax.tyInt Syntax.w64) (Syntax.tcons (Syntax.tyInt Syntax.w64) Syntax.tnil)) (Syntax.ttcons Syntax.tnil (Syntax.ttcons (Syntax.tcons (Syntax.tyInt Syntax.w16) Syntax.tnil) (Syntax.ttcons Syntax.tnil (Syntax.ttcons (Syntax.tcons (Syntax.tyInt Syntax.w64) Syntax.tnil) (Syntax.ttcons Syntax.tnil Syntax.ttnil))))))))) (Syntax.tcons (Syntax.tyStruct (List._∷_ 115 (List._∷_ 113 (List._∷_ 108 (List._∷_ 99 (List._∷_ 97 (List._∷_ 114 (List._∷_ 100 (List._∷_ 58 (List._∷_ 58 (List._∷_ 83 (List._∷_ 113 (List._∷_ 108 (List._∷_ 67 (List._∷_ 97 (List._∷_ 114 (List._∷_ 100 List.[])))))))))))))))) (Syntax.tcons Syntax.tyBool (Syntax.tcons (Syntax.tyInt Syntax.w32) (Syntax.tcons (Syntax.tyArray (Syntax.tyInt Syntax.w8) 5) (Syntax.tcons (Syntax.tyArray (Syntax.tyInt Syntax.w8) 8) (Syntax.tcons (Syntax.tyInt Syntax.w8) (Syntax.tcons (Syntax.tyArray (Syntax.tyInt Syntax.w32) 6) (Syntax.tcons (Syntax.tyInt Syntax.w64) (Syntax.tcons (Syntax.tyInt Syntax.w32) (Syntax.tcons (Syntax.tyArray (Syntax.tyInt Syntax.w8) 11) (Syntax.tcons (Syntax.tyInt Syntax.w64) (Syntax.tcons (Syntax.tyInt Syntax.w64) Syntax.tnil)))))))))))) (Syntax.tcons (Syntax.tyInt Syntax.w64) Syntax.tnil))))) (List._∷_ (7, Rows'.any-gone (Syntax.tyInt Syntax.w64)) (List._∷_ (8, Rows'.any-gone (Syntax.tyInt Syntax.w64)) (List._∷_ (9, Relend.msptr (ColumnMetadataRow.RT) (Syntax.tyRef Syntax.erased Syntax.mut (Syntax.tyArray ColumnMetadataRow.named 4096)) 2) (List._∷_ (10, Rows'.any-gone (Syntax.tyStruct (List._∷_ 38 (List._∷_ 91 (List._∷_ 93 List.[]))) (Syntax.tcons (Syntax.tyRef Syntax.erased Syntax.mut ColumnMetadataRow.named) (Syntax.tcons (Syntax.tyInt Syntax.w64) Syntax.tnil)))) (List._∷_ (11, Rows'.any-gone (Syntax.tyRef Syntax.erased Syntax.mut (Syntax.tyInt Syntax.w8))) (List._∷_ (12, Rows'.any-gone (Syntax.tyStruct (List._∷_ 38 (List._∷_ 91 (List._∷_ 93 List.[]))) (Syntax.tcons (Syntax.tyRef Syntax.erased Syntax.mut (Syntax.tyInt Syntax.w8)) (Syntax.tcons (Syntax.tyInt Syntax.w64) Syntax.tnil)))) (List._∷_ (13, Rows'.any-gone (Syntax.tyRef Syntax.erased Syntax.mut (Syntax.tyInt Syntax.w8))) (List._∷_ (14, Rows'.any-gone (Syntax.tyStruct (List._∷_ 38 (List._∷_ 91 (List._∷_ 93 List.[]))) (Syntax.tcons (Syntax.tyRef Syntax.erased Syntax.mut (Syntax.tyInt Syntax.w8)) (Syntax.tcons (Syntax.tyInt Syntax.w64) Syntax.tnil)))) (List._∷_ (15, Rows'.any-gone (Syntax.tyRef Syntax.erased Syntax.imm (Syntax.tyArray ColumnMetadataRow.named 4096))) List.[])))))))))))))))
+t7 = List._∷_ (0, Rows'.any-gone (Syntax.tyInt Syntax.w64)) (List._∷_ (1, Mut.mslice (Referent.rtF (Referent.fInt Syntax.w8)) (Syntax.tyRef (Syntax.named 0) Syntax.mut (Syntax.tyInt Syntax.w8)) 0) (List._∷_ (2, Rows'.sc-here (Row.sInt Syntax.w64)) (List._∷_ (3, Rows'.sslice (Referent.rtF (Referent.fInt Syntax.w8)) (Syntax.tyRef (Syntax.named 1) Syntax.imm (Syntax.tyInt Syntax.w8)) 1) (List._∷_ (4, Rows'.any-gone (ColumnMetadataRow.ty)) (List._∷_ (5, Rows.arr-owed (ColumnMetadataRow.RT) 4096 2) (List._∷_ (6, Rows'.any-gone (Syntax.tyStruct (List._∷_ 115 (List._∷_ 113 (List._∷_ 108 (List._∷_ 100 (List._∷_ 97 (List._∷_ 114 (List._∷_ 100 (List._∷_ 58 (List._∷_ 58 (List._∷_ 83 (List._∷_ 113 (List._∷_ 108 (List._∷_ 100 (List._∷_ 97 (List._∷_ 114 (List._∷_ 100 (List._∷_ 65 (List._∷_ 110 (List._∷_ 115 (List._∷_ 119 (List._∷_ 101 (List._∷_ 114 List.[])))))))))))))))))))))) (Syntax.tcons (Syntax.tyEnum (List._∷_ 111 (List._∷_ 117 (List._∷_ 116 (List._∷_ 99 (List._∷_ 111 (List._∷_ 109 (List._∷_ 101 (List._∷_ 58 (List._∷_ 58 (List._∷_ 79 (List._∷_ 117 (List._∷_ 116 (List._∷_ 99 (List._∷_ 111 (List._∷_ 109 (List._∷_ 101 List.[])))))))))))))))) (Syntax.ttcons Syntax.tnil (Syntax.ttcons Syntax.tnil (Syntax.ttcons (Syntax.tcons (Syntax.tyInt Syntax.w64) (Syntax.tcons (Syntax.tyInt Syntax.w64) Syntax.tnil)) (Syntax.ttcons Syntax.tnil (Syntax.ttcons (Syntax.tcons (Syntax.tyInt Syntax.w16) Syntax.tnil) (Syntax.ttcons Syntax.tnil (Syntax.ttcons (Syntax.tcons (Syntax.tyInt Syntax.w64) Syntax.tnil) (Syntax.ttcons Syntax.tnil (Syntax.ttcons (Syntax.tcons (Syntax.tyInt Syntax.w16) Syntax.tnil) Syntax.ttnil)))))))))) (Syntax.tcons (Syntax.tyStruct (List._∷_ 115 (List._∷_ 113 (List._∷_ 108 (List._∷_ 99 (List._∷_ 97 (List._∷_ 114 (List._∷_ 100 (List._∷_ 58 (List._∷_ 58 (List._∷_ 83 (List._∷_ 113 (List._∷_ 108 (List._∷_ 67 (List._∷_ 97 (List._∷_ 114 (List._∷_ 100 List.[])))))))))))))))) (Syntax.tcons Syntax.tyBool (Syntax.tcons (Syntax.tyInt Syntax.w32) (Syntax.tcons (Syntax.tyArray (Syntax.tyInt Syntax.w8) 5) (Syntax.tcons (Syntax.tyArray (Syntax.tyInt Syntax.w8) 8) (Syntax.tcons (Syntax.tyInt Syntax.w8) (Syntax.tcons (Syntax.tyArray (Syntax.tyInt Syntax.w32) 6) (Syntax.tcons (Syntax.tyInt Syntax.w64) (Syntax.tcons (Syntax.tyInt Syntax.w32) (Syntax.tcons (Syntax.tyArray (Syntax.tyInt Syntax.w8) 11) (Syntax.tcons (Syntax.tyInt Syntax.w64) (Syntax.tcons (Syntax.tyInt Syntax.w64) Syntax.tnil)))))))))))) (Syntax.tcons (Syntax.tyInt Syntax.w64) Syntax.tnil))))) (List._∷_ (7, Rows'.any-gone (Syntax.tyInt Syntax.w64)) (List._∷_ (8, Rows'.any-gone (Syntax.tyInt Syntax.w64)) (List._∷_ (9, Relend.msptr (ColumnMetadataRow.RT) (Syntax.tyRef Syntax.erased Syntax.mut (Syntax.tyArray ColumnMetadataRow.named 4096)) 2) (List._∷_ (10, Rows'.any-gone (Syntax.tyStruct (List._∷_ 38 (List._∷_ 91 (List._∷_ 93 List.[]))) (Syntax.tcons (Syntax.tyRef Syntax.erased Syntax.mut ColumnMetadataRow.named) (Syntax.tcons (Syntax.tyInt Syntax.w64) Syntax.tnil)))) (List._∷_ (11, Rows'.any-gone (Syntax.tyRef Syntax.erased Syntax.mut (Syntax.tyInt Syntax.w8))) (List._∷_ (12, Rows'.any-gone (Syntax.tyStruct (List._∷_ 38 (List._∷_ 91 (List._∷_ 93 List.[]))) (Syntax.tcons (Syntax.tyRef Syntax.erased Syntax.mut (Syntax.tyInt Syntax.w8)) (Syntax.tcons (Syntax.tyInt Syntax.w64) Syntax.tnil)))) (List._∷_ (13, Rows'.any-gone (Syntax.tyRef Syntax.erased Syntax.mut (Syntax.tyInt Syntax.w8))) (List._∷_ (14, Rows'.any-gone (Syntax.tyStruct (List._∷_ 38 (List._∷_ 91 (List._∷_ 93 List.[]))) (Syntax.tcons (Syntax.tyRef Syntax.erased Syntax.mut (Syntax.tyInt Syntax.w8)) (Syntax.tcons (Syntax.tyInt Syntax.w64) Syntax.tnil)))) (List._∷_ (15, Rows'.any-gone (Syntax.tyRef Syntax.erased Syntax.imm (Syntax.tyArray ColumnMetadataRow.named 4096))) List.[])))))))))))))))
 
 abbrev pub t8 : List.List Row.Entry
-t8 = List._∷_ (0, Rows'.any-gone (Syntax.tyInt Syntax.w64)) (List._∷_ (1, Mut.mslice (Referent.rtF (Referent.fInt Syntax.w8)) (Syntax.tyRef (Syntax.named 0) Syntax.mut (Syntax.tyInt Syntax.w8)) 0) (List._∷_ (2, Rows'.sc-here (Row.sInt Syntax.w64)) (List._∷_ (3, Rows'.sslice (Referent.rtF (Referent.fInt Syntax.w8)) (Syntax.tyRef (Syntax.named 1) Syntax.imm (Syntax.tyInt Syntax.w8)) 1) (List._∷_ (4, Rows'.any-gone (ColumnMetadataRow.ty)) (List._∷_ (5, Rows.arr-owed (ColumnMetadataRow.RT) 4096 2) (List._∷_ (6, Rows'.any-gone (Syntax.tyStruct (List._∷_ 115 (List._∷_ 113 (List._∷_ 108 (List._∷_ 100 (List._∷_ 97 (List._∷_ 114 (List._∷_ 100 (List._∷_ 58 (List._∷_ 58 (List._∷_ 83 (List._∷_ 113 (List._∷_ 108 (List._∷_ 100 (List._∷_ 97 (List._∷_ 114 (List._∷_ 100 (List._∷_ 65 (List._∷_ 110 (List._∷_ 115 (List._∷_ 119 (List._∷_ 101 (List._∷_ 114 List.[])))))))))))))))))))))) (Syntax.tcons (Syntax.tyEnum (List._∷_ 111 (List._∷_ 117 (List._∷_ 116 (List._∷_ 99 (List._∷_ 111 (List._∷_ 109 (List._∷_ 101 (List._∷_ 58 (List._∷_ 58 (List._∷_ 79 (List._∷_ 117 (List._∷_ 116 (List._∷_ 99 (List._∷_ 111 (List._∷_ 109 (List._∷_ 101 List.[])))))))))))))))) (Syntax.ttcons Syntax.tnil (Syntax.ttcons Syntax.tnil (Syntax.ttcons (Syntax.tcons (Syntax.tyInt Syntax.w64) (Syntax.tcons (Syntax.tyInt Syntax.w64) Syntax.tnil)) (Syntax.ttcons Syntax.tnil (Syntax.ttcons (Syntax.tcons (Syntax.tyInt Syntax.w16) Syntax.tnil) (Syntax.ttcons Syntax.tnil (Syntax.ttcons (Syntax.tcons (Syntax.tyInt Syntax.w64) Syntax.tnil) (Syntax.ttcons Syntax.tnil Syntax.ttnil))))))))) (Syntax.tcons (Syntax.tyStruct (List._∷_ 115 (List._∷_ 113 (List._∷_ 108 (List._∷_ 99 (List._∷_ 97 (List._∷_ 114 (List._∷_ 100 (List._∷_ 58 (List._∷_ 58 (List._∷_ 83 (List._∷_ 113 (List._∷_ 108 (List._∷_ 67 (List._∷_ 97 (List._∷_ 114 (List._∷_ 100 List.[])))))))))))))))) (Syntax.tcons Syntax.tyBool (Syntax.tcons (Syntax.tyInt Syntax.w32) (Syntax.tcons (Syntax.tyArray (Syntax.tyInt Syntax.w8) 5) (Syntax.tcons (Syntax.tyArray (Syntax.tyInt Syntax.w8) 8) (Syntax.tcons (Syntax.tyInt Syntax.w8) (Syntax.tcons (Syntax.tyArray (Syntax.tyInt Syntax.w32) 6) (Syntax.tcons (Syntax.tyInt Syntax.w64) (Syntax.tcons (Syntax.tyInt Syntax.w32) (Syntax.tcons (Syntax.tyArray (Syntax.tyInt Syntax.w8) 11) (Syntax.tcons (Syntax.tyInt Syntax.w64) (Syntax.tcons (Syntax.tyInt Syntax.w64) Syntax.tnil)))))))))))) (Syntax.tcons (Syntax.tyInt Syntax.w64) Syntax.tnil))))) (List._∷_ (7, Rows'.any-gone (Syntax.tyInt Syntax.w64)) (List._∷_ (8, Rows'.any-gone (Syntax.tyInt Syntax.w64)) (List._∷_ (9, Rows'.any-gone (Syntax.tyRef Syntax.erased Syntax.mut (Syntax.tyArray ColumnMetadataRow.named 4096))) (List._∷_ (10, Mut.mslice (ColumnMetadataRow.RT) (Syntax.tyRef Syntax.erased Syntax.mut ColumnMetadataRow.named) 2) (List._∷_ (11, Rows'.any-gone (Syntax.tyRef Syntax.erased Syntax.mut (Syntax.tyInt Syntax.w8))) (List._∷_ (12, Rows'.any-gone (Syntax.tyStruct (List._∷_ 38 (List._∷_ 91 (List._∷_ 93 List.[]))) (Syntax.tcons (Syntax.tyRef Syntax.erased Syntax.mut (Syntax.tyInt Syntax.w8)) (Syntax.tcons (Syntax.tyInt Syntax.w64) Syntax.tnil)))) (List._∷_ (13, Rows'.any-gone (Syntax.tyRef Syntax.erased Syntax.mut (Syntax.tyInt Syntax.w8))) (List._∷_ (14, Rows'.any-gone (Syntax.tyStruct (List._∷_ 38 (List._∷_ 91 (List._∷_ 93 List.[]))) (Syntax.tcons (Syntax.tyRef Syntax.erased Syntax.mut (Syntax.tyInt Syntax.w8)) (Syntax.tcons (Syntax.tyInt Syntax.w64) Syntax.tnil)))) (List._∷_ (15, Rows'.any-gone (Syntax.tyRef Syntax.erased Syntax.imm (Syntax.tyArray ColumnMetadataRow.named 4096))) List.[])))))))))))))))
+t8 = List._∷_ (0, Rows'.any-gone (Syntax.tyInt Syntax.w64)) (List._∷_ (1, Mut.mslice (Referent.rtF (Referent.fInt Syntax.w8)) (Syntax.tyRef (Syntax.named 0) Syntax.mut (Syntax.tyInt Syntax.w8)) 0) (List._∷_ (2, Rows'.sc-here (Row.sInt Syntax.w64)) (List._∷_ (3, Rows'.sslice (Referent.rtF (Referent.fInt Syntax.w8)) (Syntax.tyRef (Syntax.named 1) Syntax.imm (Syntax.tyInt Syntax.w8)) 1) (List._∷_ (4, Rows'.any-gone (ColumnMetadataRow.ty)) (List._∷_ (5, Rows.arr-owed (ColumnMetadataRow.RT) 4096 2) (List._∷_ (6, Rows'.any-gone (Syntax.tyStruct (List._∷_ 115 (List._∷_ 113 (List._∷_ 108 (List._∷_ 100 (List._∷_ 97 (List._∷_ 114 (List._∷_ 100 (List._∷_ 58 (List._∷_ 58 (List._∷_ 83 (List._∷_ 113 (List._∷_ 108 (List._∷_ 100 (List._∷_ 97 (List._∷_ 114 (List._∷_ 100 (List._∷_ 65 (List._∷_ 110 (List._∷_ 115 (List._∷_ 119 (List._∷_ 101 (List._∷_ 114 List.[])))))))))))))))))))))) (Syntax.tcons (Syntax.tyEnum (List._∷_ 111 (List._∷_ 117 (List._∷_ 116 (List._∷_ 99 (List._∷_ 111 (List._∷_ 109 (List._∷_ 101 (List._∷_ 58 (List._∷_ 58 (List._∷_ 79 (List._∷_ 117 (List._∷_ 116 (List._∷_ 99 (List._∷_ 111 (List._∷_ 109 (List._∷_ 101 List.[])))))))))))))))) (Syntax.ttcons Syntax.tnil (Syntax.ttcons Syntax.tnil (Syntax.ttcons (Syntax.tcons (Syntax.tyInt Syntax.w64) (Syntax.tcons (Syntax.tyInt Syntax.w64) Syntax.tnil)) (Syntax.ttcons Syntax.tnil (Syntax.ttcons (Syntax.tcons (Syntax.tyInt Syntax.w16) Syntax.tnil) (Syntax.ttcons Syntax.tnil (Syntax.ttcons (Syntax.tcons (Syntax.tyInt Syntax.w64) Syntax.tnil) (Syntax.ttcons Syntax.tnil (Syntax.ttcons (Syntax.tcons (Syntax.tyInt Syntax.w16) Syntax.tnil) Syntax.ttnil)))))))))) (Syntax.tcons (Syntax.tyStruct (List._∷_ 115 (List._∷_ 113 (List._∷_ 108 (List._∷_ 99 (List._∷_ 97 (List._∷_ 114 (List._∷_ 100 (List._∷_ 58 (List._∷_ 58 (List._∷_ 83 (List._∷_ 113 (List._∷_ 108 (List._∷_ 67 (List._∷_ 97 (List._∷_ 114 (List._∷_ 100 List.[])))))))))))))))) (Syntax.tcons Syntax.tyBool (Syntax.tcons (Syntax.tyInt Syntax.w32) (Syntax.tcons (Syntax.tyArray (Syntax.tyInt Syntax.w8) 5) (Syntax.tcons (Syntax.tyArray (Syntax.tyInt Syntax.w8) 8) (Syntax.tcons (Syntax.tyInt Syntax.w8) (Syntax.tcons (Syntax.tyArray (Syntax.tyInt Syntax.w32) 6) (Syntax.tcons (Syntax.tyInt Syntax.w64) (Syntax.tcons (Syntax.tyInt Syntax.w32) (Syntax.tcons (Syntax.tyArray (Syntax.tyInt Syntax.w8) 11) (Syntax.tcons (Syntax.tyInt Syntax.w64) (Syntax.tcons (Syntax.tyInt Syntax.w64) Syntax.tnil)))))))))))) (Syntax.tcons (Syntax.tyInt Syntax.w64) Syntax.tnil))))) (List._∷_ (7, Rows'.any-gone (Syntax.tyInt Syntax.w64)) (List._∷_ (8, Rows'.any-gone (Syntax.tyInt Syntax.w64)) (List._∷_ (9, Rows'.any-gone (Syntax.tyRef Syntax.erased Syntax.mut (Syntax.tyArray ColumnMetadataRow.named 4096))) (List._∷_ (10, Mut.mslice (ColumnMetadataRow.RT) (Syntax.tyRef Syntax.erased Syntax.mut ColumnMetadataRow.named) 2) (List._∷_ (11, Rows'.any-gone (Syntax.tyRef Syntax.erased Syntax.mut (Syntax.tyInt Syntax.w8))) (List._∷_ (12, Rows'.any-gone (Syntax.tyStruct (List._∷_ 38 (List._∷_ 91 (List._∷_ 93 List.[]))) (Syntax.tcons (Syntax.tyRef Syntax.erased Syntax.mut (Syntax.tyInt Syntax.w8)) (Syntax.tcons (Syntax.tyInt Syntax.w64) Syntax.tnil)))) (List._∷_ (13, Rows'.any-gone (Syntax.tyRef Syntax.erased Syntax.mut (Syntax.tyInt Syntax.w8))) (List._∷_ (14, Rows'.any-gone (Syntax.tyStruct (List._∷_ 38 (List._∷_ 91 (List._∷_ 93 List.[]))) (Syntax.tcons (Syntax.tyRef Syntax.erased Syntax.mut (Syntax.tyInt Syntax.w8)) (Syntax.tcons (Syntax.tyInt Syntax.w64) Syntax.tnil)))) (List._∷_ (15, Rows'.any-gone (Syntax.tyRef Syntax.erased Syntax.imm (Syntax.tyArray ColumnMetadataRow.named 4096))) List.[])))))))))))))))
 
 abbrev pub t9 : List.List Row.Entry
 t9 = List._∷_ (0, Rows'.any-gone (Syntax.tyInt Syntax.w64)) (List._∷_ (1, Mut.mslice (Referent.rtF (Referent.fInt Syntax.w8)) (Syntax.tyRef (Syntax.named 0) Syntax.mut (Syntax.tyInt Syntax.w8)) 0) (List._∷_ (2, Rows'.sc-here (Row.sInt Syntax.w64)) (List._∷_ (3, Rows'.sslice (Referent.rtF (Referent.fInt Syntax.w8)) (Syntax.tyRef (Syntax.named 1) Syntax.imm (Syntax.tyInt Syntax.w8)) 1) (List._∷_ (4, Rows'.any-gone (ColumnMetadataRow.ty)) (List._∷_ (5, Rows.arr-owed (ColumnMetadataRow.RT) 4096 2) (List._∷_ (6, Rows'.whole (Declared.row SqldardAnswer.the-type)) (List._∷_ (7, Rows'.any-gone (Syntax.tyInt Syntax.w64)) (List._∷_ (8, Rows'.any-gone (Syntax.tyInt Syntax.w64)) (List._∷_ (9, Rows'.any-gone (Syntax.tyRef Syntax.erased Syntax.mut (Syntax.tyArray ColumnMetadataRow.named 4096))) (List._∷_ (10, Mut.msleft (ColumnMetadataRow.RT) (Syntax.tyRef Syntax.erased Syntax.mut ColumnMetadataRow.named)) (List._∷_ (11, Rows'.any-gone (Syntax.tyRef Syntax.erased Syntax.mut (Syntax.tyInt Syntax.w8))) (List._∷_ (12, Rows'.any-gone (Syntax.tyStruct (List._∷_ 38 (List._∷_ 91 (List._∷_ 93 List.[]))) (Syntax.tcons (Syntax.tyRef Syntax.erased Syntax.mut (Syntax.tyInt Syntax.w8)) (Syntax.tcons (Syntax.tyInt Syntax.w64) Syntax.tnil)))) (List._∷_ (13, Rows'.any-gone (Syntax.tyRef Syntax.erased Syntax.mut (Syntax.tyInt Syntax.w8))) (List._∷_ (14, Rows'.any-gone (Syntax.tyStruct (List._∷_ 38 (List._∷_ 91 (List._∷_ 93 List.[]))) (Syntax.tcons (Syntax.tyRef Syntax.erased Syntax.mut (Syntax.tyInt Syntax.w8)) (Syntax.tcons (Syntax.tyInt Syntax.w64) Syntax.tnil)))) (List._∷_ (15, Rows'.any-gone (Syntax.tyRef Syntax.erased Syntax.imm (Syntax.tyArray ColumnMetadataRow.named 4096))) List.[])))))))))))))))
@@ -238,43 +238,43 @@ abbrev pub t14 : List.List Row.Entry
 t14 = List._∷_ (0, Rows'.any-gone (Syntax.tyInt Syntax.w64)) (List._∷_ (1, Relend.mslice-owed (Referent.rtF (Referent.fInt Syntax.w8)) (Syntax.tyRef (Syntax.named 0) Syntax.mut (Syntax.tyInt Syntax.w8)) 0 3 Row.off) (List._∷_ (2, Rows'.sc-here (Row.sInt Syntax.w64)) (List._∷_ (3, Rows'.sslice (Referent.rtF (Referent.fInt Syntax.w8)) (Syntax.tyRef (Syntax.named 1) Syntax.imm (Syntax.tyInt Syntax.w8)) 1) (List._∷_ (4, Rows'.any-gone (ColumnMetadataRow.ty)) (List._∷_ (5, Rows.arrF (ColumnMetadataRow.RT) 4096 0) (List._∷_ (6, Rows'.whole (Declared.row SqldardAnswer.the-type)) (List._∷_ (7, Rows'.sc-here (Row.sInt Syntax.w64)) (List._∷_ (8, Rows'.sc-here (Row.sInt Syntax.w64)) (List._∷_ (9, Rows'.any-gone (Syntax.tyRef Syntax.erased Syntax.mut (Syntax.tyArray ColumnMetadataRow.named 4096))) (List._∷_ (10, Rows'.any-gone (Syntax.tyStruct (List._∷_ 38 (List._∷_ 91 (List._∷_ 93 List.[]))) (Syntax.tcons (Syntax.tyRef Syntax.erased Syntax.mut ColumnMetadataRow.named) (Syntax.tcons (Syntax.tyInt Syntax.w64) Syntax.tnil)))) (List._∷_ (11, Rows'.any-gone (Syntax.tyRef Syntax.erased Syntax.mut (Syntax.tyInt Syntax.w8))) (List._∷_ (12, Mut.msleft (Referent.rtF (Referent.fInt Syntax.w8)) (Syntax.tyRef Syntax.erased Syntax.mut (Syntax.tyInt Syntax.w8))) (List._∷_ (13, Rows'.any-gone (Syntax.tyRef Syntax.erased Syntax.mut (Syntax.tyInt Syntax.w8))) (List._∷_ (14, Rows'.any-gone (Syntax.tyStruct (List._∷_ 38 (List._∷_ 91 (List._∷_ 93 List.[]))) (Syntax.tcons (Syntax.tyRef Syntax.erased Syntax.mut (Syntax.tyInt Syntax.w8)) (Syntax.tcons (Syntax.tyInt Syntax.w64) Syntax.tnil)))) (List._∷_ (15, Rows'.any-gone (Syntax.tyRef Syntax.erased Syntax.imm (Syntax.tyArray ColumnMetadataRow.named 4096))) List.[])))))))))))))))
 
 abbrev pub t15 : List.List Row.Entry
-t15 = List._∷_ (0, Rows'.any-gone (Syntax.tyInt Syntax.w64)) (List._∷_ (1, Relend.mslice-owed (Referent.rtF (Referent.fInt Syntax.w8)) (Syntax.tyRef (Syntax.named 0) Syntax.mut (Syntax.tyInt Syntax.w8)) 0 3 Row.off) (List._∷_ (2, Rows'.sc-here (Row.sInt Syntax.w64)) (List._∷_ (3, Rows'.sslice (Referent.rtF (Referent.fInt Syntax.w8)) (Syntax.tyRef (Syntax.named 1) Syntax.imm (Syntax.tyInt Syntax.w8)) 1) (List._∷_ (4, Rows'.any-gone (ColumnMetadataRow.ty)) (List._∷_ (5, Rows.arrF (ColumnMetadataRow.RT) 4096 0) (List._∷_ (6, Rows'.any-gone (Syntax.tyStruct (List._∷_ 115 (List._∷_ 113 (List._∷_ 108 (List._∷_ 100 (List._∷_ 97 (List._∷_ 114 (List._∷_ 100 (List._∷_ 58 (List._∷_ 58 (List._∷_ 83 (List._∷_ 113 (List._∷_ 108 (List._∷_ 100 (List._∷_ 97 (List._∷_ 114 (List._∷_ 100 (List._∷_ 65 (List._∷_ 110 (List._∷_ 115 (List._∷_ 119 (List._∷_ 101 (List._∷_ 114 List.[])))))))))))))))))))))) (Syntax.tcons (Syntax.tyEnum (List._∷_ 111 (List._∷_ 117 (List._∷_ 116 (List._∷_ 99 (List._∷_ 111 (List._∷_ 109 (List._∷_ 101 (List._∷_ 58 (List._∷_ 58 (List._∷_ 79 (List._∷_ 117 (List._∷_ 116 (List._∷_ 99 (List._∷_ 111 (List._∷_ 109 (List._∷_ 101 List.[])))))))))))))))) (Syntax.ttcons Syntax.tnil (Syntax.ttcons Syntax.tnil (Syntax.ttcons (Syntax.tcons (Syntax.tyInt Syntax.w64) (Syntax.tcons (Syntax.tyInt Syntax.w64) Syntax.tnil)) (Syntax.ttcons Syntax.tnil (Syntax.ttcons (Syntax.tcons (Syntax.tyInt Syntax.w16) Syntax.tnil) (Syntax.ttcons Syntax.tnil (Syntax.ttcons (Syntax.tcons (Syntax.tyInt Syntax.w64) Syntax.tnil) (Syntax.ttcons Syntax.tnil Syntax.ttnil))))))))) (Syntax.tcons (Syntax.tyStruct (List._∷_ 115 (List._∷_ 113 (List._∷_ 108 (List._∷_ 99 (List._∷_ 97 (List._∷_ 114 (List._∷_ 100 (List._∷_ 58 (List._∷_ 58 (List._∷_ 83 (List._∷_ 113 (List._∷_ 108 (List._∷_ 67 (List._∷_ 97 (List._∷_ 114 (List._∷_ 100 List.[])))))))))))))))) (Syntax.tcons Syntax.tyBool (Syntax.tcons (Syntax.tyInt Syntax.w32) (Syntax.tcons (Syntax.tyArray (Syntax.tyInt Syntax.w8) 5) (Syntax.tcons (Syntax.tyArray (Syntax.tyInt Syntax.w8) 8) (Syntax.tcons (Syntax.tyInt Syntax.w8) (Syntax.tcons (Syntax.tyArray (Syntax.tyInt Syntax.w32) 6) (Syntax.tcons (Syntax.tyInt Syntax.w64) (Syntax.tcons (Syntax.tyInt Syntax.w32) (Syntax.tcons (Syntax.tyArray (Syntax.tyInt Syntax.w8) 11) (Syntax.tcons (Syntax.tyInt Syntax.w64) (Syntax.tcons (Syntax.tyInt Syntax.w64) Syntax.tnil)))))))))))) (Syntax.tcons (Syntax.tyInt Syntax.w64) Syntax.tnil))))) (List._∷_ (7, Rows'.sc-here (Row.sInt Syntax.w64)) (List._∷_ (8, Rows'.sc-here (Row.sInt Syntax.w64)) (List._∷_ (9, Rows'.any-gone (Syntax.tyRef Syntax.erased Syntax.mut (Syntax.tyArray ColumnMetadataRow.named 4096))) (List._∷_ (10, Rows'.any-gone (Syntax.tyStruct (List._∷_ 38 (List._∷_ 91 (List._∷_ 93 List.[]))) (Syntax.tcons (Syntax.tyRef Syntax.erased Syntax.mut ColumnMetadataRow.named) (Syntax.tcons (Syntax.tyInt Syntax.w64) Syntax.tnil)))) (List._∷_ (11, Rows'.any-gone (Syntax.tyRef Syntax.erased Syntax.mut (Syntax.tyInt Syntax.w8))) (List._∷_ (12, Mut.msleft (Referent.rtF (Referent.fInt Syntax.w8)) (Syntax.tyRef Syntax.erased Syntax.mut (Syntax.tyInt Syntax.w8))) (List._∷_ (13, Rows'.any-gone (Syntax.tyRef Syntax.erased Syntax.mut (Syntax.tyInt Syntax.w8))) (List._∷_ (14, Rows'.any-gone (Syntax.tyStruct (List._∷_ 38 (List._∷_ 91 (List._∷_ 93 List.[]))) (Syntax.tcons (Syntax.tyRef Syntax.erased Syntax.mut (Syntax.tyInt Syntax.w8)) (Syntax.tcons (Syntax.tyInt Syntax.w64) Syntax.tnil)))) (List._∷_ (15, Rows'.any-gone (Syntax.tyRef Syntax.erased Syntax.imm (Syntax.tyArray ColumnMetadataRow.named 4096))) List.[])))))))))))))))
+t15 = List._∷_ (0, Rows'.any-gone (Syntax.tyInt Syntax.w64)) (List._∷_ (1, Relend.mslice-owed (Referent.rtF (Referent.fInt Syntax.w8)) (Syntax.tyRef (Syntax.named 0) Syntax.mut (Syntax.tyInt Syntax.w8)) 0 3 Row.off) (List._∷_ (2, Rows'.sc-here (Row.sInt Syntax.w64)) (List._∷_ (3, Rows'.sslice (Referent.rtF (Referent.fInt Syntax.w8)) (Syntax.tyRef (Syntax.named 1) Syntax.imm (Syntax.tyInt Syntax.w8)) 1) (List._∷_ (4, Rows'.any-gone (ColumnMetadataRow.ty)) (List._∷_ (5, Rows.arrF (ColumnMetadataRow.RT) 4096 0) (List._∷_ (6, Rows'.any-gone (Syntax.tyStruct (List._∷_ 115 (List._∷_ 113 (List._∷_ 108 (List._∷_ 100 (List._∷_ 97 (List._∷_ 114 (List._∷_ 100 (List._∷_ 58 (List._∷_ 58 (List._∷_ 83 (List._∷_ 113 (List._∷_ 108 (List._∷_ 100 (List._∷_ 97 (List._∷_ 114 (List._∷_ 100 (List._∷_ 65 (List._∷_ 110 (List._∷_ 115 (List._∷_ 119 (List._∷_ 101 (List._∷_ 114 List.[])))))))))))))))))))))) (Syntax.tcons (Syntax.tyEnum (List._∷_ 111 (List._∷_ 117 (List._∷_ 116 (List._∷_ 99 (List._∷_ 111 (List._∷_ 109 (List._∷_ 101 (List._∷_ 58 (List._∷_ 58 (List._∷_ 79 (List._∷_ 117 (List._∷_ 116 (List._∷_ 99 (List._∷_ 111 (List._∷_ 109 (List._∷_ 101 List.[])))))))))))))))) (Syntax.ttcons Syntax.tnil (Syntax.ttcons Syntax.tnil (Syntax.ttcons (Syntax.tcons (Syntax.tyInt Syntax.w64) (Syntax.tcons (Syntax.tyInt Syntax.w64) Syntax.tnil)) (Syntax.ttcons Syntax.tnil (Syntax.ttcons (Syntax.tcons (Syntax.tyInt Syntax.w16) Syntax.tnil) (Syntax.ttcons Syntax.tnil (Syntax.ttcons (Syntax.tcons (Syntax.tyInt Syntax.w64) Syntax.tnil) (Syntax.ttcons Syntax.tnil (Syntax.ttcons (Syntax.tcons (Syntax.tyInt Syntax.w16) Syntax.tnil) Syntax.ttnil)))))))))) (Syntax.tcons (Syntax.tyStruct (List._∷_ 115 (List._∷_ 113 (List._∷_ 108 (List._∷_ 99 (List._∷_ 97 (List._∷_ 114 (List._∷_ 100 (List._∷_ 58 (List._∷_ 58 (List._∷_ 83 (List._∷_ 113 (List._∷_ 108 (List._∷_ 67 (List._∷_ 97 (List._∷_ 114 (List._∷_ 100 List.[])))))))))))))))) (Syntax.tcons Syntax.tyBool (Syntax.tcons (Syntax.tyInt Syntax.w32) (Syntax.tcons (Syntax.tyArray (Syntax.tyInt Syntax.w8) 5) (Syntax.tcons (Syntax.tyArray (Syntax.tyInt Syntax.w8) 8) (Syntax.tcons (Syntax.tyInt Syntax.w8) (Syntax.tcons (Syntax.tyArray (Syntax.tyInt Syntax.w32) 6) (Syntax.tcons (Syntax.tyInt Syntax.w64) (Syntax.tcons (Syntax.tyInt Syntax.w32) (Syntax.tcons (Syntax.tyArray (Syntax.tyInt Syntax.w8) 11) (Syntax.tcons (Syntax.tyInt Syntax.w64) (Syntax.tcons (Syntax.tyInt Syntax.w64) Syntax.tnil)))))))))))) (Syntax.tcons (Syntax.tyInt Syntax.w64) Syntax.tnil))))) (List._∷_ (7, Rows'.sc-here (Row.sInt Syntax.w64)) (List._∷_ (8, Rows'.sc-here (Row.sInt Syntax.w64)) (List._∷_ (9, Rows'.any-gone (Syntax.tyRef Syntax.erased Syntax.mut (Syntax.tyArray ColumnMetadataRow.named 4096))) (List._∷_ (10, Rows'.any-gone (Syntax.tyStruct (List._∷_ 38 (List._∷_ 91 (List._∷_ 93 List.[]))) (Syntax.tcons (Syntax.tyRef Syntax.erased Syntax.mut ColumnMetadataRow.named) (Syntax.tcons (Syntax.tyInt Syntax.w64) Syntax.tnil)))) (List._∷_ (11, Rows'.any-gone (Syntax.tyRef Syntax.erased Syntax.mut (Syntax.tyInt Syntax.w8))) (List._∷_ (12, Mut.msleft (Referent.rtF (Referent.fInt Syntax.w8)) (Syntax.tyRef Syntax.erased Syntax.mut (Syntax.tyInt Syntax.w8))) (List._∷_ (13, Rows'.any-gone (Syntax.tyRef Syntax.erased Syntax.mut (Syntax.tyInt Syntax.w8))) (List._∷_ (14, Rows'.any-gone (Syntax.tyStruct (List._∷_ 38 (List._∷_ 91 (List._∷_ 93 List.[]))) (Syntax.tcons (Syntax.tyRef Syntax.erased Syntax.mut (Syntax.tyInt Syntax.w8)) (Syntax.tcons (Syntax.tyInt Syntax.w64) Syntax.tnil)))) (List._∷_ (15, Rows'.any-gone (Syntax.tyRef Syntax.erased Syntax.imm (Syntax.tyArray ColumnMetadataRow.named 4096))) List.[])))))))))))))))
 
 abbrev pub t16 : List.List Row.Entry
-t16 = List._∷_ (0, Rows'.any-gone (Syntax.tyInt Syntax.w64)) (List._∷_ (1, Mut.mslice (Referent.rtF (Referent.fInt Syntax.w8)) (Syntax.tyRef (Syntax.named 0) Syntax.mut (Syntax.tyInt Syntax.w8)) 0) (List._∷_ (2, Rows'.sc-here (Row.sInt Syntax.w64)) (List._∷_ (3, Rows'.sslice (Referent.rtF (Referent.fInt Syntax.w8)) (Syntax.tyRef (Syntax.named 1) Syntax.imm (Syntax.tyInt Syntax.w8)) 1) (List._∷_ (4, Rows'.any-gone (ColumnMetadataRow.ty)) (List._∷_ (5, Rows.arrF (ColumnMetadataRow.RT) 4096 0) (List._∷_ (6, Rows'.any-gone (Syntax.tyStruct (List._∷_ 115 (List._∷_ 113 (List._∷_ 108 (List._∷_ 100 (List._∷_ 97 (List._∷_ 114 (List._∷_ 100 (List._∷_ 58 (List._∷_ 58 (List._∷_ 83 (List._∷_ 113 (List._∷_ 108 (List._∷_ 100 (List._∷_ 97 (List._∷_ 114 (List._∷_ 100 (List._∷_ 65 (List._∷_ 110 (List._∷_ 115 (List._∷_ 119 (List._∷_ 101 (List._∷_ 114 List.[])))))))))))))))))))))) (Syntax.tcons (Syntax.tyEnum (List._∷_ 111 (List._∷_ 117 (List._∷_ 116 (List._∷_ 99 (List._∷_ 111 (List._∷_ 109 (List._∷_ 101 (List._∷_ 58 (List._∷_ 58 (List._∷_ 79 (List._∷_ 117 (List._∷_ 116 (List._∷_ 99 (List._∷_ 111 (List._∷_ 109 (List._∷_ 101 List.[])))))))))))))))) (Syntax.ttcons Syntax.tnil (Syntax.ttcons Syntax.tnil (Syntax.ttcons (Syntax.tcons (Syntax.tyInt Syntax.w64) (Syntax.tcons (Syntax.tyInt Syntax.w64) Syntax.tnil)) (Syntax.ttcons Syntax.tnil (Syntax.ttcons (Syntax.tcons (Syntax.tyInt Syntax.w16) Syntax.tnil) (Syntax.ttcons Syntax.tnil (Syntax.ttcons (Syntax.tcons (Syntax.tyInt Syntax.w64) Syntax.tnil) (Syntax.ttcons Syntax.tnil Syntax.ttnil))))))))) (Syntax.tcons (Syntax.tyStruct (List._∷_ 115 (List._∷_ 113 (List._∷_ 108 (List._∷_ 99 (List._∷_ 97 (List._∷_ 114 (List._∷_ 100 (List._∷_ 58 (List._∷_ 58 (List._∷_ 83 (List._∷_ 113 (List._∷_ 108 (List._∷_ 67 (List._∷_ 97 (List._∷_ 114 (List._∷_ 100 List.[])))))))))))))))) (Syntax.tcons Syntax.tyBool (Syntax.tcons (Syntax.tyInt Syntax.w32) (Syntax.tcons (Syntax.tyArray (Syntax.tyInt Syntax.w8) 5) (Syntax.tcons (Syntax.tyArray (Syntax.tyInt Syntax.w8) 8) (Syntax.tcons (Syntax.tyInt Syntax.w8) (Syntax.tcons (Syntax.tyArray (Syntax.tyInt Syntax.w32) 6) (Syntax.tcons (Syntax.tyInt Syntax.w64) (Syntax.tcons (Syntax.tyInt Syntax.w32) (Syntax.tcons (Syntax.tyArray (Syntax.tyInt Syntax.w8) 11) (Syntax.tcons (Syntax.tyInt Syntax.w64) (Syntax.tcons (Syntax.tyInt Syntax.w64) Syntax.tnil)))))))))))) (Syntax.tcons (Syntax.tyInt Syntax.w64) Syntax.tnil))))) (List._∷_ (7, Rows'.sc-here (Row.sInt Syntax.w64)) (List._∷_ (8, Rows'.sc-here (Row.sInt Syntax.w64)) (List._∷_ (9, Rows'.any-gone (Syntax.tyRef Syntax.erased Syntax.mut (Syntax.tyArray ColumnMetadataRow.named 4096))) (List._∷_ (10, Rows'.any-gone (Syntax.tyStruct (List._∷_ 38 (List._∷_ 91 (List._∷_ 93 List.[]))) (Syntax.tcons (Syntax.tyRef Syntax.erased Syntax.mut ColumnMetadataRow.named) (Syntax.tcons (Syntax.tyInt Syntax.w64) Syntax.tnil)))) (List._∷_ (11, Rows'.any-gone (Syntax.tyRef Syntax.erased Syntax.mut (Syntax.tyInt Syntax.w8))) (List._∷_ (12, Rows'.any-gone (Syntax.tyStruct (List._∷_ 38 (List._∷_ 91 (List._∷_ 93 List.[]))) (Syntax.tcons (Syntax.tyRef Syntax.erased Syntax.mut (Syntax.tyInt Syntax.w8)) (Syntax.tcons (Syntax.tyInt Syntax.w64) Syntax.tnil)))) (List._∷_ (13, Rows'.any-gone (Syntax.tyRef Syntax.erased Syntax.mut (Syntax.tyInt Syntax.w8))) (List._∷_ (14, Rows'.any-gone (Syntax.tyStruct (List._∷_ 38 (List._∷_ 91 (List._∷_ 93 List.[]))) (Syntax.tcons (Syntax.tyRef Syntax.erased Syntax.mut (Syntax.tyInt Syntax.w8)) (Syntax.tcons (Syntax.tyInt Syntax.w64) Syntax.tnil)))) (List._∷_ (15, Rows'.any-gone (Syntax.tyRef Syntax.erased Syntax.imm (Syntax.tyArray ColumnMetadataRow.named 4096))) List.[])))))))))))))))
+t16 = List._∷_ (0, Rows'.any-gone (Syntax.tyInt Syntax.w64)) (List._∷_ (1, Mut.mslice (Referent.rtF (Referent.fInt Syntax.w8)) (Syntax.tyRef (Syntax.named 0) Syntax.mut (Syntax.tyInt Syntax.w8)) 0) (List._∷_ (2, Rows'.sc-here (Row.sInt Syntax.w64)) (List._∷_ (3, Rows'.sslice (Referent.rtF (Referent.fInt Syntax.w8)) (Syntax.tyRef (Syntax.named 1) Syntax.imm (Syntax.tyInt Syntax.w8)) 1) (List._∷_ (4, Rows'.any-gone (ColumnMetadataRow.ty)) (List._∷_ (5, Rows.arrF (ColumnMetadataRow.RT) 4096 0) (List._∷_ (6, Rows'.any-gone (Syntax.tyStruct (List._∷_ 115 (List._∷_ 113 (List._∷_ 108 (List._∷_ 100 (List._∷_ 97 (List._∷_ 114 (List._∷_ 100 (List._∷_ 58 (List._∷_ 58 (List._∷_ 83 (List._∷_ 113 (List._∷_ 108 (List._∷_ 100 (List._∷_ 97 (List._∷_ 114 (List._∷_ 100 (List._∷_ 65 (List._∷_ 110 (List._∷_ 115 (List._∷_ 119 (List._∷_ 101 (List._∷_ 114 List.[])))))))))))))))))))))) (Syntax.tcons (Syntax.tyEnum (List._∷_ 111 (List._∷_ 117 (List._∷_ 116 (List._∷_ 99 (List._∷_ 111 (List._∷_ 109 (List._∷_ 101 (List._∷_ 58 (List._∷_ 58 (List._∷_ 79 (List._∷_ 117 (List._∷_ 116 (List._∷_ 99 (List._∷_ 111 (List._∷_ 109 (List._∷_ 101 List.[])))))))))))))))) (Syntax.ttcons Syntax.tnil (Syntax.ttcons Syntax.tnil (Syntax.ttcons (Syntax.tcons (Syntax.tyInt Syntax.w64) (Syntax.tcons (Syntax.tyInt Syntax.w64) Syntax.tnil)) (Syntax.ttcons Syntax.tnil (Syntax.ttcons (Syntax.tcons (Syntax.tyInt Syntax.w16) Syntax.tnil) (Syntax.ttcons Syntax.tnil (Syntax.ttcons (Syntax.tcons (Syntax.tyInt Syntax.w64) Syntax.tnil) (Syntax.ttcons Syntax.tnil (Syntax.ttcons (Syntax.tcons (Syntax.tyInt Syntax.w16) Syntax.tnil) Syntax.ttnil)))))))))) (Syntax.tcons (Syntax.tyStruct (List._∷_ 115 (List._∷_ 113 (List._∷_ 108 (List._∷_ 99 (List._∷_ 97 (List._∷_ 114 (List._∷_ 100 (List._∷_ 58 (List._∷_ 58 (List._∷_ 83 (List._∷_ 113 (List._∷_ 108 (List._∷_ 67 (List._∷_ 97 (List._∷_ 114 (List._∷_ 100 List.[])))))))))))))))) (Syntax.tcons Syntax.tyBool (Syntax.tcons (Syntax.tyInt Syntax.w32) (Syntax.tcons (Syntax.tyArray (Syntax.tyInt Syntax.w8) 5) (Syntax.tcons (Syntax.tyArray (Syntax.tyInt Syntax.w8) 8) (Syntax.tcons (Syntax.tyInt Syntax.w8) (Syntax.tcons (Syntax.tyArray (Syntax.tyInt Syntax.w32) 6) (Syntax.tcons (Syntax.tyInt Syntax.w64) (Syntax.tcons (Syntax.tyInt Syntax.w32) (Syntax.tcons (Syntax.tyArray (Syntax.tyInt Syntax.w8) 11) (Syntax.tcons (Syntax.tyInt Syntax.w64) (Syntax.tcons (Syntax.tyInt Syntax.w64) Syntax.tnil)))))))))))) (Syntax.tcons (Syntax.tyInt Syntax.w64) Syntax.tnil))))) (List._∷_ (7, Rows'.sc-here (Row.sInt Syntax.w64)) (List._∷_ (8, Rows'.sc-here (Row.sInt Syntax.w64)) (List._∷_ (9, Rows'.any-gone (Syntax.tyRef Syntax.erased Syntax.mut (Syntax.tyArray ColumnMetadataRow.named 4096))) (List._∷_ (10, Rows'.any-gone (Syntax.tyStruct (List._∷_ 38 (List._∷_ 91 (List._∷_ 93 List.[]))) (Syntax.tcons (Syntax.tyRef Syntax.erased Syntax.mut ColumnMetadataRow.named) (Syntax.tcons (Syntax.tyInt Syntax.w64) Syntax.tnil)))) (List._∷_ (11, Rows'.any-gone (Syntax.tyRef Syntax.erased Syntax.mut (Syntax.tyInt Syntax.w8))) (List._∷_ (12, Rows'.any-gone (Syntax.tyStruct (List._∷_ 38 (List._∷_ 91 (List._∷_ 93 List.[]))) (Syntax.tcons (Syntax.tyRef Syntax.erased Syntax.mut (Syntax.tyInt Syntax.w8)) (Syntax.tcons (Syntax.tyInt Syntax.w64) Syntax.tnil)))) (List._∷_ (13, Rows'.any-gone (Syntax.tyRef Syntax.erased Syntax.mut (Syntax.tyInt Syntax.w8))) (List._∷_ (14, Rows'.any-gone (Syntax.tyStruct (List._∷_ 38 (List._∷_ 91 (List._∷_ 93 List.[]))) (Syntax.tcons (Syntax.tyRef Syntax.erased Syntax.mut (Syntax.tyInt Syntax.w8)) (Syntax.tcons (Syntax.tyInt Syntax.w64) Syntax.tnil)))) (List._∷_ (15, Rows'.any-gone (Syntax.tyRef Syntax.erased Syntax.imm (Syntax.tyArray ColumnMetadataRow.named 4096))) List.[])))))))))))))))
 
 abbrev pub t17 : List.List Row.Entry
-t17 = List._∷_ (0, Rows'.any-gone (Syntax.tyInt Syntax.w64)) (List._∷_ (1, Relend.mslice-owed (Referent.rtF (Referent.fInt Syntax.w8)) (Syntax.tyRef (Syntax.named 0) Syntax.mut (Syntax.tyInt Syntax.w8)) 0 4 Row.off) (List._∷_ (2, Rows'.sc-here (Row.sInt Syntax.w64)) (List._∷_ (3, Rows'.sslice (Referent.rtF (Referent.fInt Syntax.w8)) (Syntax.tyRef (Syntax.named 1) Syntax.imm (Syntax.tyInt Syntax.w8)) 1) (List._∷_ (4, Rows'.any-gone (ColumnMetadataRow.ty)) (List._∷_ (5, Rows.arrF (ColumnMetadataRow.RT) 4096 0) (List._∷_ (6, Rows'.any-gone (Syntax.tyStruct (List._∷_ 115 (List._∷_ 113 (List._∷_ 108 (List._∷_ 100 (List._∷_ 97 (List._∷_ 114 (List._∷_ 100 (List._∷_ 58 (List._∷_ 58 (List._∷_ 83 (List._∷_ 113 (List._∷_ 108 (List._∷_ 100 (List._∷_ 97 (List._∷_ 114 (List._∷_ 100 (List._∷_ 65 (List._∷_ 110 (List._∷_ 115 (List._∷_ 119 (List._∷_ 101 (List._∷_ 114 List.[])))))))))))))))))))))) (Syntax.tcons (Syntax.tyEnum (List._∷_ 111 (List._∷_ 117 (List._∷_ 116 (List._∷_ 99 (List._∷_ 111 (List._∷_ 109 (List._∷_ 101 (List._∷_ 58 (List._∷_ 58 (List._∷_ 79 (List._∷_ 117 (List._∷_ 116 (List._∷_ 99 (List._∷_ 111 (List._∷_ 109 (List._∷_ 101 List.[])))))))))))))))) (Syntax.ttcons Syntax.tnil (Syntax.ttcons Syntax.tnil (Syntax.ttcons (Syntax.tcons (Syntax.tyInt Syntax.w64) (Syntax.tcons (Syntax.tyInt Syntax.w64) Syntax.tnil)) (Syntax.ttcons Syntax.tnil (Syntax.ttcons (Syntax.tcons (Syntax.tyInt Syntax.w16) Syntax.tnil) (Syntax.ttcons Syntax.tnil (Syntax.ttcons (Syntax.tcons (Syntax.tyInt Syntax.w64) Syntax.tnil) (Syntax.ttcons Syntax.tnil Syntax.ttnil))))))))) (Syntax.tcons (Syntax.tyStruct (List._∷_ 115 (List._∷_ 113 (List._∷_ 108 (List._∷_ 99 (List._∷_ 97 (List._∷_ 114 (List._∷_ 100 (List._∷_ 58 (List._∷_ 58 (List._∷_ 83 (List._∷_ 113 (List._∷_ 108 (List._∷_ 67 (List._∷_ 97 (List._∷_ 114 (List._∷_ 100 List.[])))))))))))))))) (Syntax.tcons Syntax.tyBool (Syntax.tcons (Syntax.tyInt Syntax.w32) (Syntax.tcons (Syntax.tyArray (Syntax.tyInt Syntax.w8) 5) (Syntax.tcons (Syntax.tyArray (Syntax.tyInt Syntax.w8) 8) (Syntax.tcons (Syntax.tyInt Syntax.w8) (Syntax.tcons (Syntax.tyArray (Syntax.tyInt Syntax.w32) 6) (Syntax.tcons (Syntax.tyInt Syntax.w64) (Syntax.tcons (Syntax.tyInt Syntax.w32) (Syntax.tcons (Syntax.tyArray (Syntax.tyInt Syntax.w8) 11) (Syntax.tcons (Syntax.tyInt Syntax.w64) (Syntax.tcons (Syntax.tyInt Syntax.w64) Syntax.tnil)))))))))))) (Syntax.tcons (Syntax.tyInt Syntax.w64) Syntax.tnil))))) (List._∷_ (7, Rows'.sc-here (Row.sInt Syntax.w64)) (List._∷_ (8, Rows'.sc-here (Row.sInt Syntax.w64)) (List._∷_ (9, Rows'.any-gone (Syntax.tyRef Syntax.erased Syntax.mut (Syntax.tyArray ColumnMetadataRow.named 4096))) (List._∷_ (10, Rows'.any-gone (Syntax.tyStruct (List._∷_ 38 (List._∷_ 91 (List._∷_ 93 List.[]))) (Syntax.tcons (Syntax.tyRef Syntax.erased Syntax.mut ColumnMetadataRow.named) (Syntax.tcons (Syntax.tyInt Syntax.w64) Syntax.tnil)))) (List._∷_ (11, Rows'.any-gone (Syntax.tyRef Syntax.erased Syntax.mut (Syntax.tyInt Syntax.w8))) (List._∷_ (12, Rows'.any-gone (Syntax.tyStruct (List._∷_ 38 (List._∷_ 91 (List._∷_ 93 List.[]))) (Syntax.tcons (Syntax.tyRef Syntax.erased Syntax.mut (Syntax.tyInt Syntax.w8)) (Syntax.tcons (Syntax.tyInt Syntax.w64) Syntax.tnil)))) (List._∷_ (13, Relend.msptr (Referent.rtF (Referent.fInt Syntax.w8)) (Syntax.tyRef Syntax.erased Syntax.mut (Syntax.tyInt Syntax.w8)) 4) (List._∷_ (14, Rows'.any-gone (Syntax.tyStruct (List._∷_ 38 (List._∷_ 91 (List._∷_ 93 List.[]))) (Syntax.tcons (Syntax.tyRef Syntax.erased Syntax.mut (Syntax.tyInt Syntax.w8)) (Syntax.tcons (Syntax.tyInt Syntax.w64) Syntax.tnil)))) (List._∷_ (15, Rows'.any-gone (Syntax.tyRef Syntax.erased Syntax.imm (Syntax.tyArray ColumnMetadataRow.named 4096))) List.[])))))))))))))))
+t17 = List._∷_ (0, Rows'.any-gone (Syntax.tyInt Syntax.w64)) (List._∷_ (1, Relend.mslice-owed (Referent.rtF (Referent.fInt Syntax.w8)) (Syntax.tyRef (Syntax.named 0) Syntax.mut (Syntax.tyInt Syntax.w8)) 0 4 Row.off) (List._∷_ (2, Rows'.sc-here (Row.sInt Syntax.w64)) (List._∷_ (3, Rows'.sslice (Referent.rtF (Referent.fInt Syntax.w8)) (Syntax.tyRef (Syntax.named 1) Syntax.imm (Syntax.tyInt Syntax.w8)) 1) (List._∷_ (4, Rows'.any-gone (ColumnMetadataRow.ty)) (List._∷_ (5, Rows.arrF (ColumnMetadataRow.RT) 4096 0) (List._∷_ (6, Rows'.any-gone (Syntax.tyStruct (List._∷_ 115 (List._∷_ 113 (List._∷_ 108 (List._∷_ 100 (List._∷_ 97 (List._∷_ 114 (List._∷_ 100 (List._∷_ 58 (List._∷_ 58 (List._∷_ 83 (List._∷_ 113 (List._∷_ 108 (List._∷_ 100 (List._∷_ 97 (List._∷_ 114 (List._∷_ 100 (List._∷_ 65 (List._∷_ 110 (List._∷_ 115 (List._∷_ 119 (List._∷_ 101 (List._∷_ 114 List.[])))))))))))))))))))))) (Syntax.tcons (Syntax.tyEnum (List._∷_ 111 (List._∷_ 117 (List._∷_ 116 (List._∷_ 99 (List._∷_ 111 (List._∷_ 109 (List._∷_ 101 (List._∷_ 58 (List._∷_ 58 (List._∷_ 79 (List._∷_ 117 (List._∷_ 116 (List._∷_ 99 (List._∷_ 111 (List._∷_ 109 (List._∷_ 101 List.[])))))))))))))))) (Syntax.ttcons Syntax.tnil (Syntax.ttcons Syntax.tnil (Syntax.ttcons (Syntax.tcons (Syntax.tyInt Syntax.w64) (Syntax.tcons (Syntax.tyInt Syntax.w64) Syntax.tnil)) (Syntax.ttcons Syntax.tnil (Syntax.ttcons (Syntax.tcons (Syntax.tyInt Syntax.w16) Syntax.tnil) (Syntax.ttcons Syntax.tnil (Syntax.ttcons (Syntax.tcons (Syntax.tyInt Syntax.w64) Syntax.tnil) (Syntax.ttcons Syntax.tnil (Syntax.ttcons (Syntax.tcons (Syntax.tyInt Syntax.w16) Syntax.tnil) Syntax.ttnil)))))))))) (Syntax.tcons (Syntax.tyStruct (List._∷_ 115 (List._∷_ 113 (List._∷_ 108 (List._∷_ 99 (List._∷_ 97 (List._∷_ 114 (List._∷_ 100 (List._∷_ 58 (List._∷_ 58 (List._∷_ 83 (List._∷_ 113 (List._∷_ 108 (List._∷_ 67 (List._∷_ 97 (List._∷_ 114 (List._∷_ 100 List.[])))))))))))))))) (Syntax.tcons Syntax.tyBool (Syntax.tcons (Syntax.tyInt Syntax.w32) (Syntax.tcons (Syntax.tyArray (Syntax.tyInt Syntax.w8) 5) (Syntax.tcons (Syntax.tyArray (Syntax.tyInt Syntax.w8) 8) (Syntax.tcons (Syntax.tyInt Syntax.w8) (Syntax.tcons (Syntax.tyArray (Syntax.tyInt Syntax.w32) 6) (Syntax.tcons (Syntax.tyInt Syntax.w64) (Syntax.tcons (Syntax.tyInt Syntax.w32) (Syntax.tcons (Syntax.tyArray (Syntax.tyInt Syntax.w8) 11) (Syntax.tcons (Syntax.tyInt Syntax.w64) (Syntax.tcons (Syntax.tyInt Syntax.w64) Syntax.tnil)))))))))))) (Syntax.tcons (Syntax.tyInt Syntax.w64) Syntax.tnil))))) (List._∷_ (7, Rows'.sc-here (Row.sInt Syntax.w64)) (List._∷_ (8, Rows'.sc-here (Row.sInt Syntax.w64)) (List._∷_ (9, Rows'.any-gone (Syntax.tyRef Syntax.erased Syntax.mut (Syntax.tyArray ColumnMetadataRow.named 4096))) (List._∷_ (10, Rows'.any-gone (Syntax.tyStruct (List._∷_ 38 (List._∷_ 91 (List._∷_ 93 List.[]))) (Syntax.tcons (Syntax.tyRef Syntax.erased Syntax.mut ColumnMetadataRow.named) (Syntax.tcons (Syntax.tyInt Syntax.w64) Syntax.tnil)))) (List._∷_ (11, Rows'.any-gone (Syntax.tyRef Syntax.erased Syntax.mut (Syntax.tyInt Syntax.w8))) (List._∷_ (12, Rows'.any-gone (Syntax.tyStruct (List._∷_ 38 (List._∷_ 91 (List._∷_ 93 List.[]))) (Syntax.tcons (Syntax.tyRef Syntax.erased Syntax.mut (Syntax.tyInt Syntax.w8)) (Syntax.tcons (Syntax.tyInt Syntax.w64) Syntax.tnil)))) (List._∷_ (13, Relend.msptr (Referent.rtF (Referent.fInt Syntax.w8)) (Syntax.tyRef Syntax.erased Syntax.mut (Syntax.tyInt Syntax.w8)) 4) (List._∷_ (14, Rows'.any-gone (Syntax.tyStruct (List._∷_ 38 (List._∷_ 91 (List._∷_ 93 List.[]))) (Syntax.tcons (Syntax.tyRef Syntax.erased Syntax.mut (Syntax.tyInt Syntax.w8)) (Syntax.tcons (Syntax.tyInt Syntax.w64) Syntax.tnil)))) (List._∷_ (15, Rows'.any-gone (Syntax.tyRef Syntax.erased Syntax.imm (Syntax.tyArray ColumnMetadataRow.named 4096))) List.[])))))))))))))))
 
 abbrev pub t18 : List.List Row.Entry
-t18 = List._∷_ (0, Rows'.any-gone (Syntax.tyInt Syntax.w64)) (List._∷_ (1, Relend.mslice-owed (Referent.rtF (Referent.fInt Syntax.w8)) (Syntax.tyRef (Syntax.named 0) Syntax.mut (Syntax.tyInt Syntax.w8)) 0 4 Row.off) (List._∷_ (2, Rows'.sc-here (Row.sInt Syntax.w64)) (List._∷_ (3, Rows'.sslice (Referent.rtF (Referent.fInt Syntax.w8)) (Syntax.tyRef (Syntax.named 1) Syntax.imm (Syntax.tyInt Syntax.w8)) 1) (List._∷_ (4, Rows'.any-gone (ColumnMetadataRow.ty)) (List._∷_ (5, Rows.arrF (ColumnMetadataRow.RT) 4096 0) (List._∷_ (6, Rows'.any-gone (Syntax.tyStruct (List._∷_ 115 (List._∷_ 113 (List._∷_ 108 (List._∷_ 100 (List._∷_ 97 (List._∷_ 114 (List._∷_ 100 (List._∷_ 58 (List._∷_ 58 (List._∷_ 83 (List._∷_ 113 (List._∷_ 108 (List._∷_ 100 (List._∷_ 97 (List._∷_ 114 (List._∷_ 100 (List._∷_ 65 (List._∷_ 110 (List._∷_ 115 (List._∷_ 119 (List._∷_ 101 (List._∷_ 114 List.[])))))))))))))))))))))) (Syntax.tcons (Syntax.tyEnum (List._∷_ 111 (List._∷_ 117 (List._∷_ 116 (List._∷_ 99 (List._∷_ 111 (List._∷_ 109 (List._∷_ 101 (List._∷_ 58 (List._∷_ 58 (List._∷_ 79 (List._∷_ 117 (List._∷_ 116 (List._∷_ 99 (List._∷_ 111 (List._∷_ 109 (List._∷_ 101 List.[])))))))))))))))) (Syntax.ttcons Syntax.tnil (Syntax.ttcons Syntax.tnil (Syntax.ttcons (Syntax.tcons (Syntax.tyInt Syntax.w64) (Syntax.tcons (Syntax.tyInt Syntax.w64) Syntax.tnil)) (Syntax.ttcons Syntax.tnil (Syntax.ttcons (Syntax.tcons (Syntax.tyInt Syntax.w16) Syntax.tnil) (Syntax.ttcons Syntax.tnil (Syntax.ttcons (Syntax.tcons (Syntax.tyInt Syntax.w64) Syntax.tnil) (Syntax.ttcons Syntax.tnil Syntax.ttnil))))))))) (Syntax.tcons (Syntax.tyStruct (List._∷_ 115 (List._∷_ 113 (List._∷_ 108 (List._∷_ 99 (List._∷_ 97 (List._∷_ 114 (List._∷_ 100 (List._∷_ 58 (List._∷_ 58 (List._∷_ 83 (List._∷_ 113 (List._∷_ 108 (List._∷_ 67 (List._∷_ 97 (List._∷_ 114 (List._∷_ 100 List.[])))))))))))))))) (Syntax.tcons Syntax.tyBool (Syntax.tcons (Syntax.tyInt Syntax.w32) (Syntax.tcons (Syntax.tyArray (Syntax.tyInt Syntax.w8) 5) (Syntax.tcons (Syntax.tyArray (Syntax.tyInt Syntax.w8) 8) (Syntax.tcons (Syntax.tyInt Syntax.w8) (Syntax.tcons (Syntax.tyArray (Syntax.tyInt Syntax.w32) 6) (Syntax.tcons (Syntax.tyInt Syntax.w64) (Syntax.tcons (Syntax.tyInt Syntax.w32) (Syntax.tcons (Syntax.tyArray (Syntax.tyInt Syntax.w8) 11) (Syntax.tcons (Syntax.tyInt Syntax.w64) (Syntax.tcons (Syntax.tyInt Syntax.w64) Syntax.tnil)))))))))))) (Syntax.tcons (Syntax.tyInt Syntax.w64) Syntax.tnil))))) (List._∷_ (7, Rows'.sc-here (Row.sInt Syntax.w64)) (List._∷_ (8, Rows'.sc-here (Row.sInt Syntax.w64)) (List._∷_ (9, Rows'.any-gone (Syntax.tyRef Syntax.erased Syntax.mut (Syntax.tyArray ColumnMetadataRow.named 4096))) (List._∷_ (10, Rows'.any-gone (Syntax.tyStruct (List._∷_ 38 (List._∷_ 91 (List._∷_ 93 List.[]))) (Syntax.tcons (Syntax.tyRef Syntax.erased Syntax.mut ColumnMetadataRow.named) (Syntax.tcons (Syntax.tyInt Syntax.w64) Syntax.tnil)))) (List._∷_ (11, Rows'.any-gone (Syntax.tyRef Syntax.erased Syntax.mut (Syntax.tyInt Syntax.w8))) (List._∷_ (12, Rows'.any-gone (Syntax.tyStruct (List._∷_ 38 (List._∷_ 91 (List._∷_ 93 List.[]))) (Syntax.tcons (Syntax.tyRef Syntax.erased Syntax.mut (Syntax.tyInt Syntax.w8)) (Syntax.tcons (Syntax.tyInt Syntax.w64) Syntax.tnil)))) (List._∷_ (13, Rows'.any-gone (Syntax.tyRef Syntax.erased Syntax.mut (Syntax.tyInt Syntax.w8))) (List._∷_ (14, Mut.mslice (Referent.rtF (Referent.fInt Syntax.w8)) (Syntax.tyRef Syntax.erased Syntax.mut (Syntax.tyInt Syntax.w8)) 4) (List._∷_ (15, Rows'.any-gone (Syntax.tyRef Syntax.erased Syntax.imm (Syntax.tyArray ColumnMetadataRow.named 4096))) List.[])))))))))))))))
+t18 = List._∷_ (0, Rows'.any-gone (Syntax.tyInt Syntax.w64)) (List._∷_ (1, Relend.mslice-owed (Referent.rtF (Referent.fInt Syntax.w8)) (Syntax.tyRef (Syntax.named 0) Syntax.mut (Syntax.tyInt Syntax.w8)) 0 4 Row.off) (List._∷_ (2, Rows'.sc-here (Row.sInt Syntax.w64)) (List._∷_ (3, Rows'.sslice (Referent.rtF (Referent.fInt Syntax.w8)) (Syntax.tyRef (Syntax.named 1) Syntax.imm (Syntax.tyInt Syntax.w8)) 1) (List._∷_ (4, Rows'.any-gone (ColumnMetadataRow.ty)) (List._∷_ (5, Rows.arrF (ColumnMetadataRow.RT) 4096 0) (List._∷_ (6, Rows'.any-gone (Syntax.tyStruct (List._∷_ 115 (List._∷_ 113 (List._∷_ 108 (List._∷_ 100 (List._∷_ 97 (List._∷_ 114 (List._∷_ 100 (List._∷_ 58 (List._∷_ 58 (List._∷_ 83 (List._∷_ 113 (List._∷_ 108 (List._∷_ 100 (List._∷_ 97 (List._∷_ 114 (List._∷_ 100 (List._∷_ 65 (List._∷_ 110 (List._∷_ 115 (List._∷_ 119 (List._∷_ 101 (List._∷_ 114 List.[])))))))))))))))))))))) (Syntax.tcons (Syntax.tyEnum (List._∷_ 111 (List._∷_ 117 (List._∷_ 116 (List._∷_ 99 (List._∷_ 111 (List._∷_ 109 (List._∷_ 101 (List._∷_ 58 (List._∷_ 58 (List._∷_ 79 (List._∷_ 117 (List._∷_ 116 (List._∷_ 99 (List._∷_ 111 (List._∷_ 109 (List._∷_ 101 List.[])))))))))))))))) (Syntax.ttcons Syntax.tnil (Syntax.ttcons Syntax.tnil (Syntax.ttcons (Syntax.tcons (Syntax.tyInt Syntax.w64) (Syntax.tcons (Syntax.tyInt Syntax.w64) Syntax.tnil)) (Syntax.ttcons Syntax.tnil (Syntax.ttcons (Syntax.tcons (Syntax.tyInt Syntax.w16) Syntax.tnil) (Syntax.ttcons Syntax.tnil (Syntax.ttcons (Syntax.tcons (Syntax.tyInt Syntax.w64) Syntax.tnil) (Syntax.ttcons Syntax.tnil (Syntax.ttcons (Syntax.tcons (Syntax.tyInt Syntax.w16) Syntax.tnil) Syntax.ttnil)))))))))) (Syntax.tcons (Syntax.tyStruct (List._∷_ 115 (List._∷_ 113 (List._∷_ 108 (List._∷_ 99 (List._∷_ 97 (List._∷_ 114 (List._∷_ 100 (List._∷_ 58 (List._∷_ 58 (List._∷_ 83 (List._∷_ 113 (List._∷_ 108 (List._∷_ 67 (List._∷_ 97 (List._∷_ 114 (List._∷_ 100 List.[])))))))))))))))) (Syntax.tcons Syntax.tyBool (Syntax.tcons (Syntax.tyInt Syntax.w32) (Syntax.tcons (Syntax.tyArray (Syntax.tyInt Syntax.w8) 5) (Syntax.tcons (Syntax.tyArray (Syntax.tyInt Syntax.w8) 8) (Syntax.tcons (Syntax.tyInt Syntax.w8) (Syntax.tcons (Syntax.tyArray (Syntax.tyInt Syntax.w32) 6) (Syntax.tcons (Syntax.tyInt Syntax.w64) (Syntax.tcons (Syntax.tyInt Syntax.w32) (Syntax.tcons (Syntax.tyArray (Syntax.tyInt Syntax.w8) 11) (Syntax.tcons (Syntax.tyInt Syntax.w64) (Syntax.tcons (Syntax.tyInt Syntax.w64) Syntax.tnil)))))))))))) (Syntax.tcons (Syntax.tyInt Syntax.w64) Syntax.tnil))))) (List._∷_ (7, Rows'.sc-here (Row.sInt Syntax.w64)) (List._∷_ (8, Rows'.sc-here (Row.sInt Syntax.w64)) (List._∷_ (9, Rows'.any-gone (Syntax.tyRef Syntax.erased Syntax.mut (Syntax.tyArray ColumnMetadataRow.named 4096))) (List._∷_ (10, Rows'.any-gone (Syntax.tyStruct (List._∷_ 38 (List._∷_ 91 (List._∷_ 93 List.[]))) (Syntax.tcons (Syntax.tyRef Syntax.erased Syntax.mut ColumnMetadataRow.named) (Syntax.tcons (Syntax.tyInt Syntax.w64) Syntax.tnil)))) (List._∷_ (11, Rows'.any-gone (Syntax.tyRef Syntax.erased Syntax.mut (Syntax.tyInt Syntax.w8))) (List._∷_ (12, Rows'.any-gone (Syntax.tyStruct (List._∷_ 38 (List._∷_ 91 (List._∷_ 93 List.[]))) (Syntax.tcons (Syntax.tyRef Syntax.erased Syntax.mut (Syntax.tyInt Syntax.w8)) (Syntax.tcons (Syntax.tyInt Syntax.w64) Syntax.tnil)))) (List._∷_ (13, Rows'.any-gone (Syntax.tyRef Syntax.erased Syntax.mut (Syntax.tyInt Syntax.w8))) (List._∷_ (14, Mut.mslice (Referent.rtF (Referent.fInt Syntax.w8)) (Syntax.tyRef Syntax.erased Syntax.mut (Syntax.tyInt Syntax.w8)) 4) (List._∷_ (15, Rows'.any-gone (Syntax.tyRef Syntax.erased Syntax.imm (Syntax.tyArray ColumnMetadataRow.named 4096))) List.[])))))))))))))))
 
 abbrev pub t19 : List.List Row.Entry
-t19 = List._∷_ (0, Rows'.any-gone (Syntax.tyInt Syntax.w64)) (List._∷_ (1, Relend.mslice-owed (Referent.rtF (Referent.fInt Syntax.w8)) (Syntax.tyRef (Syntax.named 0) Syntax.mut (Syntax.tyInt Syntax.w8)) 0 4 Row.off) (List._∷_ (2, Rows'.sc-here (Row.sInt Syntax.w64)) (List._∷_ (3, Rows'.sslice (Referent.rtF (Referent.fInt Syntax.w8)) (Syntax.tyRef (Syntax.named 1) Syntax.imm (Syntax.tyInt Syntax.w8)) 1) (List._∷_ (4, Rows'.any-gone (ColumnMetadataRow.ty)) (List._∷_ (5, Rows.arr-shrP (ColumnMetadataRow.RT) 4096 5) (List._∷_ (6, Rows'.any-gone (Syntax.tyStruct (List._∷_ 115 (List._∷_ 113 (List._∷_ 108 (List._∷_ 100 (List._∷_ 97 (List._∷_ 114 (List._∷_ 100 (List._∷_ 58 (List._∷_ 58 (List._∷_ 83 (List._∷_ 113 (List._∷_ 108 (List._∷_ 100 (List._∷_ 97 (List._∷_ 114 (List._∷_ 100 (List._∷_ 65 (List._∷_ 110 (List._∷_ 115 (List._∷_ 119 (List._∷_ 101 (List._∷_ 114 List.[])))))))))))))))))))))) (Syntax.tcons (Syntax.tyEnum (List._∷_ 111 (List._∷_ 117 (List._∷_ 116 (List._∷_ 99 (List._∷_ 111 (List._∷_ 109 (List._∷_ 101 (List._∷_ 58 (List._∷_ 58 (List._∷_ 79 (List._∷_ 117 (List._∷_ 116 (List._∷_ 99 (List._∷_ 111 (List._∷_ 109 (List._∷_ 101 List.[])))))))))))))))) (Syntax.ttcons Syntax.tnil (Syntax.ttcons Syntax.tnil (Syntax.ttcons (Syntax.tcons (Syntax.tyInt Syntax.w64) (Syntax.tcons (Syntax.tyInt Syntax.w64) Syntax.tnil)) (Syntax.ttcons Syntax.tnil (Syntax.ttcons (Syntax.tcons (Syntax.tyInt Syntax.w16) Syntax.tnil) (Syntax.ttcons Syntax.tnil (Syntax.ttcons (Syntax.tcons (Syntax.tyInt Syntax.w64) Syntax.tnil) (Syntax.ttcons Syntax.tnil Syntax.ttnil))))))))) (Syntax.tcons (Syntax.tyStruct (List._∷_ 115 (List._∷_ 113 (List._∷_ 108 (List._∷_ 99 (List._∷_ 97 (List._∷_ 114 (List._∷_ 100 (List._∷_ 58 (List._∷_ 58 (List._∷_ 83 (List._∷_ 113 (List._∷_ 108 (List._∷_ 67 (List._∷_ 97 (List._∷_ 114 (List._∷_ 100 List.[])))))))))))))))) (Syntax.tcons Syntax.tyBool (Syntax.tcons (Syntax.tyInt Syntax.w32) (Syntax.tcons (Syntax.tyArray (Syntax.tyInt Syntax.w8) 5) (Syntax.tcons (Syntax.tyArray (Syntax.tyInt Syntax.w8) 8) (Syntax.tcons (Syntax.tyInt Syntax.w8) (Syntax.tcons (Syntax.tyArray (Syntax.tyInt Syntax.w32) 6) (Syntax.tcons (Syntax.tyInt Syntax.w64) (Syntax.tcons (Syntax.tyInt Syntax.w32) (Syntax.tcons (Syntax.tyArray (Syntax.tyInt Syntax.w8) 11) (Syntax.tcons (Syntax.tyInt Syntax.w64) (Syntax.tcons (Syntax.tyInt Syntax.w64) Syntax.tnil)))))))))))) (Syntax.tcons (Syntax.tyInt Syntax.w64) Syntax.tnil))))) (List._∷_ (7, Rows'.sc-here (Row.sInt Syntax.w64)) (List._∷_ (8, Rows'.sc-here (Row.sInt Syntax.w64)) (List._∷_ (9, Rows'.any-gone (Syntax.tyRef Syntax.erased Syntax.mut (Syntax.tyArray ColumnMetadataRow.named 4096))) (List._∷_ (10, Rows'.any-gone (Syntax.tyStruct (List._∷_ 38 (List._∷_ 91 (List._∷_ 93 List.[]))) (Syntax.tcons (Syntax.tyRef Syntax.erased Syntax.mut ColumnMetadataRow.named) (Syntax.tcons (Syntax.tyInt Syntax.w64) Syntax.tnil)))) (List._∷_ (11, Rows'.any-gone (Syntax.tyRef Syntax.erased Syntax.mut (Syntax.tyInt Syntax.w8))) (List._∷_ (12, Rows'.any-gone (Syntax.tyStruct (List._∷_ 38 (List._∷_ 91 (List._∷_ 93 List.[]))) (Syntax.tcons (Syntax.tyRef Syntax.erased Syntax.mut (Syntax.tyInt Syntax.w8)) (Syntax.tcons (Syntax.tyInt Syntax.w64) Syntax.tnil)))) (List._∷_ (13, Rows'.any-gone (Syntax.tyRef Syntax.erased Syntax.mut (Syntax.tyInt Syntax.w8))) (List._∷_ (14, Mut.mslice (Referent.rtF (Referent.fInt Syntax.w8)) (Syntax.tyRef Syntax.erased Syntax.mut (Syntax.tyInt Syntax.w8)) 4) (List._∷_ (15, Relend.ssptr (ColumnMetadataRow.RT) (Syntax.tyRef Syntax.erased Syntax.imm (Syntax.tyArray ColumnMetadataRow.named 4096)) 5) List.[])))))))))))))))
+t19 = List._∷_ (0, Rows'.any-gone (Syntax.tyInt Syntax.w64)) (List._∷_ (1, Relend.mslice-owed (Referent.rtF (Referent.fInt Syntax.w8)) (Syntax.tyRef (Syntax.named 0) Syntax.mut (Syntax.tyInt Syntax.w8)) 0 4 Row.off) (List._∷_ (2, Rows'.sc-here (Row.sInt Syntax.w64)) (List._∷_ (3, Rows'.sslice (Referent.rtF (Referent.fInt Syntax.w8)) (Syntax.tyRef (Syntax.named 1) Syntax.imm (Syntax.tyInt Syntax.w8)) 1) (List._∷_ (4, Rows'.any-gone (ColumnMetadataRow.ty)) (List._∷_ (5, Rows.arr-shrP (ColumnMetadataRow.RT) 4096 5) (List._∷_ (6, Rows'.any-gone (Syntax.tyStruct (List._∷_ 115 (List._∷_ 113 (List._∷_ 108 (List._∷_ 100 (List._∷_ 97 (List._∷_ 114 (List._∷_ 100 (List._∷_ 58 (List._∷_ 58 (List._∷_ 83 (List._∷_ 113 (List._∷_ 108 (List._∷_ 100 (List._∷_ 97 (List._∷_ 114 (List._∷_ 100 (List._∷_ 65 (List._∷_ 110 (List._∷_ 115 (List._∷_ 119 (List._∷_ 101 (List._∷_ 114 List.[])))))))))))))))))))))) (Syntax.tcons (Syntax.tyEnum (List._∷_ 111 (List._∷_ 117 (List._∷_ 116 (List._∷_ 99 (List._∷_ 111 (List._∷_ 109 (List._∷_ 101 (List._∷_ 58 (List._∷_ 58 (List._∷_ 79 (List._∷_ 117 (List._∷_ 116 (List._∷_ 99 (List._∷_ 111 (List._∷_ 109 (List._∷_ 101 List.[])))))))))))))))) (Syntax.ttcons Syntax.tnil (Syntax.ttcons Syntax.tnil (Syntax.ttcons (Syntax.tcons (Syntax.tyInt Syntax.w64) (Syntax.tcons (Syntax.tyInt Syntax.w64) Syntax.tnil)) (Syntax.ttcons Syntax.tnil (Syntax.ttcons (Syntax.tcons (Syntax.tyInt Syntax.w16) Syntax.tnil) (Syntax.ttcons Syntax.tnil (Syntax.ttcons (Syntax.tcons (Syntax.tyInt Syntax.w64) Syntax.tnil) (Syntax.ttcons Syntax.tnil (Syntax.ttcons (Syntax.tcons (Syntax.tyInt Syntax.w16) Syntax.tnil) Syntax.ttnil)))))))))) (Syntax.tcons (Syntax.tyStruct (List._∷_ 115 (List._∷_ 113 (List._∷_ 108 (List._∷_ 99 (List._∷_ 97 (List._∷_ 114 (List._∷_ 100 (List._∷_ 58 (List._∷_ 58 (List._∷_ 83 (List._∷_ 113 (List._∷_ 108 (List._∷_ 67 (List._∷_ 97 (List._∷_ 114 (List._∷_ 100 List.[])))))))))))))))) (Syntax.tcons Syntax.tyBool (Syntax.tcons (Syntax.tyInt Syntax.w32) (Syntax.tcons (Syntax.tyArray (Syntax.tyInt Syntax.w8) 5) (Syntax.tcons (Syntax.tyArray (Syntax.tyInt Syntax.w8) 8) (Syntax.tcons (Syntax.tyInt Syntax.w8) (Syntax.tcons (Syntax.tyArray (Syntax.tyInt Syntax.w32) 6) (Syntax.tcons (Syntax.tyInt Syntax.w64) (Syntax.tcons (Syntax.tyInt Syntax.w32) (Syntax.tcons (Syntax.tyArray (Syntax.tyInt Syntax.w8) 11) (Syntax.tcons (Syntax.tyInt Syntax.w64) (Syntax.tcons (Syntax.tyInt Syntax.w64) Syntax.tnil)))))))))))) (Syntax.tcons (Syntax.tyInt Syntax.w64) Syntax.tnil))))) (List._∷_ (7, Rows'.sc-here (Row.sInt Syntax.w64)) (List._∷_ (8, Rows'.sc-here (Row.sInt Syntax.w64)) (List._∷_ (9, Rows'.any-gone (Syntax.tyRef Syntax.erased Syntax.mut (Syntax.tyArray ColumnMetadataRow.named 4096))) (List._∷_ (10, Rows'.any-gone (Syntax.tyStruct (List._∷_ 38 (List._∷_ 91 (List._∷_ 93 List.[]))) (Syntax.tcons (Syntax.tyRef Syntax.erased Syntax.mut ColumnMetadataRow.named) (Syntax.tcons (Syntax.tyInt Syntax.w64) Syntax.tnil)))) (List._∷_ (11, Rows'.any-gone (Syntax.tyRef Syntax.erased Syntax.mut (Syntax.tyInt Syntax.w8))) (List._∷_ (12, Rows'.any-gone (Syntax.tyStruct (List._∷_ 38 (List._∷_ 91 (List._∷_ 93 List.[]))) (Syntax.tcons (Syntax.tyRef Syntax.erased Syntax.mut (Syntax.tyInt Syntax.w8)) (Syntax.tcons (Syntax.tyInt Syntax.w64) Syntax.tnil)))) (List._∷_ (13, Rows'.any-gone (Syntax.tyRef Syntax.erased Syntax.mut (Syntax.tyInt Syntax.w8))) (List._∷_ (14, Mut.mslice (Referent.rtF (Referent.fInt Syntax.w8)) (Syntax.tyRef Syntax.erased Syntax.mut (Syntax.tyInt Syntax.w8)) 4) (List._∷_ (15, Relend.ssptr (ColumnMetadataRow.RT) (Syntax.tyRef Syntax.erased Syntax.imm (Syntax.tyArray ColumnMetadataRow.named 4096)) 5) List.[])))))))))))))))
 
 abbrev pub t20 : List.List Row.Entry
-t20 = List._∷_ (0, Rows'.any-gone (Syntax.tyInt Syntax.w64)) (List._∷_ (1, Relend.mslice-owed (Referent.rtF (Referent.fInt Syntax.w8)) (Syntax.tyRef (Syntax.named 0) Syntax.mut (Syntax.tyInt Syntax.w8)) 0 4 Row.off) (List._∷_ (2, Rows'.sc-here (Row.sInt Syntax.w64)) (List._∷_ (3, Rows'.sslice (Referent.rtF (Referent.fInt Syntax.w8)) (Syntax.tyRef (Syntax.named 1) Syntax.imm (Syntax.tyInt Syntax.w8)) 1) (List._∷_ (4, Rows'.any-gone (ColumnMetadataRow.ty)) (List._∷_ (5, Rows.arr-shrP (ColumnMetadataRow.RT) 4096 5) (List._∷_ (6, Rows'.any-gone (Syntax.tyStruct (List._∷_ 115 (List._∷_ 113 (List._∷_ 108 (List._∷_ 100 (List._∷_ 97 (List._∷_ 114 (List._∷_ 100 (List._∷_ 58 (List._∷_ 58 (List._∷_ 83 (List._∷_ 113 (List._∷_ 108 (List._∷_ 100 (List._∷_ 97 (List._∷_ 114 (List._∷_ 100 (List._∷_ 65 (List._∷_ 110 (List._∷_ 115 (List._∷_ 119 (List._∷_ 101 (List._∷_ 114 List.[])))))))))))))))))))))) (Syntax.tcons (Syntax.tyEnum (List._∷_ 111 (List._∷_ 117 (List._∷_ 116 (List._∷_ 99 (List._∷_ 111 (List._∷_ 109 (List._∷_ 101 (List._∷_ 58 (List._∷_ 58 (List._∷_ 79 (List._∷_ 117 (List._∷_ 116 (List._∷_ 99 (List._∷_ 111 (List._∷_ 109 (List._∷_ 101 List.[])))))))))))))))) (Syntax.ttcons Syntax.tnil (Syntax.ttcons Syntax.tnil (Syntax.ttcons (Syntax.tcons (Syntax.tyInt Syntax.w64) (Syntax.tcons (Syntax.tyInt Syntax.w64) Syntax.tnil)) (Syntax.ttcons Syntax.tnil (Syntax.ttcons (Syntax.tcons (Syntax.tyInt Syntax.w16) Syntax.tnil) (Syntax.ttcons Syntax.tnil (Syntax.ttcons (Syntax.tcons (Syntax.tyInt Syntax.w64) Syntax.tnil) (Syntax.ttcons Syntax.tnil Syntax.ttnil))))))))) (Syntax.tcons (Syntax.tyStruct (List._∷_ 115 (List._∷_ 113 (List._∷_ 108 (List._∷_ 99 (List._∷_ 97 (List._∷_ 114 (List._∷_ 100 (List._∷_ 58 (List._∷_ 58 (List._∷_ 83 (List._∷_ 113 (List._∷_ 108 (List._∷_ 67 (List._∷_ 97 (List._∷_ 114 (List._∷_ 100 List.[])))))))))))))))) (Syntax.tcons Syntax.tyBool (Syntax.tcons (Syntax.tyInt Syntax.w32) (Syntax.tcons (Syntax.tyArray (Syntax.tyInt Syntax.w8) 5) (Syntax.tcons (Syntax.tyArray (Syntax.tyInt Syntax.w8) 8) (Syntax.tcons (Syntax.tyInt Syntax.w8) (Syntax.tcons (Syntax.tyArray (Syntax.tyInt Syntax.w32) 6) (Syntax.tcons (Syntax.tyInt Syntax.w64) (Syntax.tcons (Syntax.tyInt Syntax.w32) (Syntax.tcons (Syntax.tyArray (Syntax.tyInt Syntax.w8) 11) (Syntax.tcons (Syntax.tyInt Syntax.w64) (Syntax.tcons (Syntax.tyInt Syntax.w64) Syntax.tnil)))))))))))) (Syntax.tcons (Syntax.tyInt Syntax.w64) Syntax.tnil))))) (List._∷_ (7, Rows'.sc-here (Row.sInt Syntax.w64)) (List._∷_ (8, Rows'.sc-here (Row.sInt Syntax.w64)) (List._∷_ (9, Rows'.any-gone (Syntax.tyRef Syntax.erased Syntax.mut (Syntax.tyArray ColumnMetadataRow.named 4096))) (List._∷_ (10, Rows'.any-gone (Syntax.tyStruct (List._∷_ 38 (List._∷_ 91 (List._∷_ 93 List.[]))) (Syntax.tcons (Syntax.tyRef Syntax.erased Syntax.mut ColumnMetadataRow.named) (Syntax.tcons (Syntax.tyInt Syntax.w64) Syntax.tnil)))) (List._∷_ (11, Rows'.any-gone (Syntax.tyRef Syntax.erased Syntax.mut (Syntax.tyInt Syntax.w8))) (List._∷_ (12, Rows'.any-gone (Syntax.tyStruct (List._∷_ 38 (List._∷_ 91 (List._∷_ 93 List.[]))) (Syntax.tcons (Syntax.tyRef Syntax.erased Syntax.mut (Syntax.tyInt Syntax.w8)) (Syntax.tcons (Syntax.tyInt Syntax.w64) Syntax.tnil)))) (List._∷_ (13, Rows'.any-gone (Syntax.tyRef Syntax.erased Syntax.mut (Syntax.tyInt Syntax.w8))) (List._∷_ (14, Mut.mslice (Referent.rtF (Referent.fInt Syntax.w8)) (Syntax.tyRef Syntax.erased Syntax.mut (Syntax.tyInt Syntax.w8)) 4) (List._∷_ (15, Rows'.any-gone (Syntax.tyRef Syntax.erased Syntax.imm (Syntax.tyArray ColumnMetadataRow.named 4096))) List.[])))))))))))))))
+t20 = List._∷_ (0, Rows'.any-gone (Syntax.tyInt Syntax.w64)) (List._∷_ (1, Relend.mslice-owed (Referent.rtF (Referent.fInt Syntax.w8)) (Syntax.tyRef (Syntax.named 0) Syntax.mut (Syntax.tyInt Syntax.w8)) 0 4 Row.off) (List._∷_ (2, Rows'.sc-here (Row.sInt Syntax.w64)) (List._∷_ (3, Rows'.sslice (Referent.rtF (Referent.fInt Syntax.w8)) (Syntax.tyRef (Syntax.named 1) Syntax.imm (Syntax.tyInt Syntax.w8)) 1) (List._∷_ (4, Rows'.any-gone (ColumnMetadataRow.ty)) (List._∷_ (5, Rows.arr-shrP (ColumnMetadataRow.RT) 4096 5) (List._∷_ (6, Rows'.any-gone (Syntax.tyStruct (List._∷_ 115 (List._∷_ 113 (List._∷_ 108 (List._∷_ 100 (List._∷_ 97 (List._∷_ 114 (List._∷_ 100 (List._∷_ 58 (List._∷_ 58 (List._∷_ 83 (List._∷_ 113 (List._∷_ 108 (List._∷_ 100 (List._∷_ 97 (List._∷_ 114 (List._∷_ 100 (List._∷_ 65 (List._∷_ 110 (List._∷_ 115 (List._∷_ 119 (List._∷_ 101 (List._∷_ 114 List.[])))))))))))))))))))))) (Syntax.tcons (Syntax.tyEnum (List._∷_ 111 (List._∷_ 117 (List._∷_ 116 (List._∷_ 99 (List._∷_ 111 (List._∷_ 109 (List._∷_ 101 (List._∷_ 58 (List._∷_ 58 (List._∷_ 79 (List._∷_ 117 (List._∷_ 116 (List._∷_ 99 (List._∷_ 111 (List._∷_ 109 (List._∷_ 101 List.[])))))))))))))))) (Syntax.ttcons Syntax.tnil (Syntax.ttcons Syntax.tnil (Syntax.ttcons (Syntax.tcons (Syntax.tyInt Syntax.w64) (Syntax.tcons (Syntax.tyInt Syntax.w64) Syntax.tnil)) (Syntax.ttcons Syntax.tnil (Syntax.ttcons (Syntax.tcons (Syntax.tyInt Syntax.w16) Syntax.tnil) (Syntax.ttcons Syntax.tnil (Syntax.ttcons (Syntax.tcons (Syntax.tyInt Syntax.w64) Syntax.tnil) (Syntax.ttcons Syntax.tnil (Syntax.ttcons (Syntax.tcons (Syntax.tyInt Syntax.w16) Syntax.tnil) Syntax.ttnil)))))))))) (Syntax.tcons (Syntax.tyStruct (List._∷_ 115 (List._∷_ 113 (List._∷_ 108 (List._∷_ 99 (List._∷_ 97 (List._∷_ 114 (List._∷_ 100 (List._∷_ 58 (List._∷_ 58 (List._∷_ 83 (List._∷_ 113 (List._∷_ 108 (List._∷_ 67 (List._∷_ 97 (List._∷_ 114 (List._∷_ 100 List.[])))))))))))))))) (Syntax.tcons Syntax.tyBool (Syntax.tcons (Syntax.tyInt Syntax.w32) (Syntax.tcons (Syntax.tyArray (Syntax.tyInt Syntax.w8) 5) (Syntax.tcons (Syntax.tyArray (Syntax.tyInt Syntax.w8) 8) (Syntax.tcons (Syntax.tyInt Syntax.w8) (Syntax.tcons (Syntax.tyArray (Syntax.tyInt Syntax.w32) 6) (Syntax.tcons (Syntax.tyInt Syntax.w64) (Syntax.tcons (Syntax.tyInt Syntax.w32) (Syntax.tcons (Syntax.tyArray (Syntax.tyInt Syntax.w8) 11) (Syntax.tcons (Syntax.tyInt Syntax.w64) (Syntax.tcons (Syntax.tyInt Syntax.w64) Syntax.tnil)))))))))))) (Syntax.tcons (Syntax.tyInt Syntax.w64) Syntax.tnil))))) (List._∷_ (7, Rows'.sc-here (Row.sInt Syntax.w64)) (List._∷_ (8, Rows'.sc-here (Row.sInt Syntax.w64)) (List._∷_ (9, Rows'.any-gone (Syntax.tyRef Syntax.erased Syntax.mut (Syntax.tyArray ColumnMetadataRow.named 4096))) (List._∷_ (10, Rows'.any-gone (Syntax.tyStruct (List._∷_ 38 (List._∷_ 91 (List._∷_ 93 List.[]))) (Syntax.tcons (Syntax.tyRef Syntax.erased Syntax.mut ColumnMetadataRow.named) (Syntax.tcons (Syntax.tyInt Syntax.w64) Syntax.tnil)))) (List._∷_ (11, Rows'.any-gone (Syntax.tyRef Syntax.erased Syntax.mut (Syntax.tyInt Syntax.w8))) (List._∷_ (12, Rows'.any-gone (Syntax.tyStruct (List._∷_ 38 (List._∷_ 91 (List._∷_ 93 List.[]))) (Syntax.tcons (Syntax.tyRef Syntax.erased Syntax.mut (Syntax.tyInt Syntax.w8)) (Syntax.tcons (Syntax.tyInt Syntax.w64) Syntax.tnil)))) (List._∷_ (13, Rows'.any-gone (Syntax.tyRef Syntax.erased Syntax.mut (Syntax.tyInt Syntax.w8))) (List._∷_ (14, Mut.mslice (Referent.rtF (Referent.fInt Syntax.w8)) (Syntax.tyRef Syntax.erased Syntax.mut (Syntax.tyInt Syntax.w8)) 4) (List._∷_ (15, Rows'.any-gone (Syntax.tyRef Syntax.erased Syntax.imm (Syntax.tyArray ColumnMetadataRow.named 4096))) List.[])))))))))))))))
 
 abbrev pub t21 : List.List Row.Entry
 t21 = List._∷_ (16, Rows'.sslice (ColumnMetadataRow.RT) (Syntax.tyRef Syntax.erased Syntax.imm ColumnMetadataRow.named) 5) List.[]
 
 abbrev pub t22 : List.List Row.Entry
-t22 = List._∷_ (0, Rows'.sc-here (Row.sInt Syntax.w64)) (List._∷_ (1, Relend.mslice-owed (Referent.rtF (Referent.fInt Syntax.w8)) (Syntax.tyRef (Syntax.named 0) Syntax.mut (Syntax.tyInt Syntax.w8)) 0 4 Row.off) (List._∷_ (2, Rows'.sc-here (Row.sInt Syntax.w64)) (List._∷_ (3, Rows'.sslice (Referent.rtF (Referent.fInt Syntax.w8)) (Syntax.tyRef (Syntax.named 1) Syntax.imm (Syntax.tyInt Syntax.w8)) 1) (List._∷_ (4, Rows'.any-gone (ColumnMetadataRow.ty)) (List._∷_ (5, Rows.arr-shrP (ColumnMetadataRow.RT) 4096 5) (List._∷_ (6, Rows'.any-gone (Syntax.tyStruct (List._∷_ 115 (List._∷_ 113 (List._∷_ 108 (List._∷_ 100 (List._∷_ 97 (List._∷_ 114 (List._∷_ 100 (List._∷_ 58 (List._∷_ 58 (List._∷_ 83 (List._∷_ 113 (List._∷_ 108 (List._∷_ 100 (List._∷_ 97 (List._∷_ 114 (List._∷_ 100 (List._∷_ 65 (List._∷_ 110 (List._∷_ 115 (List._∷_ 119 (List._∷_ 101 (List._∷_ 114 List.[])))))))))))))))))))))) (Syntax.tcons (Syntax.tyEnum (List._∷_ 111 (List._∷_ 117 (List._∷_ 116 (List._∷_ 99 (List._∷_ 111 (List._∷_ 109 (List._∷_ 101 (List._∷_ 58 (List._∷_ 58 (List._∷_ 79 (List._∷_ 117 (List._∷_ 116 (List._∷_ 99 (List._∷_ 111 (List._∷_ 109 (List._∷_ 101 List.[])))))))))))))))) (Syntax.ttcons Syntax.tnil (Syntax.ttcons Syntax.tnil (Syntax.ttcons (Syntax.tcons (Syntax.tyInt Syntax.w64) (Syntax.tcons (Syntax.tyInt Syntax.w64) Syntax.tnil)) (Syntax.ttcons Syntax.tnil (Syntax.ttcons (Syntax.tcons (Syntax.tyInt Syntax.w16) Syntax.tnil) (Syntax.ttcons Syntax.tnil (Syntax.ttcons (Syntax.tcons (Syntax.tyInt Syntax.w64) Syntax.tnil) (Syntax.ttcons Syntax.tnil Syntax.ttnil))))))))) (Syntax.tcons (Syntax.tyStruct (List._∷_ 115 (List._∷_ 113 (List._∷_ 108 (List._∷_ 99 (List._∷_ 97 (List._∷_ 114 (List._∷_ 100 (List._∷_ 58 (List._∷_ 58 (List._∷_ 83 (List._∷_ 113 (List._∷_ 108 (List._∷_ 67 (List._∷_ 97 (List._∷_ 114 (List._∷_ 100 List.[])))))))))))))))) (Syntax.tcons Syntax.tyBool (Syntax.tcons (Syntax.tyInt Syntax.w32) (Syntax.tcons (Syntax.tyArray (Syntax.tyInt Syntax.w8) 5) (Syntax.tcons (Syntax.tyArray (Syntax.tyInt Syntax.w8) 8) (Syntax.tcons (Syntax.tyInt Syntax.w8) (Syntax.tcons (Syntax.tyArray (Syntax.tyInt Syntax.w32) 6) (Syntax.tcons (Syntax.tyInt Syntax.w64) (Syntax.tcons (Syntax.tyInt Syntax.w32) (Syntax.tcons (Syntax.tyArray (Syntax.tyInt Syntax.w8) 11) (Syntax.tcons (Syntax.tyInt Syntax.w64) (Syntax.tcons (Syntax.tyInt Syntax.w64) Syntax.tnil)))))))))))) (Syntax.tcons (Syntax.tyInt Syntax.w64) Syntax.tnil))))) (List._∷_ (7, Rows'.sc-here (Row.sInt Syntax.w64)) (List._∷_ (8, Rows'.sc-here (Row.sInt Syntax.w64)) (List._∷_ (9, Rows'.any-gone (Syntax.tyRef Syntax.erased Syntax.mut (Syntax.tyArray ColumnMetadataRow.named 4096))) (List._∷_ (10, Rows'.any-gone (Syntax.tyStruct (List._∷_ 38 (List._∷_ 91 (List._∷_ 93 List.[]))) (Syntax.tcons (Syntax.tyRef Syntax.erased Syntax.mut ColumnMetadataRow.named) (Syntax.tcons (Syntax.tyInt Syntax.w64) Syntax.tnil)))) (List._∷_ (11, Rows'.any-gone (Syntax.tyRef Syntax.erased Syntax.mut (Syntax.tyInt Syntax.w8))) (List._∷_ (12, Rows'.any-gone (Syntax.tyStruct (List._∷_ 38 (List._∷_ 91 (List._∷_ 93 List.[]))) (Syntax.tcons (Syntax.tyRef Syntax.erased Syntax.mut (Syntax.tyInt Syntax.w8)) (Syntax.tcons (Syntax.tyInt Syntax.w64) Syntax.tnil)))) (List._∷_ (13, Rows'.any-gone (Syntax.tyRef Syntax.erased Syntax.mut (Syntax.tyInt Syntax.w8))) (List._∷_ (14, Mut.msleft (Referent.rtF (Referent.fInt Syntax.w8)) (Syntax.tyRef Syntax.erased Syntax.mut (Syntax.tyInt Syntax.w8))) (List._∷_ (15, Rows'.any-gone (Syntax.tyRef Syntax.erased Syntax.imm (Syntax.tyArray ColumnMetadataRow.named 4096))) List.[])))))))))))))))
+t22 = List._∷_ (0, Rows'.sc-here (Row.sInt Syntax.w64)) (List._∷_ (1, Relend.mslice-owed (Referent.rtF (Referent.fInt Syntax.w8)) (Syntax.tyRef (Syntax.named 0) Syntax.mut (Syntax.tyInt Syntax.w8)) 0 4 Row.off) (List._∷_ (2, Rows'.sc-here (Row.sInt Syntax.w64)) (List._∷_ (3, Rows'.sslice (Referent.rtF (Referent.fInt Syntax.w8)) (Syntax.tyRef (Syntax.named 1) Syntax.imm (Syntax.tyInt Syntax.w8)) 1) (List._∷_ (4, Rows'.any-gone (ColumnMetadataRow.ty)) (List._∷_ (5, Rows.arr-shrP (ColumnMetadataRow.RT) 4096 5) (List._∷_ (6, Rows'.any-gone (Syntax.tyStruct (List._∷_ 115 (List._∷_ 113 (List._∷_ 108 (List._∷_ 100 (List._∷_ 97 (List._∷_ 114 (List._∷_ 100 (List._∷_ 58 (List._∷_ 58 (List._∷_ 83 (List._∷_ 113 (List._∷_ 108 (List._∷_ 100 (List._∷_ 97 (List._∷_ 114 (List._∷_ 100 (List._∷_ 65 (List._∷_ 110 (List._∷_ 115 (List._∷_ 119 (List._∷_ 101 (List._∷_ 114 List.[])))))))))))))))))))))) (Syntax.tcons (Syntax.tyEnum (List._∷_ 111 (List._∷_ 117 (List._∷_ 116 (List._∷_ 99 (List._∷_ 111 (List._∷_ 109 (List._∷_ 101 (List._∷_ 58 (List._∷_ 58 (List._∷_ 79 (List._∷_ 117 (List._∷_ 116 (List._∷_ 99 (List._∷_ 111 (List._∷_ 109 (List._∷_ 101 List.[])))))))))))))))) (Syntax.ttcons Syntax.tnil (Syntax.ttcons Syntax.tnil (Syntax.ttcons (Syntax.tcons (Syntax.tyInt Syntax.w64) (Syntax.tcons (Syntax.tyInt Syntax.w64) Syntax.tnil)) (Syntax.ttcons Syntax.tnil (Syntax.ttcons (Syntax.tcons (Syntax.tyInt Syntax.w16) Syntax.tnil) (Syntax.ttcons Syntax.tnil (Syntax.ttcons (Syntax.tcons (Syntax.tyInt Syntax.w64) Syntax.tnil) (Syntax.ttcons Syntax.tnil (Syntax.ttcons (Syntax.tcons (Syntax.tyInt Syntax.w16) Syntax.tnil) Syntax.ttnil)))))))))) (Syntax.tcons (Syntax.tyStruct (List._∷_ 115 (List._∷_ 113 (List._∷_ 108 (List._∷_ 99 (List._∷_ 97 (List._∷_ 114 (List._∷_ 100 (List._∷_ 58 (List._∷_ 58 (List._∷_ 83 (List._∷_ 113 (List._∷_ 108 (List._∷_ 67 (List._∷_ 97 (List._∷_ 114 (List._∷_ 100 List.[])))))))))))))))) (Syntax.tcons Syntax.tyBool (Syntax.tcons (Syntax.tyInt Syntax.w32) (Syntax.tcons (Syntax.tyArray (Syntax.tyInt Syntax.w8) 5) (Syntax.tcons (Syntax.tyArray (Syntax.tyInt Syntax.w8) 8) (Syntax.tcons (Syntax.tyInt Syntax.w8) (Syntax.tcons (Syntax.tyArray (Syntax.tyInt Syntax.w32) 6) (Syntax.tcons (Syntax.tyInt Syntax.w64) (Syntax.tcons (Syntax.tyInt Syntax.w32) (Syntax.tcons (Syntax.tyArray (Syntax.tyInt Syntax.w8) 11) (Syntax.tcons (Syntax.tyInt Syntax.w64) (Syntax.tcons (Syntax.tyInt Syntax.w64) Syntax.tnil)))))))))))) (Syntax.tcons (Syntax.tyInt Syntax.w64) Syntax.tnil))))) (List._∷_ (7, Rows'.sc-here (Row.sInt Syntax.w64)) (List._∷_ (8, Rows'.sc-here (Row.sInt Syntax.w64)) (List._∷_ (9, Rows'.any-gone (Syntax.tyRef Syntax.erased Syntax.mut (Syntax.tyArray ColumnMetadataRow.named 4096))) (List._∷_ (10, Rows'.any-gone (Syntax.tyStruct (List._∷_ 38 (List._∷_ 91 (List._∷_ 93 List.[]))) (Syntax.tcons (Syntax.tyRef Syntax.erased Syntax.mut ColumnMetadataRow.named) (Syntax.tcons (Syntax.tyInt Syntax.w64) Syntax.tnil)))) (List._∷_ (11, Rows'.any-gone (Syntax.tyRef Syntax.erased Syntax.mut (Syntax.tyInt Syntax.w8))) (List._∷_ (12, Rows'.any-gone (Syntax.tyStruct (List._∷_ 38 (List._∷_ 91 (List._∷_ 93 List.[]))) (Syntax.tcons (Syntax.tyRef Syntax.erased Syntax.mut (Syntax.tyInt Syntax.w8)) (Syntax.tcons (Syntax.tyInt Syntax.w64) Syntax.tnil)))) (List._∷_ (13, Rows'.any-gone (Syntax.tyRef Syntax.erased Syntax.mut (Syntax.tyInt Syntax.w8))) (List._∷_ (14, Mut.msleft (Referent.rtF (Referent.fInt Syntax.w8)) (Syntax.tyRef Syntax.erased Syntax.mut (Syntax.tyInt Syntax.w8))) (List._∷_ (15, Rows'.any-gone (Syntax.tyRef Syntax.erased Syntax.imm (Syntax.tyArray ColumnMetadataRow.named 4096))) List.[])))))))))))))))
 
 abbrev pub t23 : List.List Row.Entry
-t23 = List._∷_ (0, Rows'.sc-here (Row.sInt Syntax.w64)) (List._∷_ (1, Relend.mslice-owed (Referent.rtF (Referent.fInt Syntax.w8)) (Syntax.tyRef (Syntax.named 0) Syntax.mut (Syntax.tyInt Syntax.w8)) 0 4 Row.off) (List._∷_ (2, Rows'.sc-here (Row.sInt Syntax.w64)) (List._∷_ (3, Rows'.sslice (Referent.rtF (Referent.fInt Syntax.w8)) (Syntax.tyRef (Syntax.named 1) Syntax.imm (Syntax.tyInt Syntax.w8)) 1) (List._∷_ (4, Rows'.any-gone (ColumnMetadataRow.ty)) (List._∷_ (5, Rows.arr-shrP (ColumnMetadataRow.RT) 4096 5) (List._∷_ (6, Rows'.any-gone (Syntax.tyStruct (List._∷_ 115 (List._∷_ 113 (List._∷_ 108 (List._∷_ 100 (List._∷_ 97 (List._∷_ 114 (List._∷_ 100 (List._∷_ 58 (List._∷_ 58 (List._∷_ 83 (List._∷_ 113 (List._∷_ 108 (List._∷_ 100 (List._∷_ 97 (List._∷_ 114 (List._∷_ 100 (List._∷_ 65 (List._∷_ 110 (List._∷_ 115 (List._∷_ 119 (List._∷_ 101 (List._∷_ 114 List.[])))))))))))))))))))))) (Syntax.tcons (Syntax.tyEnum (List._∷_ 111 (List._∷_ 117 (List._∷_ 116 (List._∷_ 99 (List._∷_ 111 (List._∷_ 109 (List._∷_ 101 (List._∷_ 58 (List._∷_ 58 (List._∷_ 79 (List._∷_ 117 (List._∷_ 116 (List._∷_ 99 (List._∷_ 111 (List._∷_ 109 (List._∷_ 101 List.[])))))))))))))))) (Syntax.ttcons Syntax.tnil (Syntax.ttcons Syntax.tnil (Syntax.ttcons (Syntax.tcons (Syntax.tyInt Syntax.w64) (Syntax.tcons (Syntax.tyInt Syntax.w64) Syntax.tnil)) (Syntax.ttcons Syntax.tnil (Syntax.ttcons (Syntax.tcons (Syntax.tyInt Syntax.w16) Syntax.tnil) (Syntax.ttcons Syntax.tnil (Syntax.ttcons (Syntax.tcons (Syntax.tyInt Syntax.w64) Syntax.tnil) (Syntax.ttcons Syntax.tnil Syntax.ttnil))))))))) (Syntax.tcons (Syntax.tyStruct (List._∷_ 115 (List._∷_ 113 (List._∷_ 108 (List._∷_ 99 (List._∷_ 97 (List._∷_ 114 (List._∷_ 100 (List._∷_ 58 (List._∷_ 58 (List._∷_ 83 (List._∷_ 113 (List._∷_ 108 (List._∷_ 67 (List._∷_ 97 (List._∷_ 114 (List._∷_ 100 List.[])))))))))))))))) (Syntax.tcons Syntax.tyBool (Syntax.tcons (Syntax.tyInt Syntax.w32) (Syntax.tcons (Syntax.tyArray (Syntax.tyInt Syntax.w8) 5) (Syntax.tcons (Syntax.tyArray (Syntax.tyInt Syntax.w8) 8) (Syntax.tcons (Syntax.tyInt Syntax.w8) (Syntax.tcons (Syntax.tyArray (Syntax.tyInt Syntax.w32) 6) (Syntax.tcons (Syntax.tyInt Syntax.w64) (Syntax.tcons (Syntax.tyInt Syntax.w32) (Syntax.tcons (Syntax.tyArray (Syntax.tyInt Syntax.w8) 11) (Syntax.tcons (Syntax.tyInt Syntax.w64) (Syntax.tcons (Syntax.tyInt Syntax.w64) Syntax.tnil)))))))))))) (Syntax.tcons (Syntax.tyInt Syntax.w64) Syntax.tnil))))) (List._∷_ (7, Rows'.any-gone (Syntax.tyInt Syntax.w64)) (List._∷_ (8, Rows'.sc-here (Row.sInt Syntax.w64)) (List._∷_ (9, Rows'.any-gone (Syntax.tyRef Syntax.erased Syntax.mut (Syntax.tyArray ColumnMetadataRow.named 4096))) (List._∷_ (10, Rows'.any-gone (Syntax.tyStruct (List._∷_ 38 (List._∷_ 91 (List._∷_ 93 List.[]))) (Syntax.tcons (Syntax.tyRef Syntax.erased Syntax.mut ColumnMetadataRow.named) (Syntax.tcons (Syntax.tyInt Syntax.w64) Syntax.tnil)))) (List._∷_ (11, Rows'.any-gone (Syntax.tyRef Syntax.erased Syntax.mut (Syntax.tyInt Syntax.w8))) (List._∷_ (12, Rows'.any-gone (Syntax.tyStruct (List._∷_ 38 (List._∷_ 91 (List._∷_ 93 List.[]))) (Syntax.tcons (Syntax.tyRef Syntax.erased Syntax.mut (Syntax.tyInt Syntax.w8)) (Syntax.tcons (Syntax.tyInt Syntax.w64) Syntax.tnil)))) (List._∷_ (13, Rows'.any-gone (Syntax.tyRef Syntax.erased Syntax.mut (Syntax.tyInt Syntax.w8))) (List._∷_ (14, Mut.msleft (Referent.rtF (Referent.fInt Syntax.w8)) (Syntax.tyRef Syntax.erased Syntax.mut (Syntax.tyInt Syntax.w8))) (List._∷_ (15, Rows'.any-gone (Syntax.tyRef Syntax.erased Syntax.imm (Syntax.tyArray ColumnMetadataRow.named 4096))) List.[])))))))))))))))
+t23 = List._∷_ (0, Rows'.sc-here (Row.sInt Syntax.w64)) (List._∷_ (1, Relend.mslice-owed (Referent.rtF (Referent.fInt Syntax.w8)) (Syntax.tyRef (Syntax.named 0) Syntax.mut (Syntax.tyInt Syntax.w8)) 0 4 Row.off) (List._∷_ (2, Rows'.sc-here (Row.sInt Syntax.w64)) (List._∷_ (3, Rows'.sslice (Referent.rtF (Referent.fInt Syntax.w8)) (Syntax.tyRef (Syntax.named 1) Syntax.imm (Syntax.tyInt Syntax.w8)) 1) (List._∷_ (4, Rows'.any-gone (ColumnMetadataRow.ty)) (List._∷_ (5, Rows.arr-shrP (ColumnMetadataRow.RT) 4096 5) (List._∷_ (6, Rows'.any-gone (Syntax.tyStruct (List._∷_ 115 (List._∷_ 113 (List._∷_ 108 (List._∷_ 100 (List._∷_ 97 (List._∷_ 114 (List._∷_ 100 (List._∷_ 58 (List._∷_ 58 (List._∷_ 83 (List._∷_ 113 (List._∷_ 108 (List._∷_ 100 (List._∷_ 97 (List._∷_ 114 (List._∷_ 100 (List._∷_ 65 (List._∷_ 110 (List._∷_ 115 (List._∷_ 119 (List._∷_ 101 (List._∷_ 114 List.[])))))))))))))))))))))) (Syntax.tcons (Syntax.tyEnum (List._∷_ 111 (List._∷_ 117 (List._∷_ 116 (List._∷_ 99 (List._∷_ 111 (List._∷_ 109 (List._∷_ 101 (List._∷_ 58 (List._∷_ 58 (List._∷_ 79 (List._∷_ 117 (List._∷_ 116 (List._∷_ 99 (List._∷_ 111 (List._∷_ 109 (List._∷_ 101 List.[])))))))))))))))) (Syntax.ttcons Syntax.tnil (Syntax.ttcons Syntax.tnil (Syntax.ttcons (Syntax.tcons (Syntax.tyInt Syntax.w64) (Syntax.tcons (Syntax.tyInt Syntax.w64) Syntax.tnil)) (Syntax.ttcons Syntax.tnil (Syntax.ttcons (Syntax.tcons (Syntax.tyInt Syntax.w16) Syntax.tnil) (Syntax.ttcons Syntax.tnil (Syntax.ttcons (Syntax.tcons (Syntax.tyInt Syntax.w64) Syntax.tnil) (Syntax.ttcons Syntax.tnil (Syntax.ttcons (Syntax.tcons (Syntax.tyInt Syntax.w16) Syntax.tnil) Syntax.ttnil)))))))))) (Syntax.tcons (Syntax.tyStruct (List._∷_ 115 (List._∷_ 113 (List._∷_ 108 (List._∷_ 99 (List._∷_ 97 (List._∷_ 114 (List._∷_ 100 (List._∷_ 58 (List._∷_ 58 (List._∷_ 83 (List._∷_ 113 (List._∷_ 108 (List._∷_ 67 (List._∷_ 97 (List._∷_ 114 (List._∷_ 100 List.[])))))))))))))))) (Syntax.tcons Syntax.tyBool (Syntax.tcons (Syntax.tyInt Syntax.w32) (Syntax.tcons (Syntax.tyArray (Syntax.tyInt Syntax.w8) 5) (Syntax.tcons (Syntax.tyArray (Syntax.tyInt Syntax.w8) 8) (Syntax.tcons (Syntax.tyInt Syntax.w8) (Syntax.tcons (Syntax.tyArray (Syntax.tyInt Syntax.w32) 6) (Syntax.tcons (Syntax.tyInt Syntax.w64) (Syntax.tcons (Syntax.tyInt Syntax.w32) (Syntax.tcons (Syntax.tyArray (Syntax.tyInt Syntax.w8) 11) (Syntax.tcons (Syntax.tyInt Syntax.w64) (Syntax.tcons (Syntax.tyInt Syntax.w64) Syntax.tnil)))))))))))) (Syntax.tcons (Syntax.tyInt Syntax.w64) Syntax.tnil))))) (List._∷_ (7, Rows'.any-gone (Syntax.tyInt Syntax.w64)) (List._∷_ (8, Rows'.sc-here (Row.sInt Syntax.w64)) (List._∷_ (9, Rows'.any-gone (Syntax.tyRef Syntax.erased Syntax.mut (Syntax.tyArray ColumnMetadataRow.named 4096))) (List._∷_ (10, Rows'.any-gone (Syntax.tyStruct (List._∷_ 38 (List._∷_ 91 (List._∷_ 93 List.[]))) (Syntax.tcons (Syntax.tyRef Syntax.erased Syntax.mut ColumnMetadataRow.named) (Syntax.tcons (Syntax.tyInt Syntax.w64) Syntax.tnil)))) (List._∷_ (11, Rows'.any-gone (Syntax.tyRef Syntax.erased Syntax.mut (Syntax.tyInt Syntax.w8))) (List._∷_ (12, Rows'.any-gone (Syntax.tyStruct (List._∷_ 38 (List._∷_ 91 (List._∷_ 93 List.[]))) (Syntax.tcons (Syntax.tyRef Syntax.erased Syntax.mut (Syntax.tyInt Syntax.w8)) (Syntax.tcons (Syntax.tyInt Syntax.w64) Syntax.tnil)))) (List._∷_ (13, Rows'.any-gone (Syntax.tyRef Syntax.erased Syntax.mut (Syntax.tyInt Syntax.w8))) (List._∷_ (14, Mut.msleft (Referent.rtF (Referent.fInt Syntax.w8)) (Syntax.tyRef Syntax.erased Syntax.mut (Syntax.tyInt Syntax.w8))) (List._∷_ (15, Rows'.any-gone (Syntax.tyRef Syntax.erased Syntax.imm (Syntax.tyArray ColumnMetadataRow.named 4096))) List.[])))))))))))))))
 
 abbrev pub t24 : List.List Row.Entry
-t24 = List._∷_ (0, Rows'.sc-here (Row.sInt Syntax.w64)) (List._∷_ (1, Relend.mslice-owed (Referent.rtF (Referent.fInt Syntax.w8)) (Syntax.tyRef (Syntax.named 0) Syntax.mut (Syntax.tyInt Syntax.w8)) 0 4 Row.off) (List._∷_ (2, Rows'.sc-here (Row.sInt Syntax.w64)) (List._∷_ (3, Rows'.sslice (Referent.rtF (Referent.fInt Syntax.w8)) (Syntax.tyRef (Syntax.named 1) Syntax.imm (Syntax.tyInt Syntax.w8)) 1) (List._∷_ (4, Rows'.any-gone (ColumnMetadataRow.ty)) (List._∷_ (5, Rows.arr-shrP (ColumnMetadataRow.RT) 4096 5) (List._∷_ (6, Rows'.any-gone (Syntax.tyStruct (List._∷_ 115 (List._∷_ 113 (List._∷_ 108 (List._∷_ 100 (List._∷_ 97 (List._∷_ 114 (List._∷_ 100 (List._∷_ 58 (List._∷_ 58 (List._∷_ 83 (List._∷_ 113 (List._∷_ 108 (List._∷_ 100 (List._∷_ 97 (List._∷_ 114 (List._∷_ 100 (List._∷_ 65 (List._∷_ 110 (List._∷_ 115 (List._∷_ 119 (List._∷_ 101 (List._∷_ 114 List.[])))))))))))))))))))))) (Syntax.tcons (Syntax.tyEnum (List._∷_ 111 (List._∷_ 117 (List._∷_ 116 (List._∷_ 99 (List._∷_ 111 (List._∷_ 109 (List._∷_ 101 (List._∷_ 58 (List._∷_ 58 (List._∷_ 79 (List._∷_ 117 (List._∷_ 116 (List._∷_ 99 (List._∷_ 111 (List._∷_ 109 (List._∷_ 101 List.[])))))))))))))))) (Syntax.ttcons Syntax.tnil (Syntax.ttcons Syntax.tnil (Syntax.ttcons (Syntax.tcons (Syntax.tyInt Syntax.w64) (Syntax.tcons (Syntax.tyInt Syntax.w64) Syntax.tnil)) (Syntax.ttcons Syntax.tnil (Syntax.ttcons (Syntax.tcons (Syntax.tyInt Syntax.w16) Syntax.tnil) (Syntax.ttcons Syntax.tnil (Syntax.ttcons (Syntax.tcons (Syntax.tyInt Syntax.w64) Syntax.tnil) (Syntax.ttcons Syntax.tnil Syntax.ttnil))))))))) (Syntax.tcons (Syntax.tyStruct (List._∷_ 115 (List._∷_ 113 (List._∷_ 108 (List._∷_ 99 (List._∷_ 97 (List._∷_ 114 (List._∷_ 100 (List._∷_ 58 (List._∷_ 58 (List._∷_ 83 (List._∷_ 113 (List._∷_ 108 (List._∷_ 67 (List._∷_ 97 (List._∷_ 114 (List._∷_ 100 List.[])))))))))))))))) (Syntax.tcons Syntax.tyBool (Syntax.tcons (Syntax.tyInt Syntax.w32) (Syntax.tcons (Syntax.tyArray (Syntax.tyInt Syntax.w8) 5) (Syntax.tcons (Syntax.tyArray (Syntax.tyInt Syntax.w8) 8) (Syntax.tcons (Syntax.tyInt Syntax.w8) (Syntax.tcons (Syntax.tyArray (Syntax.tyInt Syntax.w32) 6) (Syntax.tcons (Syntax.tyInt Syntax.w64) (Syntax.tcons (Syntax.tyInt Syntax.w32) (Syntax.tcons (Syntax.tyArray (Syntax.tyInt Syntax.w8) 11) (Syntax.tcons (Syntax.tyInt Syntax.w64) (Syntax.tcons (Syntax.tyInt Syntax.w64) Syntax.tnil)))))))))))) (Syntax.tcons (Syntax.tyInt Syntax.w64) Syntax.tnil))))) (List._∷_ (7, Rows'.any-gone (Syntax.tyInt Syntax.w64)) (List._∷_ (8, Rows'.any-gone (Syntax.tyInt Syntax.w64)) (List._∷_ (9, Rows'.any-gone (Syntax.tyRef Syntax.erased Syntax.mut (Syntax.tyArray ColumnMetadataRow.named 4096))) (List._∷_ (10, Rows'.any-gone (Syntax.tyStruct (List._∷_ 38 (List._∷_ 91 (List._∷_ 93 List.[]))) (Syntax.tcons (Syntax.tyRef Syntax.erased Syntax.mut ColumnMetadataRow.named) (Syntax.tcons (Syntax.tyInt Syntax.w64) Syntax.tnil)))) (List._∷_ (11, Rows'.any-gone (Syntax.tyRef Syntax.erased Syntax.mut (Syntax.tyInt Syntax.w8))) (List._∷_ (12, Rows'.any-gone (Syntax.tyStruct (List._∷_ 38 (List._∷_ 91 (List._∷_ 93 List.[]))) (Syntax.tcons (Syntax.tyRef Syntax.erased Syntax.mut (Syntax.tyInt Syntax.w8)) (Syntax.tcons (Syntax.tyInt Syntax.w64) Syntax.tnil)))) (List._∷_ (13, Rows'.any-gone (Syntax.tyRef Syntax.erased Syntax.mut (Syntax.tyInt Syntax.w8))) (List._∷_ (14, Mut.msleft (Referent.rtF (Referent.fInt Syntax.w8)) (Syntax.tyRef Syntax.erased Syntax.mut (Syntax.tyInt Syntax.w8))) (List._∷_ (15, Rows'.any-gone (Syntax.tyRef Syntax.erased Syntax.imm (Syntax.tyArray ColumnMetadataRow.named 4096))) List.[])))))))))))))))
+t24 = List._∷_ (0, Rows'.sc-here (Row.sInt Syntax.w64)) (List._∷_ (1, Relend.mslice-owed (Referent.rtF (Referent.fInt Syntax.w8)) (Syntax.tyRef (Syntax.named 0) Syntax.mut (Syntax.tyInt Syntax.w8)) 0 4 Row.off) (List._∷_ (2, Rows'.sc-here (Row.sInt Syntax.w64)) (List._∷_ (3, Rows'.sslice (Referent.rtF (Referent.fInt Syntax.w8)) (Syntax.tyRef (Syntax.named 1) Syntax.imm (Syntax.tyInt Syntax.w8)) 1) (List._∷_ (4, Rows'.any-gone (ColumnMetadataRow.ty)) (List._∷_ (5, Rows.arr-shrP (ColumnMetadataRow.RT) 4096 5) (List._∷_ (6, Rows'.any-gone (Syntax.tyStruct (List._∷_ 115 (List._∷_ 113 (List._∷_ 108 (List._∷_ 100 (List._∷_ 97 (List._∷_ 114 (List._∷_ 100 (List._∷_ 58 (List._∷_ 58 (List._∷_ 83 (List._∷_ 113 (List._∷_ 108 (List._∷_ 100 (List._∷_ 97 (List._∷_ 114 (List._∷_ 100 (List._∷_ 65 (List._∷_ 110 (List._∷_ 115 (List._∷_ 119 (List._∷_ 101 (List._∷_ 114 List.[])))))))))))))))))))))) (Syntax.tcons (Syntax.tyEnum (List._∷_ 111 (List._∷_ 117 (List._∷_ 116 (List._∷_ 99 (List._∷_ 111 (List._∷_ 109 (List._∷_ 101 (List._∷_ 58 (List._∷_ 58 (List._∷_ 79 (List._∷_ 117 (List._∷_ 116 (List._∷_ 99 (List._∷_ 111 (List._∷_ 109 (List._∷_ 101 List.[])))))))))))))))) (Syntax.ttcons Syntax.tnil (Syntax.ttcons Syntax.tnil (Syntax.ttcons (Syntax.tcons (Syntax.tyInt Syntax.w64) (Syntax.tcons (Syntax.tyInt Syntax.w64) Syntax.tnil)) (Syntax.ttcons Syntax.tnil (Syntax.ttcons (Syntax.tcons (Syntax.tyInt Syntax.w16) Syntax.tnil) (Syntax.ttcons Syntax.tnil (Syntax.ttcons (Syntax.tcons (Syntax.tyInt Syntax.w64) Syntax.tnil) (Syntax.ttcons Syntax.tnil (Syntax.ttcons (Syntax.tcons (Syntax.tyInt Syntax.w16) Syntax.tnil) Syntax.ttnil)))))))))) (Syntax.tcons (Syntax.tyStruct (List._∷_ 115 (List._∷_ 113 (List._∷_ 108 (List._∷_ 99 (List._∷_ 97 (List._∷_ 114 (List._∷_ 100 (List._∷_ 58 (List._∷_ 58 (List._∷_ 83 (List._∷_ 113 (List._∷_ 108 (List._∷_ 67 (List._∷_ 97 (List._∷_ 114 (List._∷_ 100 List.[])))))))))))))))) (Syntax.tcons Syntax.tyBool (Syntax.tcons (Syntax.tyInt Syntax.w32) (Syntax.tcons (Syntax.tyArray (Syntax.tyInt Syntax.w8) 5) (Syntax.tcons (Syntax.tyArray (Syntax.tyInt Syntax.w8) 8) (Syntax.tcons (Syntax.tyInt Syntax.w8) (Syntax.tcons (Syntax.tyArray (Syntax.tyInt Syntax.w32) 6) (Syntax.tcons (Syntax.tyInt Syntax.w64) (Syntax.tcons (Syntax.tyInt Syntax.w32) (Syntax.tcons (Syntax.tyArray (Syntax.tyInt Syntax.w8) 11) (Syntax.tcons (Syntax.tyInt Syntax.w64) (Syntax.tcons (Syntax.tyInt Syntax.w64) Syntax.tnil)))))))))))) (Syntax.tcons (Syntax.tyInt Syntax.w64) Syntax.tnil))))) (List._∷_ (7, Rows'.any-gone (Syntax.tyInt Syntax.w64)) (List._∷_ (8, Rows'.any-gone (Syntax.tyInt Syntax.w64)) (List._∷_ (9, Rows'.any-gone (Syntax.tyRef Syntax.erased Syntax.mut (Syntax.tyArray ColumnMetadataRow.named 4096))) (List._∷_ (10, Rows'.any-gone (Syntax.tyStruct (List._∷_ 38 (List._∷_ 91 (List._∷_ 93 List.[]))) (Syntax.tcons (Syntax.tyRef Syntax.erased Syntax.mut ColumnMetadataRow.named) (Syntax.tcons (Syntax.tyInt Syntax.w64) Syntax.tnil)))) (List._∷_ (11, Rows'.any-gone (Syntax.tyRef Syntax.erased Syntax.mut (Syntax.tyInt Syntax.w8))) (List._∷_ (12, Rows'.any-gone (Syntax.tyStruct (List._∷_ 38 (List._∷_ 91 (List._∷_ 93 List.[]))) (Syntax.tcons (Syntax.tyRef Syntax.erased Syntax.mut (Syntax.tyInt Syntax.w8)) (Syntax.tcons (Syntax.tyInt Syntax.w64) Syntax.tnil)))) (List._∷_ (13, Rows'.any-gone (Syntax.tyRef Syntax.erased Syntax.mut (Syntax.tyInt Syntax.w8))) (List._∷_ (14, Mut.msleft (Referent.rtF (Referent.fInt Syntax.w8)) (Syntax.tyRef Syntax.erased Syntax.mut (Syntax.tyInt Syntax.w8))) (List._∷_ (15, Rows'.any-gone (Syntax.tyRef Syntax.erased Syntax.imm (Syntax.tyArray ColumnMetadataRow.named 4096))) List.[])))))))))))))))
 
 abbrev pub t25 : List.List Row.Entry
-t25 = List._∷_ (0, Rows'.sc-here (Row.sInt Syntax.w64)) (List._∷_ (1, Mut.mslice (Referent.rtF (Referent.fInt Syntax.w8)) (Syntax.tyRef (Syntax.named 0) Syntax.mut (Syntax.tyInt Syntax.w8)) 0) (List._∷_ (2, Rows'.sc-here (Row.sInt Syntax.w64)) (List._∷_ (3, Rows'.sslice (Referent.rtF (Referent.fInt Syntax.w8)) (Syntax.tyRef (Syntax.named 1) Syntax.imm (Syntax.tyInt Syntax.w8)) 1) (List._∷_ (4, Rows'.any-gone (ColumnMetadataRow.ty)) (List._∷_ (5, Rows.arr-shrP (ColumnMetadataRow.RT) 4096 5) (List._∷_ (6, Rows'.any-gone (Syntax.tyStruct (List._∷_ 115 (List._∷_ 113 (List._∷_ 108 (List._∷_ 100 (List._∷_ 97 (List._∷_ 114 (List._∷_ 100 (List._∷_ 58 (List._∷_ 58 (List._∷_ 83 (List._∷_ 113 (List._∷_ 108 (List._∷_ 100 (List._∷_ 97 (List._∷_ 114 (List._∷_ 100 (List._∷_ 65 (List._∷_ 110 (List._∷_ 115 (List._∷_ 119 (List._∷_ 101 (List._∷_ 114 List.[])))))))))))))))))))))) (Syntax.tcons (Syntax.tyEnum (List._∷_ 111 (List._∷_ 117 (List._∷_ 116 (List._∷_ 99 (List._∷_ 111 (List._∷_ 109 (List._∷_ 101 (List._∷_ 58 (List._∷_ 58 (List._∷_ 79 (List._∷_ 117 (List._∷_ 116 (List._∷_ 99 (List._∷_ 111 (List._∷_ 109 (List._∷_ 101 List.[])))))))))))))))) (Syntax.ttcons Syntax.tnil (Syntax.ttcons Syntax.tnil (Syntax.ttcons (Syntax.tcons (Syntax.tyInt Syntax.w64) (Syntax.tcons (Syntax.tyInt Syntax.w64) Syntax.tnil)) (Syntax.ttcons Syntax.tnil (Syntax.ttcons (Syntax.tcons (Syntax.tyInt Syntax.w16) Syntax.tnil) (Syntax.ttcons Syntax.tnil (Syntax.ttcons (Syntax.tcons (Syntax.tyInt Syntax.w64) Syntax.tnil) (Syntax.ttcons Syntax.tnil Syntax.ttnil))))))))) (Syntax.tcons (Syntax.tyStruct (List._∷_ 115 (List._∷_ 113 (List._∷_ 108 (List._∷_ 99 (List._∷_ 97 (List._∷_ 114 (List._∷_ 100 (List._∷_ 58 (List._∷_ 58 (List._∷_ 83 (List._∷_ 113 (List._∷_ 108 (List._∷_ 67 (List._∷_ 97 (List._∷_ 114 (List._∷_ 100 List.[])))))))))))))))) (Syntax.tcons Syntax.tyBool (Syntax.tcons (Syntax.tyInt Syntax.w32) (Syntax.tcons (Syntax.tyArray (Syntax.tyInt Syntax.w8) 5) (Syntax.tcons (Syntax.tyArray (Syntax.tyInt Syntax.w8) 8) (Syntax.tcons (Syntax.tyInt Syntax.w8) (Syntax.tcons (Syntax.tyArray (Syntax.tyInt Syntax.w32) 6) (Syntax.tcons (Syntax.tyInt Syntax.w64) (Syntax.tcons (Syntax.tyInt Syntax.w32) (Syntax.tcons (Syntax.tyArray (Syntax.tyInt Syntax.w8) 11) (Syntax.tcons (Syntax.tyInt Syntax.w64) (Syntax.tcons (Syntax.tyInt Syntax.w64) Syntax.tnil)))))))))))) (Syntax.tcons (Syntax.tyInt Syntax.w64) Syntax.tnil))))) (List._∷_ (7, Rows'.any-gone (Syntax.tyInt Syntax.w64)) (List._∷_ (8, Rows'.any-gone (Syntax.tyInt Syntax.w64)) (List._∷_ (9, Rows'.any-gone (Syntax.tyRef Syntax.erased Syntax.mut (Syntax.tyArray ColumnMetadataRow.named 4096))) (List._∷_ (10, Rows'.any-gone (Syntax.tyStruct (List._∷_ 38 (List._∷_ 91 (List._∷_ 93 List.[]))) (Syntax.tcons (Syntax.tyRef Syntax.erased Syntax.mut ColumnMetadataRow.named) (Syntax.tcons (Syntax.tyInt Syntax.w64) Syntax.tnil)))) (List._∷_ (11, Rows'.any-gone (Syntax.tyRef Syntax.erased Syntax.mut (Syntax.tyInt Syntax.w8))) (List._∷_ (12, Rows'.any-gone (Syntax.tyStruct (List._∷_ 38 (List._∷_ 91 (List._∷_ 93 List.[]))) (Syntax.tcons (Syntax.tyRef Syntax.erased Syntax.mut (Syntax.tyInt Syntax.w8)) (Syntax.tcons (Syntax.tyInt Syntax.w64) Syntax.tnil)))) (List._∷_ (13, Rows'.any-gone (Syntax.tyRef Syntax.erased Syntax.mut (Syntax.tyInt Syntax.w8))) (List._∷_ (14, Rows'.any-gone (Syntax.tyStruct (List._∷_ 38 (List._∷_ 91 (List._∷_ 93 List.[]))) (Syntax.tcons (Syntax.tyRef Syntax.erased Syntax.mut (Syntax.tyInt Syntax.w8)) (Syntax.tcons (Syntax.tyInt Syntax.w64) Syntax.tnil)))) (List._∷_ (15, Rows'.any-gone (Syntax.tyRef Syntax.erased Syntax.imm (Syntax.tyArray ColumnMetadataRow.named 4096))) List.[])))))))))))))))
+t25 = List._∷_ (0, Rows'.sc-here (Row.sInt Syntax.w64)) (List._∷_ (1, Mut.mslice (Referent.rtF (Referent.fInt Syntax.w8)) (Syntax.tyRef (Syntax.named 0) Syntax.mut (Syntax.tyInt Syntax.w8)) 0) (List._∷_ (2, Rows'.sc-here (Row.sInt Syntax.w64)) (List._∷_ (3, Rows'.sslice (Referent.rtF (Referent.fInt Syntax.w8)) (Syntax.tyRef (Syntax.named 1) Syntax.imm (Syntax.tyInt Syntax.w8)) 1) (List._∷_ (4, Rows'.any-gone (ColumnMetadataRow.ty)) (List._∷_ (5, Rows.arr-shrP (ColumnMetadataRow.RT) 4096 5) (List._∷_ (6, Rows'.any-gone (Syntax.tyStruct (List._∷_ 115 (List._∷_ 113 (List._∷_ 108 (List._∷_ 100 (List._∷_ 97 (List._∷_ 114 (List._∷_ 100 (List._∷_ 58 (List._∷_ 58 (List._∷_ 83 (List._∷_ 113 (List._∷_ 108 (List._∷_ 100 (List._∷_ 97 (List._∷_ 114 (List._∷_ 100 (List._∷_ 65 (List._∷_ 110 (List._∷_ 115 (List._∷_ 119 (List._∷_ 101 (List._∷_ 114 List.[])))))))))))))))))))))) (Syntax.tcons (Syntax.tyEnum (List._∷_ 111 (List._∷_ 117 (List._∷_ 116 (List._∷_ 99 (List._∷_ 111 (List._∷_ 109 (List._∷_ 101 (List._∷_ 58 (List._∷_ 58 (List._∷_ 79 (List._∷_ 117 (List._∷_ 116 (List._∷_ 99 (List._∷_ 111 (List._∷_ 109 (List._∷_ 101 List.[])))))))))))))))) (Syntax.ttcons Syntax.tnil (Syntax.ttcons Syntax.tnil (Syntax.ttcons (Syntax.tcons (Syntax.tyInt Syntax.w64) (Syntax.tcons (Syntax.tyInt Syntax.w64) Syntax.tnil)) (Syntax.ttcons Syntax.tnil (Syntax.ttcons (Syntax.tcons (Syntax.tyInt Syntax.w16) Syntax.tnil) (Syntax.ttcons Syntax.tnil (Syntax.ttcons (Syntax.tcons (Syntax.tyInt Syntax.w64) Syntax.tnil) (Syntax.ttcons Syntax.tnil (Syntax.ttcons (Syntax.tcons (Syntax.tyInt Syntax.w16) Syntax.tnil) Syntax.ttnil)))))))))) (Syntax.tcons (Syntax.tyStruct (List._∷_ 115 (List._∷_ 113 (List._∷_ 108 (List._∷_ 99 (List._∷_ 97 (List._∷_ 114 (List._∷_ 100 (List._∷_ 58 (List._∷_ 58 (List._∷_ 83 (List._∷_ 113 (List._∷_ 108 (List._∷_ 67 (List._∷_ 97 (List._∷_ 114 (List._∷_ 100 List.[])))))))))))))))) (Syntax.tcons Syntax.tyBool (Syntax.tcons (Syntax.tyInt Syntax.w32) (Syntax.tcons (Syntax.tyArray (Syntax.tyInt Syntax.w8) 5) (Syntax.tcons (Syntax.tyArray (Syntax.tyInt Syntax.w8) 8) (Syntax.tcons (Syntax.tyInt Syntax.w8) (Syntax.tcons (Syntax.tyArray (Syntax.tyInt Syntax.w32) 6) (Syntax.tcons (Syntax.tyInt Syntax.w64) (Syntax.tcons (Syntax.tyInt Syntax.w32) (Syntax.tcons (Syntax.tyArray (Syntax.tyInt Syntax.w8) 11) (Syntax.tcons (Syntax.tyInt Syntax.w64) (Syntax.tcons (Syntax.tyInt Syntax.w64) Syntax.tnil)))))))))))) (Syntax.tcons (Syntax.tyInt Syntax.w64) Syntax.tnil))))) (List._∷_ (7, Rows'.any-gone (Syntax.tyInt Syntax.w64)) (List._∷_ (8, Rows'.any-gone (Syntax.tyInt Syntax.w64)) (List._∷_ (9, Rows'.any-gone (Syntax.tyRef Syntax.erased Syntax.mut (Syntax.tyArray ColumnMetadataRow.named 4096))) (List._∷_ (10, Rows'.any-gone (Syntax.tyStruct (List._∷_ 38 (List._∷_ 91 (List._∷_ 93 List.[]))) (Syntax.tcons (Syntax.tyRef Syntax.erased Syntax.mut ColumnMetadataRow.named) (Syntax.tcons (Syntax.tyInt Syntax.w64) Syntax.tnil)))) (List._∷_ (11, Rows'.any-gone (Syntax.tyRef Syntax.erased Syntax.mut (Syntax.tyInt Syntax.w8))) (List._∷_ (12, Rows'.any-gone (Syntax.tyStruct (List._∷_ 38 (List._∷_ 91 (List._∷_ 93 List.[]))) (Syntax.tcons (Syntax.tyRef Syntax.erased Syntax.mut (Syntax.tyInt Syntax.w8)) (Syntax.tcons (Syntax.tyInt Syntax.w64) Syntax.tnil)))) (List._∷_ (13, Rows'.any-gone (Syntax.tyRef Syntax.erased Syntax.mut (Syntax.tyInt Syntax.w8))) (List._∷_ (14, Rows'.any-gone (Syntax.tyStruct (List._∷_ 38 (List._∷_ 91 (List._∷_ 93 List.[]))) (Syntax.tcons (Syntax.tyRef Syntax.erased Syntax.mut (Syntax.tyInt Syntax.w8)) (Syntax.tcons (Syntax.tyInt Syntax.w64) Syntax.tnil)))) (List._∷_ (15, Rows'.any-gone (Syntax.tyRef Syntax.erased Syntax.imm (Syntax.tyArray ColumnMetadataRow.named 4096))) List.[])))))))))))))))
 
 abbrev pub t26 : List.List Row.Entry
-t26 = List._∷_ (0, Rows'.sc-here (Row.sInt Syntax.w64)) (List._∷_ (1, Mut.mslice (Referent.rtF (Referent.fInt Syntax.w8)) (Syntax.tyRef (Syntax.named 0) Syntax.mut (Syntax.tyInt Syntax.w8)) 0) (List._∷_ (2, Rows'.sc-here (Row.sInt Syntax.w64)) (List._∷_ (3, Rows'.sslice (Referent.rtF (Referent.fInt Syntax.w8)) (Syntax.tyRef (Syntax.named 1) Syntax.imm (Syntax.tyInt Syntax.w8)) 1) (List._∷_ (4, Rows'.any-gone (ColumnMetadataRow.ty)) (List._∷_ (5, Rows.arrF (ColumnMetadataRow.RT) 4096 0) (List._∷_ (6, Rows'.any-gone (Syntax.tyStruct (List._∷_ 115 (List._∷_ 113 (List._∷_ 108 (List._∷_ 100 (List._∷_ 97 (List._∷_ 114 (List._∷_ 100 (List._∷_ 58 (List._∷_ 58 (List._∷_ 83 (List._∷_ 113 (List._∷_ 108 (List._∷_ 100 (List._∷_ 97 (List._∷_ 114 (List._∷_ 100 (List._∷_ 65 (List._∷_ 110 (List._∷_ 115 (List._∷_ 119 (List._∷_ 101 (List._∷_ 114 List.[])))))))))))))))))))))) (Syntax.tcons (Syntax.tyEnum (List._∷_ 111 (List._∷_ 117 (List._∷_ 116 (List._∷_ 99 (List._∷_ 111 (List._∷_ 109 (List._∷_ 101 (List._∷_ 58 (List._∷_ 58 (List._∷_ 79 (List._∷_ 117 (List._∷_ 116 (List._∷_ 99 (List._∷_ 111 (List._∷_ 109 (List._∷_ 101 List.[])))))))))))))))) (Syntax.ttcons Syntax.tnil (Syntax.ttcons Syntax.tnil (Syntax.ttcons (Syntax.tcons (Syntax.tyInt Syntax.w64) (Syntax.tcons (Syntax.tyInt Syntax.w64) Syntax.tnil)) (Syntax.ttcons Syntax.tnil (Syntax.ttcons (Syntax.tcons (Syntax.tyInt Syntax.w16) Syntax.tnil) (Syntax.ttcons Syntax.tnil (Syntax.ttcons (Syntax.tcons (Syntax.tyInt Syntax.w64) Syntax.tnil) (Syntax.ttcons Syntax.tnil Syntax.ttnil))))))))) (Syntax.tcons (Syntax.tyStruct (List._∷_ 115 (List._∷_ 113 (List._∷_ 108 (List._∷_ 99 (List._∷_ 97 (List._∷_ 114 (List._∷_ 100 (List._∷_ 58 (List._∷_ 58 (List._∷_ 83 (List._∷_ 113 (List._∷_ 108 (List._∷_ 67 (List._∷_ 97 (List._∷_ 114 (List._∷_ 100 List.[])))))))))))))))) (Syntax.tcons Syntax.tyBool (Syntax.tcons (Syntax.tyInt Syntax.w32) (Syntax.tcons (Syntax.tyArray (Syntax.tyInt Syntax.w8) 5) (Syntax.tcons (Syntax.tyArray (Syntax.tyInt Syntax.w8) 8) (Syntax.tcons (Syntax.tyInt Syntax.w8) (Syntax.tcons (Syntax.tyArray (Syntax.tyInt Syntax.w32) 6) (Syntax.tcons (Syntax.tyInt Syntax.w64) (Syntax.tcons (Syntax.tyInt Syntax.w32) (Syntax.tcons (Syntax.tyArray (Syntax.tyInt Syntax.w8) 11) (Syntax.tcons (Syntax.tyInt Syntax.w64) (Syntax.tcons (Syntax.tyInt Syntax.w64) Syntax.tnil)))))))))))) (Syntax.tcons (Syntax.tyInt Syntax.w64) Syntax.tnil))))) (List._∷_ (7, Rows'.any-gone (Syntax.tyInt Syntax.w64)) (List._∷_ (8, Rows'.any-gone (Syntax.tyInt Syntax.w64)) (List._∷_ (9, Rows'.any-gone (Syntax.tyRef Syntax.erased Syntax.mut (Syntax.tyArray ColumnMetadataRow.named 4096))) (List._∷_ (10, Rows'.any-gone (Syntax.tyStruct (List._∷_ 38 (List._∷_ 91 (List._∷_ 93 List.[]))) (Syntax.tcons (Syntax.tyRef Syntax.erased Syntax.mut ColumnMetadataRow.named) (Syntax.tcons (Syntax.tyInt Syntax.w64) Syntax.tnil)))) (List._∷_ (11, Rows'.any-gone (Syntax.tyRef Syntax.erased Syntax.mut (Syntax.tyInt Syntax.w8))) (List._∷_ (12, Rows'.any-gone (Syntax.tyStruct (List._∷_ 38 (List._∷_ 91 (List._∷_ 93 List.[]))) (Syntax.tcons (Syntax.tyRef Syntax.erased Syntax.mut (Syntax.tyInt Syntax.w8)) (Syntax.tcons (Syntax.tyInt Syntax.w64) Syntax.tnil)))) (List._∷_ (13, Rows'.any-gone (Syntax.tyRef Syntax.erased Syntax.mut (Syntax.tyInt Syntax.w8))) (List._∷_ (14, Rows'.any-gone (Syntax.tyStruct (List._∷_ 38 (List._∷_ 91 (List._∷_ 93 List.[]))) (Syntax.tcons (Syntax.tyRef Syntax.erased Syntax.mut (Syntax.tyInt Syntax.w8)) (Syntax.tcons (Syntax.tyInt Syntax.w64) Syntax.tnil)))) (List._∷_ (15, Rows'.any-gone (Syntax.tyRef Syntax.erased Syntax.imm (Syntax.tyArray ColumnMetadataRow.named 4096))) List.[])))))))))))))))
+t26 = List._∷_ (0, Rows'.sc-here (Row.sInt Syntax.w64)) (List._∷_ (1, Mut.mslice (Referent.rtF (Referent.fInt Syntax.w8)) (Syntax.tyRef (Syntax.named 0) Syntax.mut (Syntax.tyInt Syntax.w8)) 0) (List._∷_ (2, Rows'.sc-here (Row.sInt Syntax.w64)) (List._∷_ (3, Rows'.sslice (Referent.rtF (Referent.fInt Syntax.w8)) (Syntax.tyRef (Syntax.named 1) Syntax.imm (Syntax.tyInt Syntax.w8)) 1) (List._∷_ (4, Rows'.any-gone (ColumnMetadataRow.ty)) (List._∷_ (5, Rows.arrF (ColumnMetadataRow.RT) 4096 0) (List._∷_ (6, Rows'.any-gone (Syntax.tyStruct (List._∷_ 115 (List._∷_ 113 (List._∷_ 108 (List._∷_ 100 (List._∷_ 97 (List._∷_ 114 (List._∷_ 100 (List._∷_ 58 (List._∷_ 58 (List._∷_ 83 (List._∷_ 113 (List._∷_ 108 (List._∷_ 100 (List._∷_ 97 (List._∷_ 114 (List._∷_ 100 (List._∷_ 65 (List._∷_ 110 (List._∷_ 115 (List._∷_ 119 (List._∷_ 101 (List._∷_ 114 List.[])))))))))))))))))))))) (Syntax.tcons (Syntax.tyEnum (List._∷_ 111 (List._∷_ 117 (List._∷_ 116 (List._∷_ 99 (List._∷_ 111 (List._∷_ 109 (List._∷_ 101 (List._∷_ 58 (List._∷_ 58 (List._∷_ 79 (List._∷_ 117 (List._∷_ 116 (List._∷_ 99 (List._∷_ 111 (List._∷_ 109 (List._∷_ 101 List.[])))))))))))))))) (Syntax.ttcons Syntax.tnil (Syntax.ttcons Syntax.tnil (Syntax.ttcons (Syntax.tcons (Syntax.tyInt Syntax.w64) (Syntax.tcons (Syntax.tyInt Syntax.w64) Syntax.tnil)) (Syntax.ttcons Syntax.tnil (Syntax.ttcons (Syntax.tcons (Syntax.tyInt Syntax.w16) Syntax.tnil) (Syntax.ttcons Syntax.tnil (Syntax.ttcons (Syntax.tcons (Syntax.tyInt Syntax.w64) Syntax.tnil) (Syntax.ttcons Syntax.tnil (Syntax.ttcons (Syntax.tcons (Syntax.tyInt Syntax.w16) Syntax.tnil) Syntax.ttnil)))))))))) (Syntax.tcons (Syntax.tyStruct (List._∷_ 115 (List._∷_ 113 (List._∷_ 108 (List._∷_ 99 (List._∷_ 97 (List._∷_ 114 (List._∷_ 100 (List._∷_ 58 (List._∷_ 58 (List._∷_ 83 (List._∷_ 113 (List._∷_ 108 (List._∷_ 67 (List._∷_ 97 (List._∷_ 114 (List._∷_ 100 List.[])))))))))))))))) (Syntax.tcons Syntax.tyBool (Syntax.tcons (Syntax.tyInt Syntax.w32) (Syntax.tcons (Syntax.tyArray (Syntax.tyInt Syntax.w8) 5) (Syntax.tcons (Syntax.tyArray (Syntax.tyInt Syntax.w8) 8) (Syntax.tcons (Syntax.tyInt Syntax.w8) (Syntax.tcons (Syntax.tyArray (Syntax.tyInt Syntax.w32) 6) (Syntax.tcons (Syntax.tyInt Syntax.w64) (Syntax.tcons (Syntax.tyInt Syntax.w32) (Syntax.tcons (Syntax.tyArray (Syntax.tyInt Syntax.w8) 11) (Syntax.tcons (Syntax.tyInt Syntax.w64) (Syntax.tcons (Syntax.tyInt Syntax.w64) Syntax.tnil)))))))))))) (Syntax.tcons (Syntax.tyInt Syntax.w64) Syntax.tnil))))) (List._∷_ (7, Rows'.any-gone (Syntax.tyInt Syntax.w64)) (List._∷_ (8, Rows'.any-gone (Syntax.tyInt Syntax.w64)) (List._∷_ (9, Rows'.any-gone (Syntax.tyRef Syntax.erased Syntax.mut (Syntax.tyArray ColumnMetadataRow.named 4096))) (List._∷_ (10, Rows'.any-gone (Syntax.tyStruct (List._∷_ 38 (List._∷_ 91 (List._∷_ 93 List.[]))) (Syntax.tcons (Syntax.tyRef Syntax.erased Syntax.mut ColumnMetadataRow.named) (Syntax.tcons (Syntax.tyInt Syntax.w64) Syntax.tnil)))) (List._∷_ (11, Rows'.any-gone (Syntax.tyRef Syntax.erased Syntax.mut (Syntax.tyInt Syntax.w8))) (List._∷_ (12, Rows'.any-gone (Syntax.tyStruct (List._∷_ 38 (List._∷_ 91 (List._∷_ 93 List.[]))) (Syntax.tcons (Syntax.tyRef Syntax.erased Syntax.mut (Syntax.tyInt Syntax.w8)) (Syntax.tcons (Syntax.tyInt Syntax.w64) Syntax.tnil)))) (List._∷_ (13, Rows'.any-gone (Syntax.tyRef Syntax.erased Syntax.mut (Syntax.tyInt Syntax.w8))) (List._∷_ (14, Rows'.any-gone (Syntax.tyStruct (List._∷_ 38 (List._∷_ 91 (List._∷_ 93 List.[]))) (Syntax.tcons (Syntax.tyRef Syntax.erased Syntax.mut (Syntax.tyInt Syntax.w8)) (Syntax.tcons (Syntax.tyInt Syntax.w64) Syntax.tnil)))) (List._∷_ (15, Rows'.any-gone (Syntax.tyRef Syntax.erased Syntax.imm (Syntax.tyArray ColumnMetadataRow.named 4096))) List.[])))))))))))))))
 
 abbrev pub t27 : List.List Row.Entry
-t27 = List._∷_ (0, Rows'.sc-here (Row.sInt Syntax.w64)) (List._∷_ (1, Mut.mslice (Referent.rtF (Referent.fInt Syntax.w8)) (Syntax.tyRef (Syntax.named 0) Syntax.mut (Syntax.tyInt Syntax.w8)) 0) (List._∷_ (2, Rows'.sc-here (Row.sInt Syntax.w64)) (List._∷_ (3, Rows'.sslice (Referent.rtF (Referent.fInt Syntax.w8)) (Syntax.tyRef (Syntax.named 1) Syntax.imm (Syntax.tyInt Syntax.w8)) 1) (List._∷_ (4, Rows'.any-gone (ColumnMetadataRow.ty)) (List._∷_ (5, Rows'.any-gone (Syntax.tyArray (ColumnMetadataRow.ty) 4096)) (List._∷_ (6, Rows'.any-gone (Syntax.tyStruct (List._∷_ 115 (List._∷_ 113 (List._∷_ 108 (List._∷_ 100 (List._∷_ 97 (List._∷_ 114 (List._∷_ 100 (List._∷_ 58 (List._∷_ 58 (List._∷_ 83 (List._∷_ 113 (List._∷_ 108 (List._∷_ 100 (List._∷_ 97 (List._∷_ 114 (List._∷_ 100 (List._∷_ 65 (List._∷_ 110 (List._∷_ 115 (List._∷_ 119 (List._∷_ 101 (List._∷_ 114 List.[])))))))))))))))))))))) (Syntax.tcons (Syntax.tyEnum (List._∷_ 111 (List._∷_ 117 (List._∷_ 116 (List._∷_ 99 (List._∷_ 111 (List._∷_ 109 (List._∷_ 101 (List._∷_ 58 (List._∷_ 58 (List._∷_ 79 (List._∷_ 117 (List._∷_ 116 (List._∷_ 99 (List._∷_ 111 (List._∷_ 109 (List._∷_ 101 List.[])))))))))))))))) (Syntax.ttcons Syntax.tnil (Syntax.ttcons Syntax.tnil (Syntax.ttcons (Syntax.tcons (Syntax.tyInt Syntax.w64) (Syntax.tcons (Syntax.tyInt Syntax.w64) Syntax.tnil)) (Syntax.ttcons Syntax.tnil (Syntax.ttcons (Syntax.tcons (Syntax.tyInt Syntax.w16) Syntax.tnil) (Syntax.ttcons Syntax.tnil (Syntax.ttcons (Syntax.tcons (Syntax.tyInt Syntax.w64) Syntax.tnil) (Syntax.ttcons Syntax.tnil Syntax.ttnil))))))))) (Syntax.tcons (Syntax.tyStruct (List._∷_ 115 (List._∷_ 113 (List._∷_ 108 (List._∷_ 99 (List._∷_ 97 (List._∷_ 114 (List._∷_ 100 (List._∷_ 58 (List._∷_ 58 (List._∷_ 83 (List._∷_ 113 (List._∷_ 108 (List._∷_ 67 (List._∷_ 97 (List._∷_ 114 (List._∷_ 100 List.[])))))))))))))))) (Syntax.tcons Syntax.tyBool (Syntax.tcons (Syntax.tyInt Syntax.w32) (Syntax.tcons (Syntax.tyArray (Syntax.tyInt Syntax.w8) 5) (Syntax.tcons (Syntax.tyArray (Syntax.tyInt Syntax.w8) 8) (Syntax.tcons (Syntax.tyInt Syntax.w8) (Syntax.tcons (Syntax.tyArray (Syntax.tyInt Syntax.w32) 6) (Syntax.tcons (Syntax.tyInt Syntax.w64) (Syntax.tcons (Syntax.tyInt Syntax.w32) (Syntax.tcons (Syntax.tyArray (Syntax.tyInt Syntax.w8) 11) (Syntax.tcons (Syntax.tyInt Syntax.w64) (Syntax.tcons (Syntax.tyInt Syntax.w64) Syntax.tnil)))))))))))) (Syntax.tcons (Syntax.tyInt Syntax.w64) Syntax.tnil))))) (List._∷_ (7, Rows'.any-gone (Syntax.tyInt Syntax.w64)) (List._∷_ (8, Rows'.any-gone (Syntax.tyInt Syntax.w64)) (List._∷_ (9, Rows'.any-gone (Syntax.tyRef Syntax.erased Syntax.mut (Syntax.tyArray ColumnMetadataRow.named 4096))) (List._∷_ (10, Rows'.any-gone (Syntax.tyStruct (List._∷_ 38 (List._∷_ 91 (List._∷_ 93 List.[]))) (Syntax.tcons (Syntax.tyRef Syntax.erased Syntax.mut ColumnMetadataRow.named) (Syntax.tcons (Syntax.tyInt Syntax.w64) Syntax.tnil)))) (List._∷_ (11, Rows'.any-gone (Syntax.tyRef Syntax.erased Syntax.mut (Syntax.tyInt Syntax.w8))) (List._∷_ (12, Rows'.any-gone (Syntax.tyStruct (List._∷_ 38 (List._∷_ 91 (List._∷_ 93 List.[]))) (Syntax.tcons (Syntax.tyRef Syntax.erased Syntax.mut (Syntax.tyInt Syntax.w8)) (Syntax.tcons (Syntax.tyInt Syntax.w64) Syntax.tnil)))) (List._∷_ (13, Rows'.any-gone (Syntax.tyRef Syntax.erased Syntax.mut (Syntax.tyInt Syntax.w8))) (List._∷_ (14, Rows'.any-gone (Syntax.tyStruct (List._∷_ 38 (List._∷_ 91 (List._∷_ 93 List.[]))) (Syntax.tcons (Syntax.tyRef Syntax.erased Syntax.mut (Syntax.tyInt Syntax.w8)) (Syntax.tcons (Syntax.tyInt Syntax.w64) Syntax.tnil)))) (List._∷_ (15, Rows'.any-gone (Syntax.tyRef Syntax.erased Syntax.imm (Syntax.tyArray ColumnMetadataRow.named 4096))) List.[])))))))))))))))
+t27 = List._∷_ (0, Rows'.sc-here (Row.sInt Syntax.w64)) (List._∷_ (1, Mut.mslice (Referent.rtF (Referent.fInt Syntax.w8)) (Syntax.tyRef (Syntax.named 0) Syntax.mut (Syntax.tyInt Syntax.w8)) 0) (List._∷_ (2, Rows'.sc-here (Row.sInt Syntax.w64)) (List._∷_ (3, Rows'.sslice (Referent.rtF (Referent.fInt Syntax.w8)) (Syntax.tyRef (Syntax.named 1) Syntax.imm (Syntax.tyInt Syntax.w8)) 1) (List._∷_ (4, Rows'.any-gone (ColumnMetadataRow.ty)) (List._∷_ (5, Rows'.any-gone (Syntax.tyArray (ColumnMetadataRow.ty) 4096)) (List._∷_ (6, Rows'.any-gone (Syntax.tyStruct (List._∷_ 115 (List._∷_ 113 (List._∷_ 108 (List._∷_ 100 (List._∷_ 97 (List._∷_ 114 (List._∷_ 100 (List._∷_ 58 (List._∷_ 58 (List._∷_ 83 (List._∷_ 113 (List._∷_ 108 (List._∷_ 100 (List._∷_ 97 (List._∷_ 114 (List._∷_ 100 (List._∷_ 65 (List._∷_ 110 (List._∷_ 115 (List._∷_ 119 (List._∷_ 101 (List._∷_ 114 List.[])))))))))))))))))))))) (Syntax.tcons (Syntax.tyEnum (List._∷_ 111 (List._∷_ 117 (List._∷_ 116 (List._∷_ 99 (List._∷_ 111 (List._∷_ 109 (List._∷_ 101 (List._∷_ 58 (List._∷_ 58 (List._∷_ 79 (List._∷_ 117 (List._∷_ 116 (List._∷_ 99 (List._∷_ 111 (List._∷_ 109 (List._∷_ 101 List.[])))))))))))))))) (Syntax.ttcons Syntax.tnil (Syntax.ttcons Syntax.tnil (Syntax.ttcons (Syntax.tcons (Syntax.tyInt Syntax.w64) (Syntax.tcons (Syntax.tyInt Syntax.w64) Syntax.tnil)) (Syntax.ttcons Syntax.tnil (Syntax.ttcons (Syntax.tcons (Syntax.tyInt Syntax.w16) Syntax.tnil) (Syntax.ttcons Syntax.tnil (Syntax.ttcons (Syntax.tcons (Syntax.tyInt Syntax.w64) Syntax.tnil) (Syntax.ttcons Syntax.tnil (Syntax.ttcons (Syntax.tcons (Syntax.tyInt Syntax.w16) Syntax.tnil) Syntax.ttnil)))))))))) (Syntax.tcons (Syntax.tyStruct (List._∷_ 115 (List._∷_ 113 (List._∷_ 108 (List._∷_ 99 (List._∷_ 97 (List._∷_ 114 (List._∷_ 100 (List._∷_ 58 (List._∷_ 58 (List._∷_ 83 (List._∷_ 113 (List._∷_ 108 (List._∷_ 67 (List._∷_ 97 (List._∷_ 114 (List._∷_ 100 List.[])))))))))))))))) (Syntax.tcons Syntax.tyBool (Syntax.tcons (Syntax.tyInt Syntax.w32) (Syntax.tcons (Syntax.tyArray (Syntax.tyInt Syntax.w8) 5) (Syntax.tcons (Syntax.tyArray (Syntax.tyInt Syntax.w8) 8) (Syntax.tcons (Syntax.tyInt Syntax.w8) (Syntax.tcons (Syntax.tyArray (Syntax.tyInt Syntax.w32) 6) (Syntax.tcons (Syntax.tyInt Syntax.w64) (Syntax.tcons (Syntax.tyInt Syntax.w32) (Syntax.tcons (Syntax.tyArray (Syntax.tyInt Syntax.w8) 11) (Syntax.tcons (Syntax.tyInt Syntax.w64) (Syntax.tcons (Syntax.tyInt Syntax.w64) Syntax.tnil)))))))))))) (Syntax.tcons (Syntax.tyInt Syntax.w64) Syntax.tnil))))) (List._∷_ (7, Rows'.any-gone (Syntax.tyInt Syntax.w64)) (List._∷_ (8, Rows'.any-gone (Syntax.tyInt Syntax.w64)) (List._∷_ (9, Rows'.any-gone (Syntax.tyRef Syntax.erased Syntax.mut (Syntax.tyArray ColumnMetadataRow.named 4096))) (List._∷_ (10, Rows'.any-gone (Syntax.tyStruct (List._∷_ 38 (List._∷_ 91 (List._∷_ 93 List.[]))) (Syntax.tcons (Syntax.tyRef Syntax.erased Syntax.mut ColumnMetadataRow.named) (Syntax.tcons (Syntax.tyInt Syntax.w64) Syntax.tnil)))) (List._∷_ (11, Rows'.any-gone (Syntax.tyRef Syntax.erased Syntax.mut (Syntax.tyInt Syntax.w8))) (List._∷_ (12, Rows'.any-gone (Syntax.tyStruct (List._∷_ 38 (List._∷_ 91 (List._∷_ 93 List.[]))) (Syntax.tcons (Syntax.tyRef Syntax.erased Syntax.mut (Syntax.tyInt Syntax.w8)) (Syntax.tcons (Syntax.tyInt Syntax.w64) Syntax.tnil)))) (List._∷_ (13, Rows'.any-gone (Syntax.tyRef Syntax.erased Syntax.mut (Syntax.tyInt Syntax.w8))) (List._∷_ (14, Rows'.any-gone (Syntax.tyStruct (List._∷_ 38 (List._∷_ 91 (List._∷_ 93 List.[]))) (Syntax.tcons (Syntax.tyRef Syntax.erased Syntax.mut (Syntax.tyInt Syntax.w8)) (Syntax.tcons (Syntax.tyInt Syntax.w64) Syntax.tnil)))) (List._∷_ (15, Rows'.any-gone (Syntax.tyRef Syntax.erased Syntax.imm (Syntax.tyArray ColumnMetadataRow.named 4096))) List.[])))))))))))))))
 
 abbrev pub T0 : Row.Cx
 T0 = record { locals = List._++_ t0 t1; slots = List.[] }
@@ -401,7 +401,7 @@ module _ (claims· : Claims) where
   s8 = λ bs. Relend.k-sl-aggregate (ColumnMetadataRow.RT) (Relend.asMut (ColumnMetadataRow.RT)) T9 9 10 2 (Syntax.tyRef Syntax.erased Syntax.mut (Syntax.tyArray ColumnMetadataRow.named 4096)) (Syntax.tyRef Syntax.erased Syntax.mut ColumnMetadataRow.named) (λ x. x) (Scalar.oBig Syntax.w64 4096)
 
   abbrev s9 : (bs : List.List Nat.ℕ) → Typed.Both T10 T11
-  s9 = λ bs. Call.callB ps·1 r·1 (claims· .2) (claims· .3) T10 (record { pos = 3; ty = Syntax.tyRef (Syntax.named 1) Syntax.imm (Syntax.tyInt Syntax.w8); ref = λ x. x }, (record { pos = 10; ty = Syntax.tyRef Syntax.erased Syntax.mut ColumnMetadataRow.named; ref = λ x. x }, tt)) 6 (List._∷_ 1 (List._∷_ 2 List.[])) (Syntax.tyStruct (List._∷_ 115 (List._∷_ 113 (List._∷_ 108 (List._∷_ 100 (List._∷_ 97 (List._∷_ 114 (List._∷_ 100 (List._∷_ 58 (List._∷_ 58 (List._∷_ 83 (List._∷_ 113 (List._∷_ 108 (List._∷_ 100 (List._∷_ 97 (List._∷_ 114 (List._∷_ 100 (List._∷_ 65 (List._∷_ 110 (List._∷_ 115 (List._∷_ 119 (List._∷_ 101 (List._∷_ 114 List.[])))))))))))))))))))))) (Syntax.tcons (Syntax.tyEnum (List._∷_ 111 (List._∷_ 117 (List._∷_ 116 (List._∷_ 99 (List._∷_ 111 (List._∷_ 109 (List._∷_ 101 (List._∷_ 58 (List._∷_ 58 (List._∷_ 79 (List._∷_ 117 (List._∷_ 116 (List._∷_ 99 (List._∷_ 111 (List._∷_ 109 (List._∷_ 101 List.[])))))))))))))))) (Syntax.ttcons Syntax.tnil (Syntax.ttcons Syntax.tnil (Syntax.ttcons (Syntax.tcons (Syntax.tyInt Syntax.w64) (Syntax.tcons (Syntax.tyInt Syntax.w64) Syntax.tnil)) (Syntax.ttcons Syntax.tnil (Syntax.ttcons (Syntax.tcons (Syntax.tyInt Syntax.w16) Syntax.tnil) (Syntax.ttcons Syntax.tnil (Syntax.ttcons (Syntax.tcons (Syntax.tyInt Syntax.w64) Syntax.tnil) (Syntax.ttcons Syntax.tnil Syntax.ttnil))))))))) (Syntax.tcons (Syntax.tyStruct (List._∷_ 115 (List._∷_ 113 (List._∷_ 108 (List._∷_ 99 (List._∷_ 97 (List._∷_ 114 (List._∷_ 100 (List._∷_ 58 (List._∷_ 58 (List._∷_ 83 (List._∷_ 113 (List._∷_ 108 (List._∷_ 67 (List._∷_ 97 (List._∷_ 114 (List._∷_ 100 List.[])))))))))))))))) (Syntax.tcons Syntax.tyBool (Syntax.tcons (Syntax.tyInt Syntax.w32) (Syntax.tcons (Syntax.tyArray (Syntax.tyInt Syntax.w8) 5) (Syntax.tcons (Syntax.tyArray (Syntax.tyInt Syntax.w8) 8) (Syntax.tcons (Syntax.tyInt Syntax.w8) (Syntax.tcons (Syntax.tyArray (Syntax.tyInt Syntax.w32) 6) (Syntax.tcons (Syntax.tyInt Syntax.w64) (Syntax.tcons (Syntax.tyInt Syntax.w32) (Syntax.tcons (Syntax.tyArray (Syntax.tyInt Syntax.w8) 11) (Syntax.tcons (Syntax.tyInt Syntax.w64) (Syntax.tcons (Syntax.tyInt Syntax.w64) Syntax.tnil)))))))))))) (Syntax.tcons (Syntax.tyInt Syntax.w64) Syntax.tnil))))
+  s9 = λ bs. Call.callB ps·1 r·1 (claims· .2) (claims· .3) T10 (record { pos = 3; ty = Syntax.tyRef (Syntax.named 1) Syntax.imm (Syntax.tyInt Syntax.w8); ref = λ x. x }, (record { pos = 10; ty = Syntax.tyRef Syntax.erased Syntax.mut ColumnMetadataRow.named; ref = λ x. x }, tt)) 6 (List._∷_ 1 (List._∷_ 2 List.[])) (Syntax.tyStruct (List._∷_ 115 (List._∷_ 113 (List._∷_ 108 (List._∷_ 100 (List._∷_ 97 (List._∷_ 114 (List._∷_ 100 (List._∷_ 58 (List._∷_ 58 (List._∷_ 83 (List._∷_ 113 (List._∷_ 108 (List._∷_ 100 (List._∷_ 97 (List._∷_ 114 (List._∷_ 100 (List._∷_ 65 (List._∷_ 110 (List._∷_ 115 (List._∷_ 119 (List._∷_ 101 (List._∷_ 114 List.[])))))))))))))))))))))) (Syntax.tcons (Syntax.tyEnum (List._∷_ 111 (List._∷_ 117 (List._∷_ 116 (List._∷_ 99 (List._∷_ 111 (List._∷_ 109 (List._∷_ 101 (List._∷_ 58 (List._∷_ 58 (List._∷_ 79 (List._∷_ 117 (List._∷_ 116 (List._∷_ 99 (List._∷_ 111 (List._∷_ 109 (List._∷_ 101 List.[])))))))))))))))) (Syntax.ttcons Syntax.tnil (Syntax.ttcons Syntax.tnil (Syntax.ttcons (Syntax.tcons (Syntax.tyInt Syntax.w64) (Syntax.tcons (Syntax.tyInt Syntax.w64) Syntax.tnil)) (Syntax.ttcons Syntax.tnil (Syntax.ttcons (Syntax.tcons (Syntax.tyInt Syntax.w16) Syntax.tnil) (Syntax.ttcons Syntax.tnil (Syntax.ttcons (Syntax.tcons (Syntax.tyInt Syntax.w64) Syntax.tnil) (Syntax.ttcons Syntax.tnil (Syntax.ttcons (Syntax.tcons (Syntax.tyInt Syntax.w16) Syntax.tnil) Syntax.ttnil)))))))))) (Syntax.tcons (Syntax.tyStruct (List._∷_ 115 (List._∷_ 113 (List._∷_ 108 (List._∷_ 99 (List._∷_ 97 (List._∷_ 114 (List._∷_ 100 (List._∷_ 58 (List._∷_ 58 (List._∷_ 83 (List._∷_ 113 (List._∷_ 108 (List._∷_ 67 (List._∷_ 97 (List._∷_ 114 (List._∷_ 100 List.[])))))))))))))))) (Syntax.tcons Syntax.tyBool (Syntax.tcons (Syntax.tyInt Syntax.w32) (Syntax.tcons (Syntax.tyArray (Syntax.tyInt Syntax.w8) 5) (Syntax.tcons (Syntax.tyArray (Syntax.tyInt Syntax.w8) 8) (Syntax.tcons (Syntax.tyInt Syntax.w8) (Syntax.tcons (Syntax.tyArray (Syntax.tyInt Syntax.w32) 6) (Syntax.tcons (Syntax.tyInt Syntax.w64) (Syntax.tcons (Syntax.tyInt Syntax.w32) (Syntax.tcons (Syntax.tyArray (Syntax.tyInt Syntax.w8) 11) (Syntax.tcons (Syntax.tyInt Syntax.w64) (Syntax.tcons (Syntax.tyInt Syntax.w64) Syntax.tnil)))))))))))) (Syntax.tcons (Syntax.tyInt Syntax.w64) Syntax.tnil))))
 
   abbrev s11 : (bs : List.List Nat.ℕ) → Typed.Both T11 T13
   s11 = λ bs. Borrow.k-back-arr (ColumnMetadataRow.RT) T11 10 5 2 4096 (Syntax.tyRef Syntax.erased Syntax.mut ColumnMetadataRow.named) (λ x. x) λ x. x
@@ -419,7 +419,7 @@ module _ (claims· : Claims) where
   s17 = λ bs. Call.callB ps·2 r·2 (claims· .4) (claims· .5) T18 (record { pos = 12; ty = Syntax.tyRef Syntax.erased Syntax.mut (Syntax.tyInt Syntax.w8); ref = λ x. x }, (Num.vAt 2 λ x. x, (record { pos = 6; st = List.[]; d = 0; at = λ x. x }, tt))) 8 (List._∷_ 3 List.[]) (Syntax.tyInt Syntax.w64)
 
   abbrev s18 : (bs : List.List Nat.ℕ) → Typed.Mo T19 → Typed.Mo T20
-  s18 = λ bs. Scalar.n-room T19 6 (Syntax.tyStruct (List._∷_ 115 (List._∷_ 113 (List._∷_ 108 (List._∷_ 100 (List._∷_ 97 (List._∷_ 114 (List._∷_ 100 (List._∷_ 58 (List._∷_ 58 (List._∷_ 83 (List._∷_ 113 (List._∷_ 108 (List._∷_ 100 (List._∷_ 97 (List._∷_ 114 (List._∷_ 100 (List._∷_ 65 (List._∷_ 110 (List._∷_ 115 (List._∷_ 119 (List._∷_ 101 (List._∷_ 114 List.[])))))))))))))))))))))) (Syntax.tcons (Syntax.tyEnum (List._∷_ 111 (List._∷_ 117 (List._∷_ 116 (List._∷_ 99 (List._∷_ 111 (List._∷_ 109 (List._∷_ 101 (List._∷_ 58 (List._∷_ 58 (List._∷_ 79 (List._∷_ 117 (List._∷_ 116 (List._∷_ 99 (List._∷_ 111 (List._∷_ 109 (List._∷_ 101 List.[])))))))))))))))) (Syntax.ttcons Syntax.tnil (Syntax.ttcons Syntax.tnil (Syntax.ttcons (Syntax.tcons (Syntax.tyInt Syntax.w64) (Syntax.tcons (Syntax.tyInt Syntax.w64) Syntax.tnil)) (Syntax.ttcons Syntax.tnil (Syntax.ttcons (Syntax.tcons (Syntax.tyInt Syntax.w16) Syntax.tnil) (Syntax.ttcons Syntax.tnil (Syntax.ttcons (Syntax.tcons (Syntax.tyInt Syntax.w64) Syntax.tnil) (Syntax.ttcons Syntax.tnil Syntax.ttnil))))))))) (Syntax.tcons (Syntax.tyStruct (List._∷_ 115 (List._∷_ 113 (List._∷_ 108 (List._∷_ 99 (List._∷_ 97 (List._∷_ 114 (List._∷_ 100 (List._∷_ 58 (List._∷_ 58 (List._∷_ 83 (List._∷_ 113 (List._∷_ 108 (List._∷_ 67 (List._∷_ 97 (List._∷_ 114 (List._∷_ 100 List.[])))))))))))))))) (Syntax.tcons Syntax.tyBool (Syntax.tcons (Syntax.tyInt Syntax.w32) (Syntax.tcons (Syntax.tyArray (Syntax.tyInt Syntax.w8) 5) (Syntax.tcons (Syntax.tyArray (Syntax.tyInt Syntax.w8) 8) (Syntax.tcons (Syntax.tyInt Syntax.w8) (Syntax.tcons (Syntax.tyArray (Syntax.tyInt Syntax.w32) 6) (Syntax.tcons (Syntax.tyInt Syntax.w64) (Syntax.tcons (Syntax.tyInt Syntax.w32) (Syntax.tcons (Syntax.tyArray (Syntax.tyInt Syntax.w8) 11) (Syntax.tcons (Syntax.tyInt Syntax.w64) (Syntax.tcons (Syntax.tyInt Syntax.w64) Syntax.tnil)))))))))))) (Syntax.tcons (Syntax.tyInt Syntax.w64) Syntax.tnil))))
+  s18 = λ bs. Scalar.n-room T19 6 (Syntax.tyStruct (List._∷_ 115 (List._∷_ 113 (List._∷_ 108 (List._∷_ 100 (List._∷_ 97 (List._∷_ 114 (List._∷_ 100 (List._∷_ 58 (List._∷_ 58 (List._∷_ 83 (List._∷_ 113 (List._∷_ 108 (List._∷_ 100 (List._∷_ 97 (List._∷_ 114 (List._∷_ 100 (List._∷_ 65 (List._∷_ 110 (List._∷_ 115 (List._∷_ 119 (List._∷_ 101 (List._∷_ 114 List.[])))))))))))))))))))))) (Syntax.tcons (Syntax.tyEnum (List._∷_ 111 (List._∷_ 117 (List._∷_ 116 (List._∷_ 99 (List._∷_ 111 (List._∷_ 109 (List._∷_ 101 (List._∷_ 58 (List._∷_ 58 (List._∷_ 79 (List._∷_ 117 (List._∷_ 116 (List._∷_ 99 (List._∷_ 111 (List._∷_ 109 (List._∷_ 101 List.[])))))))))))))))) (Syntax.ttcons Syntax.tnil (Syntax.ttcons Syntax.tnil (Syntax.ttcons (Syntax.tcons (Syntax.tyInt Syntax.w64) (Syntax.tcons (Syntax.tyInt Syntax.w64) Syntax.tnil)) (Syntax.ttcons Syntax.tnil (Syntax.ttcons (Syntax.tcons (Syntax.tyInt Syntax.w16) Syntax.tnil) (Syntax.ttcons Syntax.tnil (Syntax.ttcons (Syntax.tcons (Syntax.tyInt Syntax.w64) Syntax.tnil) (Syntax.ttcons Syntax.tnil (Syntax.ttcons (Syntax.tcons (Syntax.tyInt Syntax.w16) Syntax.tnil) Syntax.ttnil)))))))))) (Syntax.tcons (Syntax.tyStruct (List._∷_ 115 (List._∷_ 113 (List._∷_ 108 (List._∷_ 99 (List._∷_ 97 (List._∷_ 114 (List._∷_ 100 (List._∷_ 58 (List._∷_ 58 (List._∷_ 83 (List._∷_ 113 (List._∷_ 108 (List._∷_ 67 (List._∷_ 97 (List._∷_ 114 (List._∷_ 100 List.[])))))))))))))))) (Syntax.tcons Syntax.tyBool (Syntax.tcons (Syntax.tyInt Syntax.w32) (Syntax.tcons (Syntax.tyArray (Syntax.tyInt Syntax.w8) 5) (Syntax.tcons (Syntax.tyArray (Syntax.tyInt Syntax.w8) 8) (Syntax.tcons (Syntax.tyInt Syntax.w8) (Syntax.tcons (Syntax.tyArray (Syntax.tyInt Syntax.w32) 6) (Syntax.tcons (Syntax.tyInt Syntax.w64) (Syntax.tcons (Syntax.tyInt Syntax.w32) (Syntax.tcons (Syntax.tyArray (Syntax.tyInt Syntax.w8) 11) (Syntax.tcons (Syntax.tyInt Syntax.w64) (Syntax.tcons (Syntax.tyInt Syntax.w64) Syntax.tnil)))))))))))) (Syntax.tcons (Syntax.tyInt Syntax.w64) Syntax.tnil))))
 
   abbrev s20 : (bs : List.List Nat.ℕ) → Typed.Both T20 T22
   s20 = λ bs. Relend.k-back-sl (Referent.rtF (Referent.fInt Syntax.w8)) T20 12 1 0 3 (Syntax.tyRef (Syntax.named 0) Syntax.mut (Syntax.tyInt Syntax.w8)) (Syntax.tyRef Syntax.erased Syntax.mut (Syntax.tyInt Syntax.w8)) Row.off (λ x. x) λ x. x
@@ -619,28 +619,28 @@ module _ (claims· : Claims) where
         g14 = List._∷_ (0, Rows'.any-gone (Syntax.tyInt Syntax.w64)) (List._∷_ (1, Relend.mslice-owed (Referent.rtF (Referent.fInt Syntax.w8)) (Syntax.tyRef (Syntax.named 0) Syntax.mut (Syntax.tyInt Syntax.w8)) 0 3 (Row.lease (κs .0) (qs .0))) (List._∷_ (2, Rows'.sc-here (Row.sInt Syntax.w64)) (List._∷_ (3, Rows'.sslice (Referent.rtF (Referent.fInt Syntax.w8)) (Syntax.tyRef (Syntax.named 1) Syntax.imm (Syntax.tyInt Syntax.w8)) 1) (List._∷_ (4, Rows'.any-gone (ColumnMetadataRow.ty)) (List._∷_ (5, Rows.arrF (ColumnMetadataRow.RT) 4096 0) (List._∷_ (6, Rows'.whole (Declared.row SqldardAnswer.the-type)) (List._∷_ (7, Rows'.sc-here (Row.sInt Syntax.w64)) (List._∷_ (8, Rows'.sc-here (Row.sInt Syntax.w64)) (List._∷_ (9, Rows'.any-gone (Syntax.tyRef Syntax.erased Syntax.mut (Syntax.tyArray ColumnMetadataRow.named 4096))) (List._∷_ (10, Rows'.any-gone (Syntax.tyStruct (List._∷_ 38 (List._∷_ 91 (List._∷_ 93 List.[]))) (Syntax.tcons (Syntax.tyRef Syntax.erased Syntax.mut ColumnMetadataRow.named) (Syntax.tcons (Syntax.tyInt Syntax.w64) Syntax.tnil)))) (List._∷_ (11, Rows'.any-gone (Syntax.tyRef Syntax.erased Syntax.mut (Syntax.tyInt Syntax.w8))) (List._∷_ (12, Mut.msleft (Referent.rtF (Referent.fInt Syntax.w8)) (Syntax.tyRef Syntax.erased Syntax.mut (Syntax.tyInt Syntax.w8))) (List._∷_ (13, Rows'.any-gone (Syntax.tyRef Syntax.erased Syntax.mut (Syntax.tyInt Syntax.w8))) (List._∷_ (14, Rows'.any-gone (Syntax.tyStruct (List._∷_ 38 (List._∷_ 91 (List._∷_ 93 List.[]))) (Syntax.tcons (Syntax.tyRef Syntax.erased Syntax.mut (Syntax.tyInt Syntax.w8)) (Syntax.tcons (Syntax.tyInt Syntax.w64) Syntax.tnil)))) (List._∷_ (15, Rows'.any-gone (Syntax.tyRef Syntax.erased Syntax.imm (Syntax.tyArray ColumnMetadataRow.named 4096))) List.[])))))))))))))))
 
         abbrev g15 : List.List Row.Entry
-        g15 = List._∷_ (0, Rows'.any-gone (Syntax.tyInt Syntax.w64)) (List._∷_ (1, Relend.mslice-owed (Referent.rtF (Referent.fInt Syntax.w8)) (Syntax.tyRef (Syntax.named 0) Syntax.mut (Syntax.tyInt Syntax.w8)) 0 3 (Row.lease (κs .0) (qs .0))) (List._∷_ (2, Rows'.sc-here (Row.sInt Syntax.w64)) (List._∷_ (3, Rows'.sslice (Referent.rtF (Referent.fInt Syntax.w8)) (Syntax.tyRef (Syntax.named 1) Syntax.imm (Syntax.tyInt Syntax.w8)) 1) (List._∷_ (4, Rows'.any-gone (ColumnMetadataRow.ty)) (List._∷_ (5, Rows.arrF (ColumnMetadataRow.RT) 4096 0) (List._∷_ (6, Rows'.any-gone (Syntax.tyStruct (List._∷_ 115 (List._∷_ 113 (List._∷_ 108 (List._∷_ 100 (List._∷_ 97 (List._∷_ 114 (List._∷_ 100 (List._∷_ 58 (List._∷_ 58 (List._∷_ 83 (List._∷_ 113 (List._∷_ 108 (List._∷_ 100 (List._∷_ 97 (List._∷_ 114 (List._∷_ 100 (List._∷_ 65 (List._∷_ 110 (List._∷_ 115 (List._∷_ 119 (List._∷_ 101 (List._∷_ 114 List.[])))))))))))))))))))))) (Syntax.tcons (Syntax.tyEnum (List._∷_ 111 (List._∷_ 117 (List._∷_ 116 (List._∷_ 99 (List._∷_ 111 (List._∷_ 109 (List._∷_ 101 (List._∷_ 58 (List._∷_ 58 (List._∷_ 79 (List._∷_ 117 (List._∷_ 116 (List._∷_ 99 (List._∷_ 111 (List._∷_ 109 (List._∷_ 101 List.[])))))))))))))))) (Syntax.ttcons Syntax.tnil (Syntax.ttcons Syntax.tnil (Syntax.ttcons (Syntax.tcons (Syntax.tyInt Syntax.w64) (Syntax.tcons (Syntax.tyInt Syntax.w64) Syntax.tnil)) (Syntax.ttcons Syntax.tnil (Syntax.ttcons (Syntax.tcons (Syntax.tyInt Syntax.w16) Syntax.tnil) (Syntax.ttcons Syntax.tnil (Syntax.ttcons (Syntax.tcons (Syntax.tyInt Syntax.w64) Syntax.tnil) (Syntax.ttcons Syntax.tnil Syntax.ttnil))))))))) (Syntax.tcons (Syntax.tyStruct (List._∷_ 115 (List._∷_ 113 (List._∷_ 108 (List._∷_ 99 (List._∷_ 97 (List._∷_ 114 (List._∷_ 100 (List._∷_ 58 (List._∷_ 58 (List._∷_ 83 (List._∷_ 113 (List._∷_ 108 (List._∷_ 67 (List._∷_ 97 (List._∷_ 114 (List._∷_ 100 List.[])))))))))))))))) (Syntax.tcons Syntax.tyBool (Syntax.tcons (Syntax.tyInt Syntax.w32) (Syntax.tcons (Syntax.tyArray (Syntax.tyInt Syntax.w8) 5) (Syntax.tcons (Syntax.tyArray (Syntax.tyInt Syntax.w8) 8) (Syntax.tcons (Syntax.tyInt Syntax.w8) (Syntax.tcons (Syntax.tyArray (Syntax.tyInt Syntax.w32) 6) (Syntax.tcons (Syntax.tyInt Syntax.w64) (Syntax.tcons (Syntax.tyInt Syntax.w32) (Syntax.tcons (Syntax.tyArray (Syntax.tyInt Syntax.w8) 11) (Syntax.tcons (Syntax.tyInt Syntax.w64) (Syntax.tcons (Syntax.tyInt Syntax.w64) Syntax.tnil)))))))))))) (Syntax.tcons (Syntax.tyInt Syntax.w64) Syntax.tnil))))) (List._∷_ (7, Rows'.sc-here (Row.sInt Syntax.w64)) (List._∷_ (8, Rows'.sc-here (Row.sInt Syntax.w64)) (List._∷_ (9, Rows'.any-gone (Syntax.tyRef Syntax.erased Syntax.mut (Syntax.tyArray ColumnMetadataRow.named 4096))) (List._∷_ (10, Rows'.any-gone (Syntax.tyStruct (List._∷_ 38 (List._∷_ 91 (List._∷_ 93 List.[]))) (Syntax.tcons (Syntax.tyRef Syntax.erased Syntax.mut ColumnMetadataRow.named) (Syntax.tcons (Syntax.tyInt Syntax.w64) Syntax.tnil)))) (List._∷_ (11, Rows'.any-gone (Syntax.tyRef Syntax.erased Syntax.mut (Syntax.tyInt Syntax.w8))) (List._∷_ (12, Mut.msleft (Referent.rtF (Referent.fInt Syntax.w8)) (Syntax.tyRef Syntax.erased Syntax.mut (Syntax.tyInt Syntax.w8))) (List._∷_ (13, Rows'.any-gone (Syntax.tyRef Syntax.erased Syntax.mut (Syntax.tyInt Syntax.w8))) (List._∷_ (14, Rows'.any-gone (Syntax.tyStruct (List._∷_ 38 (List._∷_ 91 (List._∷_ 93 List.[]))) (Syntax.tcons (Syntax.tyRef Syntax.erased Syntax.mut (Syntax.tyInt Syntax.w8)) (Syntax.tcons (Syntax.tyInt Syntax.w64) Syntax.tnil)))) (List._∷_ (15, Rows'.any-gone (Syntax.tyRef Syntax.erased Syntax.imm (Syntax.tyArray ColumnMetadataRow.named 4096))) List.[])))))))))))))))
+        g15 = List._∷_ (0, Rows'.any-gone (Syntax.tyInt Syntax.w64)) (List._∷_ (1, Relend.mslice-owed (Referent.rtF (Referent.fInt Syntax.w8)) (Syntax.tyRef (Syntax.named 0) Syntax.mut (Syntax.tyInt Syntax.w8)) 0 3 (Row.lease (κs .0) (qs .0))) (List._∷_ (2, Rows'.sc-here (Row.sInt Syntax.w64)) (List._∷_ (3, Rows'.sslice (Referent.rtF (Referent.fInt Syntax.w8)) (Syntax.tyRef (Syntax.named 1) Syntax.imm (Syntax.tyInt Syntax.w8)) 1) (List._∷_ (4, Rows'.any-gone (ColumnMetadataRow.ty)) (List._∷_ (5, Rows.arrF (ColumnMetadataRow.RT) 4096 0) (List._∷_ (6, Rows'.any-gone (Syntax.tyStruct (List._∷_ 115 (List._∷_ 113 (List._∷_ 108 (List._∷_ 100 (List._∷_ 97 (List._∷_ 114 (List._∷_ 100 (List._∷_ 58 (List._∷_ 58 (List._∷_ 83 (List._∷_ 113 (List._∷_ 108 (List._∷_ 100 (List._∷_ 97 (List._∷_ 114 (List._∷_ 100 (List._∷_ 65 (List._∷_ 110 (List._∷_ 115 (List._∷_ 119 (List._∷_ 101 (List._∷_ 114 List.[])))))))))))))))))))))) (Syntax.tcons (Syntax.tyEnum (List._∷_ 111 (List._∷_ 117 (List._∷_ 116 (List._∷_ 99 (List._∷_ 111 (List._∷_ 109 (List._∷_ 101 (List._∷_ 58 (List._∷_ 58 (List._∷_ 79 (List._∷_ 117 (List._∷_ 116 (List._∷_ 99 (List._∷_ 111 (List._∷_ 109 (List._∷_ 101 List.[])))))))))))))))) (Syntax.ttcons Syntax.tnil (Syntax.ttcons Syntax.tnil (Syntax.ttcons (Syntax.tcons (Syntax.tyInt Syntax.w64) (Syntax.tcons (Syntax.tyInt Syntax.w64) Syntax.tnil)) (Syntax.ttcons Syntax.tnil (Syntax.ttcons (Syntax.tcons (Syntax.tyInt Syntax.w16) Syntax.tnil) (Syntax.ttcons Syntax.tnil (Syntax.ttcons (Syntax.tcons (Syntax.tyInt Syntax.w64) Syntax.tnil) (Syntax.ttcons Syntax.tnil (Syntax.ttcons (Syntax.tcons (Syntax.tyInt Syntax.w16) Syntax.tnil) Syntax.ttnil)))))))))) (Syntax.tcons (Syntax.tyStruct (List._∷_ 115 (List._∷_ 113 (List._∷_ 108 (List._∷_ 99 (List._∷_ 97 (List._∷_ 114 (List._∷_ 100 (List._∷_ 58 (List._∷_ 58 (List._∷_ 83 (List._∷_ 113 (List._∷_ 108 (List._∷_ 67 (List._∷_ 97 (List._∷_ 114 (List._∷_ 100 List.[])))))))))))))))) (Syntax.tcons Syntax.tyBool (Syntax.tcons (Syntax.tyInt Syntax.w32) (Syntax.tcons (Syntax.tyArray (Syntax.tyInt Syntax.w8) 5) (Syntax.tcons (Syntax.tyArray (Syntax.tyInt Syntax.w8) 8) (Syntax.tcons (Syntax.tyInt Syntax.w8) (Syntax.tcons (Syntax.tyArray (Syntax.tyInt Syntax.w32) 6) (Syntax.tcons (Syntax.tyInt Syntax.w64) (Syntax.tcons (Syntax.tyInt Syntax.w32) (Syntax.tcons (Syntax.tyArray (Syntax.tyInt Syntax.w8) 11) (Syntax.tcons (Syntax.tyInt Syntax.w64) (Syntax.tcons (Syntax.tyInt Syntax.w64) Syntax.tnil)))))))))))) (Syntax.tcons (Syntax.tyInt Syntax.w64) Syntax.tnil))))) (List._∷_ (7, Rows'.sc-here (Row.sInt Syntax.w64)) (List._∷_ (8, Rows'.sc-here (Row.sInt Syntax.w64)) (List._∷_ (9, Rows'.any-gone (Syntax.tyRef Syntax.erased Syntax.mut (Syntax.tyArray ColumnMetadataRow.named 4096))) (List._∷_ (10, Rows'.any-gone (Syntax.tyStruct (List._∷_ 38 (List._∷_ 91 (List._∷_ 93 List.[]))) (Syntax.tcons (Syntax.tyRef Syntax.erased Syntax.mut ColumnMetadataRow.named) (Syntax.tcons (Syntax.tyInt Syntax.w64) Syntax.tnil)))) (List._∷_ (11, Rows'.any-gone (Syntax.tyRef Syntax.erased Syntax.mut (Syntax.tyInt Syntax.w8))) (List._∷_ (12, Mut.msleft (Referent.rtF (Referent.fInt Syntax.w8)) (Syntax.tyRef Syntax.erased Syntax.mut (Syntax.tyInt Syntax.w8))) (List._∷_ (13, Rows'.any-gone (Syntax.tyRef Syntax.erased Syntax.mut (Syntax.tyInt Syntax.w8))) (List._∷_ (14, Rows'.any-gone (Syntax.tyStruct (List._∷_ 38 (List._∷_ 91 (List._∷_ 93 List.[]))) (Syntax.tcons (Syntax.tyRef Syntax.erased Syntax.mut (Syntax.tyInt Syntax.w8)) (Syntax.tcons (Syntax.tyInt Syntax.w64) Syntax.tnil)))) (List._∷_ (15, Rows'.any-gone (Syntax.tyRef Syntax.erased Syntax.imm (Syntax.tyArray ColumnMetadataRow.named 4096))) List.[])))))))))))))))
 
         abbrev g17 : List.List Row.Entry
-        g17 = List._∷_ (0, Rows'.any-gone (Syntax.tyInt Syntax.w64)) (List._∷_ (1, Relend.mslice-owed (Referent.rtF (Referent.fInt Syntax.w8)) (Syntax.tyRef (Syntax.named 0) Syntax.mut (Syntax.tyInt Syntax.w8)) 0 4 (Row.lease (κs .0) (qs .0))) (List._∷_ (2, Rows'.sc-here (Row.sInt Syntax.w64)) (List._∷_ (3, Rows'.sslice (Referent.rtF (Referent.fInt Syntax.w8)) (Syntax.tyRef (Syntax.named 1) Syntax.imm (Syntax.tyInt Syntax.w8)) 1) (List._∷_ (4, Rows'.any-gone (ColumnMetadataRow.ty)) (List._∷_ (5, Rows.arrF (ColumnMetadataRow.RT) 4096 0) (List._∷_ (6, Rows'.any-gone (Syntax.tyStruct (List._∷_ 115 (List._∷_ 113 (List._∷_ 108 (List._∷_ 100 (List._∷_ 97 (List._∷_ 114 (List._∷_ 100 (List._∷_ 58 (List._∷_ 58 (List._∷_ 83 (List._∷_ 113 (List._∷_ 108 (List._∷_ 100 (List._∷_ 97 (List._∷_ 114 (List._∷_ 100 (List._∷_ 65 (List._∷_ 110 (List._∷_ 115 (List._∷_ 119 (List._∷_ 101 (List._∷_ 114 List.[])))))))))))))))))))))) (Syntax.tcons (Syntax.tyEnum (List._∷_ 111 (List._∷_ 117 (List._∷_ 116 (List._∷_ 99 (List._∷_ 111 (List._∷_ 109 (List._∷_ 101 (List._∷_ 58 (List._∷_ 58 (List._∷_ 79 (List._∷_ 117 (List._∷_ 116 (List._∷_ 99 (List._∷_ 111 (List._∷_ 109 (List._∷_ 101 List.[])))))))))))))))) (Syntax.ttcons Syntax.tnil (Syntax.ttcons Syntax.tnil (Syntax.ttcons (Syntax.tcons (Syntax.tyInt Syntax.w64) (Syntax.tcons (Syntax.tyInt Syntax.w64) Syntax.tnil)) (Syntax.ttcons Syntax.tnil (Syntax.ttcons (Syntax.tcons (Syntax.tyInt Syntax.w16) Syntax.tnil) (Syntax.ttcons Syntax.tnil (Syntax.ttcons (Syntax.tcons (Syntax.tyInt Syntax.w64) Syntax.tnil) (Syntax.ttcons Syntax.tnil Syntax.ttnil))))))))) (Syntax.tcons (Syntax.tyStruct (List._∷_ 115 (List._∷_ 113 (List._∷_ 108 (List._∷_ 99 (List._∷_ 97 (List._∷_ 114 (List._∷_ 100 (List._∷_ 58 (List._∷_ 58 (List._∷_ 83 (List._∷_ 113 (List._∷_ 108 (List._∷_ 67 (List._∷_ 97 (List._∷_ 114 (List._∷_ 100 List.[])))))))))))))))) (Syntax.tcons Syntax.tyBool (Syntax.tcons (Syntax.tyInt Syntax.w32) (Syntax.tcons (Syntax.tyArray (Syntax.tyInt Syntax.w8) 5) (Syntax.tcons (Syntax.tyArray (Syntax.tyInt Syntax.w8) 8) (Syntax.tcons (Syntax.tyInt Syntax.w8) (Syntax.tcons (Syntax.tyArray (Syntax.tyInt Syntax.w32) 6) (Syntax.tcons (Syntax.tyInt Syntax.w64) (Syntax.tcons (Syntax.tyInt Syntax.w32) (Syntax.tcons (Syntax.tyArray (Syntax.tyInt Syntax.w8) 11) (Syntax.tcons (Syntax.tyInt Syntax.w64) (Syntax.tcons (Syntax.tyInt Syntax.w64) Syntax.tnil)))))))))))) (Syntax.tcons (Syntax.tyInt Syntax.w64) Syntax.tnil))))) (List._∷_ (7, Rows'.sc-here (Row.sInt Syntax.w64)) (List._∷_ (8, Rows'.sc-here (Row.sInt Syntax.w64)) (List._∷_ (9, Rows'.any-gone (Syntax.tyRef Syntax.erased Syntax.mut (Syntax.tyArray ColumnMetadataRow.named 4096))) (List._∷_ (10, Rows'.any-gone (Syntax.tyStruct (List._∷_ 38 (List._∷_ 91 (List._∷_ 93 List.[]))) (Syntax.tcons (Syntax.tyRef Syntax.erased Syntax.mut ColumnMetadataRow.named) (Syntax.tcons (Syntax.tyInt Syntax.w64) Syntax.tnil)))) (List._∷_ (11, Rows'.any-gone (Syntax.tyRef Syntax.erased Syntax.mut (Syntax.tyInt Syntax.w8))) (List._∷_ (12, Rows'.any-gone (Syntax.tyStruct (List._∷_ 38 (List._∷_ 91 (List._∷_ 93 List.[]))) (Syntax.tcons (Syntax.tyRef Syntax.erased Syntax.mut (Syntax.tyInt Syntax.w8)) (Syntax.tcons (Syntax.tyInt Syntax.w64) Syntax.tnil)))) (List._∷_ (13, Relend.msptr (Referent.rtF (Referent.fInt Syntax.w8)) (Syntax.tyRef Syntax.erased Syntax.mut (Syntax.tyInt Syntax.w8)) 4) (List._∷_ (14, Rows'.any-gone (Syntax.tyStruct (List._∷_ 38 (List._∷_ 91 (List._∷_ 93 List.[]))) (Syntax.tcons (Syntax.tyRef Syntax.erased Syntax.mut (Syntax.tyInt Syntax.w8)) (Syntax.tcons (Syntax.tyInt Syntax.w64) Syntax.tnil)))) (List._∷_ (15, Rows'.any-gone (Syntax.tyRef Syntax.erased Syntax.imm (Syntax.tyArray ColumnMetadataRow.named 4096))) List.[])))))))))))))))
+        g17 = List._∷_ (0, Rows'.any-gone (Syntax.tyInt Syntax.w64)) (List._∷_ (1, Relend.mslice-owed (Referent.rtF (Referent.fInt Syntax.w8)) (Syntax.tyRef (Syntax.named 0) Syntax.mut (Syntax.tyInt Syntax.w8)) 0 4 (Row.lease (κs .0) (qs .0))) (List._∷_ (2, Rows'.sc-here (Row.sInt Syntax.w64)) (List._∷_ (3, Rows'.sslice (Referent.rtF (Referent.fInt Syntax.w8)) (Syntax.tyRef (Syntax.named 1) Syntax.imm (Syntax.tyInt Syntax.w8)) 1) (List._∷_ (4, Rows'.any-gone (ColumnMetadataRow.ty)) (List._∷_ (5, Rows.arrF (ColumnMetadataRow.RT) 4096 0) (List._∷_ (6, Rows'.any-gone (Syntax.tyStruct (List._∷_ 115 (List._∷_ 113 (List._∷_ 108 (List._∷_ 100 (List._∷_ 97 (List._∷_ 114 (List._∷_ 100 (List._∷_ 58 (List._∷_ 58 (List._∷_ 83 (List._∷_ 113 (List._∷_ 108 (List._∷_ 100 (List._∷_ 97 (List._∷_ 114 (List._∷_ 100 (List._∷_ 65 (List._∷_ 110 (List._∷_ 115 (List._∷_ 119 (List._∷_ 101 (List._∷_ 114 List.[])))))))))))))))))))))) (Syntax.tcons (Syntax.tyEnum (List._∷_ 111 (List._∷_ 117 (List._∷_ 116 (List._∷_ 99 (List._∷_ 111 (List._∷_ 109 (List._∷_ 101 (List._∷_ 58 (List._∷_ 58 (List._∷_ 79 (List._∷_ 117 (List._∷_ 116 (List._∷_ 99 (List._∷_ 111 (List._∷_ 109 (List._∷_ 101 List.[])))))))))))))))) (Syntax.ttcons Syntax.tnil (Syntax.ttcons Syntax.tnil (Syntax.ttcons (Syntax.tcons (Syntax.tyInt Syntax.w64) (Syntax.tcons (Syntax.tyInt Syntax.w64) Syntax.tnil)) (Syntax.ttcons Syntax.tnil (Syntax.ttcons (Syntax.tcons (Syntax.tyInt Syntax.w16) Syntax.tnil) (Syntax.ttcons Syntax.tnil (Syntax.ttcons (Syntax.tcons (Syntax.tyInt Syntax.w64) Syntax.tnil) (Syntax.ttcons Syntax.tnil (Syntax.ttcons (Syntax.tcons (Syntax.tyInt Syntax.w16) Syntax.tnil) Syntax.ttnil)))))))))) (Syntax.tcons (Syntax.tyStruct (List._∷_ 115 (List._∷_ 113 (List._∷_ 108 (List._∷_ 99 (List._∷_ 97 (List._∷_ 114 (List._∷_ 100 (List._∷_ 58 (List._∷_ 58 (List._∷_ 83 (List._∷_ 113 (List._∷_ 108 (List._∷_ 67 (List._∷_ 97 (List._∷_ 114 (List._∷_ 100 List.[])))))))))))))))) (Syntax.tcons Syntax.tyBool (Syntax.tcons (Syntax.tyInt Syntax.w32) (Syntax.tcons (Syntax.tyArray (Syntax.tyInt Syntax.w8) 5) (Syntax.tcons (Syntax.tyArray (Syntax.tyInt Syntax.w8) 8) (Syntax.tcons (Syntax.tyInt Syntax.w8) (Syntax.tcons (Syntax.tyArray (Syntax.tyInt Syntax.w32) 6) (Syntax.tcons (Syntax.tyInt Syntax.w64) (Syntax.tcons (Syntax.tyInt Syntax.w32) (Syntax.tcons (Syntax.tyArray (Syntax.tyInt Syntax.w8) 11) (Syntax.tcons (Syntax.tyInt Syntax.w64) (Syntax.tcons (Syntax.tyInt Syntax.w64) Syntax.tnil)))))))))))) (Syntax.tcons (Syntax.tyInt Syntax.w64) Syntax.tnil))))) (List._∷_ (7, Rows'.sc-here (Row.sInt Syntax.w64)) (List._∷_ (8, Rows'.sc-here (Row.sInt Syntax.w64)) (List._∷_ (9, Rows'.any-gone (Syntax.tyRef Syntax.erased Syntax.mut (Syntax.tyArray ColumnMetadataRow.named 4096))) (List._∷_ (10, Rows'.any-gone (Syntax.tyStruct (List._∷_ 38 (List._∷_ 91 (List._∷_ 93 List.[]))) (Syntax.tcons (Syntax.tyRef Syntax.erased Syntax.mut ColumnMetadataRow.named) (Syntax.tcons (Syntax.tyInt Syntax.w64) Syntax.tnil)))) (List._∷_ (11, Rows'.any-gone (Syntax.tyRef Syntax.erased Syntax.mut (Syntax.tyInt Syntax.w8))) (List._∷_ (12, Rows'.any-gone (Syntax.tyStruct (List._∷_ 38 (List._∷_ 91 (List._∷_ 93 List.[]))) (Syntax.tcons (Syntax.tyRef Syntax.erased Syntax.mut (Syntax.tyInt Syntax.w8)) (Syntax.tcons (Syntax.tyInt Syntax.w64) Syntax.tnil)))) (List._∷_ (13, Relend.msptr (Referent.rtF (Referent.fInt Syntax.w8)) (Syntax.tyRef Syntax.erased Syntax.mut (Syntax.tyInt Syntax.w8)) 4) (List._∷_ (14, Rows'.any-gone (Syntax.tyStruct (List._∷_ 38 (List._∷_ 91 (List._∷_ 93 List.[]))) (Syntax.tcons (Syntax.tyRef Syntax.erased Syntax.mut (Syntax.tyInt Syntax.w8)) (Syntax.tcons (Syntax.tyInt Syntax.w64) Syntax.tnil)))) (List._∷_ (15, Rows'.any-gone (Syntax.tyRef Syntax.erased Syntax.imm (Syntax.tyArray ColumnMetadataRow.named 4096))) List.[])))))))))))))))
 
         abbrev g18 : List.List Row.Entry
-        g18 = List._∷_ (0, Rows'.any-gone (Syntax.tyInt Syntax.w64)) (List._∷_ (1, Relend.mslice-owed (Referent.rtF (Referent.fInt Syntax.w8)) (Syntax.tyRef (Syntax.named 0) Syntax.mut (Syntax.tyInt Syntax.w8)) 0 4 (Row.lease (κs .0) (qs .0))) (List._∷_ (2, Rows'.sc-here (Row.sInt Syntax.w64)) (List._∷_ (3, Rows'.sslice (Referent.rtF (Referent.fInt Syntax.w8)) (Syntax.tyRef (Syntax.named 1) Syntax.imm (Syntax.tyInt Syntax.w8)) 1) (List._∷_ (4, Rows'.any-gone (ColumnMetadataRow.ty)) (List._∷_ (5, Rows.arrF (ColumnMetadataRow.RT) 4096 0) (List._∷_ (6, Rows'.any-gone (Syntax.tyStruct (List._∷_ 115 (List._∷_ 113 (List._∷_ 108 (List._∷_ 100 (List._∷_ 97 (List._∷_ 114 (List._∷_ 100 (List._∷_ 58 (List._∷_ 58 (List._∷_ 83 (List._∷_ 113 (List._∷_ 108 (List._∷_ 100 (List._∷_ 97 (List._∷_ 114 (List._∷_ 100 (List._∷_ 65 (List._∷_ 110 (List._∷_ 115 (List._∷_ 119 (List._∷_ 101 (List._∷_ 114 List.[])))))))))))))))))))))) (Syntax.tcons (Syntax.tyEnum (List._∷_ 111 (List._∷_ 117 (List._∷_ 116 (List._∷_ 99 (List._∷_ 111 (List._∷_ 109 (List._∷_ 101 (List._∷_ 58 (List._∷_ 58 (List._∷_ 79 (List._∷_ 117 (List._∷_ 116 (List._∷_ 99 (List._∷_ 111 (List._∷_ 109 (List._∷_ 101 List.[])))))))))))))))) (Syntax.ttcons Syntax.tnil (Syntax.ttcons Syntax.tnil (Syntax.ttcons (Syntax.tcons (Syntax.tyInt Syntax.w64) (Syntax.tcons (Syntax.tyInt Syntax.w64) Syntax.tnil)) (Syntax.ttcons Syntax.tnil (Syntax.ttcons (Syntax.tcons (Syntax.tyInt Syntax.w16) Syntax.tnil) (Syntax.ttcons Syntax.tnil (Syntax.ttcons (Syntax.tcons (Syntax.tyInt Syntax.w64) Syntax.tnil) (Syntax.ttcons Syntax.tnil Syntax.ttnil))))))))) (Syntax.tcons (Syntax.tyStruct (List._∷_ 115 (List._∷_ 113 (List._∷_ 108 (List._∷_ 99 (List._∷_ 97 (List._∷_ 114 (List._∷_ 100 (List._∷_ 58 (List._∷_ 58 (List._∷_ 83 (List._∷_ 113 (List._∷_ 108 (List._∷_ 67 (List._∷_ 97 (List._∷_ 114 (List._∷_ 100 List.[])))))))))))))))) (Syntax.tcons Syntax.tyBool (Syntax.tcons (Syntax.tyInt Syntax.w32) (Syntax.tcons (Syntax.tyArray (Syntax.tyInt Syntax.w8) 5) (Syntax.tcons (Syntax.tyArray (Syntax.tyInt Syntax.w8) 8) (Syntax.tcons (Syntax.tyInt Syntax.w8) (Syntax.tcons (Syntax.tyArray (Syntax.tyInt Syntax.w32) 6) (Syntax.tcons (Syntax.tyInt Syntax.w64) (Syntax.tcons (Syntax.tyInt Syntax.w32) (Syntax.tcons (Syntax.tyArray (Syntax.tyInt Syntax.w8) 11) (Syntax.tcons (Syntax.tyInt Syntax.w64) (Syntax.tcons (Syntax.tyInt Syntax.w64) Syntax.tnil)))))))))))) (Syntax.tcons (Syntax.tyInt Syntax.w64) Syntax.tnil))))) (List._∷_ (7, Rows'.sc-here (Row.sInt Syntax.w64)) (List._∷_ (8, Rows'.sc-here (Row.sInt Syntax.w64)) (List._∷_ (9, Rows'.any-gone (Syntax.tyRef Syntax.erased Syntax.mut (Syntax.tyArray ColumnMetadataRow.named 4096))) (List._∷_ (10, Rows'.any-gone (Syntax.tyStruct (List._∷_ 38 (List._∷_ 91 (List._∷_ 93 List.[]))) (Syntax.tcons (Syntax.tyRef Syntax.erased Syntax.mut ColumnMetadataRow.named) (Syntax.tcons (Syntax.tyInt Syntax.w64) Syntax.tnil)))) (List._∷_ (11, Rows'.any-gone (Syntax.tyRef Syntax.erased Syntax.mut (Syntax.tyInt Syntax.w8))) (List._∷_ (12, Rows'.any-gone (Syntax.tyStruct (List._∷_ 38 (List._∷_ 91 (List._∷_ 93 List.[]))) (Syntax.tcons (Syntax.tyRef Syntax.erased Syntax.mut (Syntax.tyInt Syntax.w8)) (Syntax.tcons (Syntax.tyInt Syntax.w64) Syntax.tnil)))) (List._∷_ (13, Rows'.any-gone (Syntax.tyRef Syntax.erased Syntax.mut (Syntax.tyInt Syntax.w8))) (List._∷_ (14, Mut.mslice (Referent.rtF (Referent.fInt Syntax.w8)) (Syntax.tyRef Syntax.erased Syntax.mut (Syntax.tyInt Syntax.w8)) 4) (List._∷_ (15, Rows'.any-gone (Syntax.tyRef Syntax.erased Syntax.imm (Syntax.tyArray ColumnMetadataRow.named 4096))) List.[])))))))))))))))
+        g18 = List._∷_ (0, Rows'.any-gone (Syntax.tyInt Syntax.w64)) (List._∷_ (1, Relend.mslice-owed (Referent.rtF (Referent.fInt Syntax.w8)) (Syntax.tyRef (Syntax.named 0) Syntax.mut (Syntax.tyInt Syntax.w8)) 0 4 (Row.lease (κs .0) (qs .0))) (List._∷_ (2, Rows'.sc-here (Row.sInt Syntax.w64)) (List._∷_ (3, Rows'.sslice (Referent.rtF (Referent.fInt Syntax.w8)) (Syntax.tyRef (Syntax.named 1) Syntax.imm (Syntax.tyInt Syntax.w8)) 1) (List._∷_ (4, Rows'.any-gone (ColumnMetadataRow.ty)) (List._∷_ (5, Rows.arrF (ColumnMetadataRow.RT) 4096 0) (List._∷_ (6, Rows'.any-gone (Syntax.tyStruct (List._∷_ 115 (List._∷_ 113 (List._∷_ 108 (List._∷_ 100 (List._∷_ 97 (List._∷_ 114 (List._∷_ 100 (List._∷_ 58 (List._∷_ 58 (List._∷_ 83 (List._∷_ 113 (List._∷_ 108 (List._∷_ 100 (List._∷_ 97 (List._∷_ 114 (List._∷_ 100 (List._∷_ 65 (List._∷_ 110 (List._∷_ 115 (List._∷_ 119 (List._∷_ 101 (List._∷_ 114 List.[])))))))))))))))))))))) (Syntax.tcons (Syntax.tyEnum (List._∷_ 111 (List._∷_ 117 (List._∷_ 116 (List._∷_ 99 (List._∷_ 111 (List._∷_ 109 (List._∷_ 101 (List._∷_ 58 (List._∷_ 58 (List._∷_ 79 (List._∷_ 117 (List._∷_ 116 (List._∷_ 99 (List._∷_ 111 (List._∷_ 109 (List._∷_ 101 List.[])))))))))))))))) (Syntax.ttcons Syntax.tnil (Syntax.ttcons Syntax.tnil (Syntax.ttcons (Syntax.tcons (Syntax.tyInt Syntax.w64) (Syntax.tcons (Syntax.tyInt Syntax.w64) Syntax.tnil)) (Syntax.ttcons Syntax.tnil (Syntax.ttcons (Syntax.tcons (Syntax.tyInt Syntax.w16) Syntax.tnil) (Syntax.ttcons Syntax.tnil (Syntax.ttcons (Syntax.tcons (Syntax.tyInt Syntax.w64) Syntax.tnil) (Syntax.ttcons Syntax.tnil (Syntax.ttcons (Syntax.tcons (Syntax.tyInt Syntax.w16) Syntax.tnil) Syntax.ttnil)))))))))) (Syntax.tcons (Syntax.tyStruct (List._∷_ 115 (List._∷_ 113 (List._∷_ 108 (List._∷_ 99 (List._∷_ 97 (List._∷_ 114 (List._∷_ 100 (List._∷_ 58 (List._∷_ 58 (List._∷_ 83 (List._∷_ 113 (List._∷_ 108 (List._∷_ 67 (List._∷_ 97 (List._∷_ 114 (List._∷_ 100 List.[])))))))))))))))) (Syntax.tcons Syntax.tyBool (Syntax.tcons (Syntax.tyInt Syntax.w32) (Syntax.tcons (Syntax.tyArray (Syntax.tyInt Syntax.w8) 5) (Syntax.tcons (Syntax.tyArray (Syntax.tyInt Syntax.w8) 8) (Syntax.tcons (Syntax.tyInt Syntax.w8) (Syntax.tcons (Syntax.tyArray (Syntax.tyInt Syntax.w32) 6) (Syntax.tcons (Syntax.tyInt Syntax.w64) (Syntax.tcons (Syntax.tyInt Syntax.w32) (Syntax.tcons (Syntax.tyArray (Syntax.tyInt Syntax.w8) 11) (Syntax.tcons (Syntax.tyInt Syntax.w64) (Syntax.tcons (Syntax.tyInt Syntax.w64) Syntax.tnil)))))))))))) (Syntax.tcons (Syntax.tyInt Syntax.w64) Syntax.tnil))))) (List._∷_ (7, Rows'.sc-here (Row.sInt Syntax.w64)) (List._∷_ (8, Rows'.sc-here (Row.sInt Syntax.w64)) (List._∷_ (9, Rows'.any-gone (Syntax.tyRef Syntax.erased Syntax.mut (Syntax.tyArray ColumnMetadataRow.named 4096))) (List._∷_ (10, Rows'.any-gone (Syntax.tyStruct (List._∷_ 38 (List._∷_ 91 (List._∷_ 93 List.[]))) (Syntax.tcons (Syntax.tyRef Syntax.erased Syntax.mut ColumnMetadataRow.named) (Syntax.tcons (Syntax.tyInt Syntax.w64) Syntax.tnil)))) (List._∷_ (11, Rows'.any-gone (Syntax.tyRef Syntax.erased Syntax.mut (Syntax.tyInt Syntax.w8))) (List._∷_ (12, Rows'.any-gone (Syntax.tyStruct (List._∷_ 38 (List._∷_ 91 (List._∷_ 93 List.[]))) (Syntax.tcons (Syntax.tyRef Syntax.erased Syntax.mut (Syntax.tyInt Syntax.w8)) (Syntax.tcons (Syntax.tyInt Syntax.w64) Syntax.tnil)))) (List._∷_ (13, Rows'.any-gone (Syntax.tyRef Syntax.erased Syntax.mut (Syntax.tyInt Syntax.w8))) (List._∷_ (14, Mut.mslice (Referent.rtF (Referent.fInt Syntax.w8)) (Syntax.tyRef Syntax.erased Syntax.mut (Syntax.tyInt Syntax.w8)) 4) (List._∷_ (15, Rows'.any-gone (Syntax.tyRef Syntax.erased Syntax.imm (Syntax.tyArray ColumnMetadataRow.named 4096))) List.[])))))))))))))))
 
         abbrev g19 : List.List Row.Entry
-        g19 = List._∷_ (0, Rows'.any-gone (Syntax.tyInt Syntax.w64)) (List._∷_ (1, Relend.mslice-owed (Referent.rtF (Referent.fInt Syntax.w8)) (Syntax.tyRef (Syntax.named 0) Syntax.mut (Syntax.tyInt Syntax.w8)) 0 4 (Row.lease (κs .0) (qs .0))) (List._∷_ (2, Rows'.sc-here (Row.sInt Syntax.w64)) (List._∷_ (3, Rows'.sslice (Referent.rtF (Referent.fInt Syntax.w8)) (Syntax.tyRef (Syntax.named 1) Syntax.imm (Syntax.tyInt Syntax.w8)) 1) (List._∷_ (4, Rows'.any-gone (ColumnMetadataRow.ty)) (List._∷_ (5, Rows.arr-shrP (ColumnMetadataRow.RT) 4096 5) (List._∷_ (6, Rows'.any-gone (Syntax.tyStruct (List._∷_ 115 (List._∷_ 113 (List._∷_ 108 (List._∷_ 100 (List._∷_ 97 (List._∷_ 114 (List._∷_ 100 (List._∷_ 58 (List._∷_ 58 (List._∷_ 83 (List._∷_ 113 (List._∷_ 108 (List._∷_ 100 (List._∷_ 97 (List._∷_ 114 (List._∷_ 100 (List._∷_ 65 (List._∷_ 110 (List._∷_ 115 (List._∷_ 119 (List._∷_ 101 (List._∷_ 114 List.[])))))))))))))))))))))) (Syntax.tcons (Syntax.tyEnum (List._∷_ 111 (List._∷_ 117 (List._∷_ 116 (List._∷_ 99 (List._∷_ 111 (List._∷_ 109 (List._∷_ 101 (List._∷_ 58 (List._∷_ 58 (List._∷_ 79 (List._∷_ 117 (List._∷_ 116 (List._∷_ 99 (List._∷_ 111 (List._∷_ 109 (List._∷_ 101 List.[])))))))))))))))) (Syntax.ttcons Syntax.tnil (Syntax.ttcons Syntax.tnil (Syntax.ttcons (Syntax.tcons (Syntax.tyInt Syntax.w64) (Syntax.tcons (Syntax.tyInt Syntax.w64) Syntax.tnil)) (Syntax.ttcons Syntax.tnil (Syntax.ttcons (Syntax.tcons (Syntax.tyInt Syntax.w16) Syntax.tnil) (Syntax.ttcons Syntax.tnil (Syntax.ttcons (Syntax.tcons (Syntax.tyInt Syntax.w64) Syntax.tnil) (Syntax.ttcons Syntax.tnil Syntax.ttnil))))))))) (Syntax.tcons (Syntax.tyStruct (List._∷_ 115 (List._∷_ 113 (List._∷_ 108 (List._∷_ 99 (List._∷_ 97 (List._∷_ 114 (List._∷_ 100 (List._∷_ 58 (List._∷_ 58 (List._∷_ 83 (List._∷_ 113 (List._∷_ 108 (List._∷_ 67 (List._∷_ 97 (List._∷_ 114 (List._∷_ 100 List.[])))))))))))))))) (Syntax.tcons Syntax.tyBool (Syntax.tcons (Syntax.tyInt Syntax.w32) (Syntax.tcons (Syntax.tyArray (Syntax.tyInt Syntax.w8) 5) (Syntax.tcons (Syntax.tyArray (Syntax.tyInt Syntax.w8) 8) (Syntax.tcons (Syntax.tyInt Syntax.w8) (Syntax.tcons (Syntax.tyArray (Syntax.tyInt Syntax.w32) 6) (Syntax.tcons (Syntax.tyInt Syntax.w64) (Syntax.tcons (Syntax.tyInt Syntax.w32) (Syntax.tcons (Syntax.tyArray (Syntax.tyInt Syntax.w8) 11) (Syntax.tcons (Syntax.tyInt Syntax.w64) (Syntax.tcons (Syntax.tyInt Syntax.w64) Syntax.tnil)))))))))))) (Syntax.tcons (Syntax.tyInt Syntax.w64) Syntax.tnil))))) (List._∷_ (7, Rows'.sc-here (Row.sInt Syntax.w64)) (List._∷_ (8, Rows'.sc-here (Row.sInt Syntax.w64)) (List._∷_ (9, Rows'.any-gone (Syntax.tyRef Syntax.erased Syntax.mut (Syntax.tyArray ColumnMetadataRow.named 4096))) (List._∷_ (10, Rows'.any-gone (Syntax.tyStruct (List._∷_ 38 (List._∷_ 91 (List._∷_ 93 List.[]))) (Syntax.tcons (Syntax.tyRef Syntax.erased Syntax.mut ColumnMetadataRow.named) (Syntax.tcons (Syntax.tyInt Syntax.w64) Syntax.tnil)))) (List._∷_ (11, Rows'.any-gone (Syntax.tyRef Syntax.erased Syntax.mut (Syntax.tyInt Syntax.w8))) (List._∷_ (12, Rows'.any-gone (Syntax.tyStruct (List._∷_ 38 (List._∷_ 91 (List._∷_ 93 List.[]))) (Syntax.tcons (Syntax.tyRef Syntax.erased Syntax.mut (Syntax.tyInt Syntax.w8)) (Syntax.tcons (Syntax.tyInt Syntax.w64) Syntax.tnil)))) (List._∷_ (13, Rows'.any-gone (Syntax.tyRef Syntax.erased Syntax.mut (Syntax.tyInt Syntax.w8))) (List._∷_ (14, Mut.mslice (Referent.rtF (Referent.fInt Syntax.w8)) (Syntax.tyRef Syntax.erased Syntax.mut (Syntax.tyInt Syntax.w8)) 4) (List._∷_ (15, Relend.ssptr (ColumnMetadataRow.RT) (Syntax.tyRef Syntax.erased Syntax.imm (Syntax.tyArray ColumnMetadataRow.named 4096)) 5) List.[])))))))))))))))
+        g19 = List._∷_ (0, Rows'.any-gone (Syntax.tyInt Syntax.w64)) (List._∷_ (1, Relend.mslice-owed (Referent.rtF (Referent.fInt Syntax.w8)) (Syntax.tyRef (Syntax.named 0) Syntax.mut (Syntax.tyInt Syntax.w8)) 0 4 (Row.lease (κs .0) (qs .0))) (List._∷_ (2, Rows'.sc-here (Row.sInt Syntax.w64)) (List._∷_ (3, Rows'.sslice (Referent.rtF (Referent.fInt Syntax.w8)) (Syntax.tyRef (Syntax.named 1) Syntax.imm (Syntax.tyInt Syntax.w8)) 1) (List._∷_ (4, Rows'.any-gone (ColumnMetadataRow.ty)) (List._∷_ (5, Rows.arr-shrP (ColumnMetadataRow.RT) 4096 5) (List._∷_ (6, Rows'.any-gone (Syntax.tyStruct (List._∷_ 115 (List._∷_ 113 (List._∷_ 108 (List._∷_ 100 (List._∷_ 97 (List._∷_ 114 (List._∷_ 100 (List._∷_ 58 (List._∷_ 58 (List._∷_ 83 (List._∷_ 113 (List._∷_ 108 (List._∷_ 100 (List._∷_ 97 (List._∷_ 114 (List._∷_ 100 (List._∷_ 65 (List._∷_ 110 (List._∷_ 115 (List._∷_ 119 (List._∷_ 101 (List._∷_ 114 List.[])))))))))))))))))))))) (Syntax.tcons (Syntax.tyEnum (List._∷_ 111 (List._∷_ 117 (List._∷_ 116 (List._∷_ 99 (List._∷_ 111 (List._∷_ 109 (List._∷_ 101 (List._∷_ 58 (List._∷_ 58 (List._∷_ 79 (List._∷_ 117 (List._∷_ 116 (List._∷_ 99 (List._∷_ 111 (List._∷_ 109 (List._∷_ 101 List.[])))))))))))))))) (Syntax.ttcons Syntax.tnil (Syntax.ttcons Syntax.tnil (Syntax.ttcons (Syntax.tcons (Syntax.tyInt Syntax.w64) (Syntax.tcons (Syntax.tyInt Syntax.w64) Syntax.tnil)) (Syntax.ttcons Syntax.tnil (Syntax.ttcons (Syntax.tcons (Syntax.tyInt Syntax.w16) Syntax.tnil) (Syntax.ttcons Syntax.tnil (Syntax.ttcons (Syntax.tcons (Syntax.tyInt Syntax.w64) Syntax.tnil) (Syntax.ttcons Syntax.tnil (Syntax.ttcons (Syntax.tcons (Syntax.tyInt Syntax.w16) Syntax.tnil) Syntax.ttnil)))))))))) (Syntax.tcons (Syntax.tyStruct (List._∷_ 115 (List._∷_ 113 (List._∷_ 108 (List._∷_ 99 (List._∷_ 97 (List._∷_ 114 (List._∷_ 100 (List._∷_ 58 (List._∷_ 58 (List._∷_ 83 (List._∷_ 113 (List._∷_ 108 (List._∷_ 67 (List._∷_ 97 (List._∷_ 114 (List._∷_ 100 List.[])))))))))))))))) (Syntax.tcons Syntax.tyBool (Syntax.tcons (Syntax.tyInt Syntax.w32) (Syntax.tcons (Syntax.tyArray (Syntax.tyInt Syntax.w8) 5) (Syntax.tcons (Syntax.tyArray (Syntax.tyInt Syntax.w8) 8) (Syntax.tcons (Syntax.tyInt Syntax.w8) (Syntax.tcons (Syntax.tyArray (Syntax.tyInt Syntax.w32) 6) (Syntax.tcons (Syntax.tyInt Syntax.w64) (Syntax.tcons (Syntax.tyInt Syntax.w32) (Syntax.tcons (Syntax.tyArray (Syntax.tyInt Syntax.w8) 11) (Syntax.tcons (Syntax.tyInt Syntax.w64) (Syntax.tcons (Syntax.tyInt Syntax.w64) Syntax.tnil)))))))))))) (Syntax.tcons (Syntax.tyInt Syntax.w64) Syntax.tnil))))) (List._∷_ (7, Rows'.sc-here (Row.sInt Syntax.w64)) (List._∷_ (8, Rows'.sc-here (Row.sInt Syntax.w64)) (List._∷_ (9, Rows'.any-gone (Syntax.tyRef Syntax.erased Syntax.mut (Syntax.tyArray ColumnMetadataRow.named 4096))) (List._∷_ (10, Rows'.any-gone (Syntax.tyStruct (List._∷_ 38 (List._∷_ 91 (List._∷_ 93 List.[]))) (Syntax.tcons (Syntax.tyRef Syntax.erased Syntax.mut ColumnMetadataRow.named) (Syntax.tcons (Syntax.tyInt Syntax.w64) Syntax.tnil)))) (List._∷_ (11, Rows'.any-gone (Syntax.tyRef Syntax.erased Syntax.mut (Syntax.tyInt Syntax.w8))) (List._∷_ (12, Rows'.any-gone (Syntax.tyStruct (List._∷_ 38 (List._∷_ 91 (List._∷_ 93 List.[]))) (Syntax.tcons (Syntax.tyRef Syntax.erased Syntax.mut (Syntax.tyInt Syntax.w8)) (Syntax.tcons (Syntax.tyInt Syntax.w64) Syntax.tnil)))) (List._∷_ (13, Rows'.any-gone (Syntax.tyRef Syntax.erased Syntax.mut (Syntax.tyInt Syntax.w8))) (List._∷_ (14, Mut.mslice (Referent.rtF (Referent.fInt Syntax.w8)) (Syntax.tyRef Syntax.erased Syntax.mut (Syntax.tyInt Syntax.w8)) 4) (List._∷_ (15, Relend.ssptr (ColumnMetadataRow.RT) (Syntax.tyRef Syntax.erased Syntax.imm (Syntax.tyArray ColumnMetadataRow.named 4096)) 5) List.[])))))))))))))))
 
         abbrev g20 : List.List Row.Entry
-        g20 = List._∷_ (0, Rows'.any-gone (Syntax.tyInt Syntax.w64)) (List._∷_ (1, Relend.mslice-owed (Referent.rtF (Referent.fInt Syntax.w8)) (Syntax.tyRef (Syntax.named 0) Syntax.mut (Syntax.tyInt Syntax.w8)) 0 4 (Row.lease (κs .0) (qs .0))) (List._∷_ (2, Rows'.sc-here (Row.sInt Syntax.w64)) (List._∷_ (3, Rows'.sslice (Referent.rtF (Referent.fInt Syntax.w8)) (Syntax.tyRef (Syntax.named 1) Syntax.imm (Syntax.tyInt Syntax.w8)) 1) (List._∷_ (4, Rows'.any-gone (ColumnMetadataRow.ty)) (List._∷_ (5, Rows.arr-shrP (ColumnMetadataRow.RT) 4096 5) (List._∷_ (6, Rows'.any-gone (Syntax.tyStruct (List._∷_ 115 (List._∷_ 113 (List._∷_ 108 (List._∷_ 100 (List._∷_ 97 (List._∷_ 114 (List._∷_ 100 (List._∷_ 58 (List._∷_ 58 (List._∷_ 83 (List._∷_ 113 (List._∷_ 108 (List._∷_ 100 (List._∷_ 97 (List._∷_ 114 (List._∷_ 100 (List._∷_ 65 (List._∷_ 110 (List._∷_ 115 (List._∷_ 119 (List._∷_ 101 (List._∷_ 114 List.[])))))))))))))))))))))) (Syntax.tcons (Syntax.tyEnum (List._∷_ 111 (List._∷_ 117 (List._∷_ 116 (List._∷_ 99 (List._∷_ 111 (List._∷_ 109 (List._∷_ 101 (List._∷_ 58 (List._∷_ 58 (List._∷_ 79 (List._∷_ 117 (List._∷_ 116 (List._∷_ 99 (List._∷_ 111 (List._∷_ 109 (List._∷_ 101 List.[])))))))))))))))) (Syntax.ttcons Syntax.tnil (Syntax.ttcons Syntax.tnil (Syntax.ttcons (Syntax.tcons (Syntax.tyInt Syntax.w64) (Syntax.tcons (Syntax.tyInt Syntax.w64) Syntax.tnil)) (Syntax.ttcons Syntax.tnil (Syntax.ttcons (Syntax.tcons (Syntax.tyInt Syntax.w16) Syntax.tnil) (Syntax.ttcons Syntax.tnil (Syntax.ttcons (Syntax.tcons (Syntax.tyInt Syntax.w64) Syntax.tnil) (Syntax.ttcons Syntax.tnil Syntax.ttnil))))))))) (Syntax.tcons (Syntax.tyStruct (List._∷_ 115 (List._∷_ 113 (List._∷_ 108 (List._∷_ 99 (List._∷_ 97 (List._∷_ 114 (List._∷_ 100 (List._∷_ 58 (List._∷_ 58 (List._∷_ 83 (List._∷_ 113 (List._∷_ 108 (List._∷_ 67 (List._∷_ 97 (List._∷_ 114 (List._∷_ 100 List.[])))))))))))))))) (Syntax.tcons Syntax.tyBool (Syntax.tcons (Syntax.tyInt Syntax.w32) (Syntax.tcons (Syntax.tyArray (Syntax.tyInt Syntax.w8) 5) (Syntax.tcons (Syntax.tyArray (Syntax.tyInt Syntax.w8) 8) (Syntax.tcons (Syntax.tyInt Syntax.w8) (Syntax.tcons (Syntax.tyArray (Syntax.tyInt Syntax.w32) 6) (Syntax.tcons (Syntax.tyInt Syntax.w64) (Syntax.tcons (Syntax.tyInt Syntax.w32) (Syntax.tcons (Syntax.tyArray (Syntax.tyInt Syntax.w8) 11) (Syntax.tcons (Syntax.tyInt Syntax.w64) (Syntax.tcons (Syntax.tyInt Syntax.w64) Syntax.tnil)))))))))))) (Syntax.tcons (Syntax.tyInt Syntax.w64) Syntax.tnil))))) (List._∷_ (7, Rows'.sc-here (Row.sInt Syntax.w64)) (List._∷_ (8, Rows'.sc-here (Row.sInt Syntax.w64)) (List._∷_ (9, Rows'.any-gone (Syntax.tyRef Syntax.erased Syntax.mut (Syntax.tyArray ColumnMetadataRow.named 4096))) (List._∷_ (10, Rows'.any-gone (Syntax.tyStruct (List._∷_ 38 (List._∷_ 91 (List._∷_ 93 List.[]))) (Syntax.tcons (Syntax.tyRef Syntax.erased Syntax.mut ColumnMetadataRow.named) (Syntax.tcons (Syntax.tyInt Syntax.w64) Syntax.tnil)))) (List._∷_ (11, Rows'.any-gone (Syntax.tyRef Syntax.erased Syntax.mut (Syntax.tyInt Syntax.w8))) (List._∷_ (12, Rows'.any-gone (Syntax.tyStruct (List._∷_ 38 (List._∷_ 91 (List._∷_ 93 List.[]))) (Syntax.tcons (Syntax.tyRef Syntax.erased Syntax.mut (Syntax.tyInt Syntax.w8)) (Syntax.tcons (Syntax.tyInt Syntax.w64) Syntax.tnil)))) (List._∷_ (13, Rows'.any-gone (Syntax.tyRef Syntax.erased Syntax.mut (Syntax.tyInt Syntax.w8))) (List._∷_ (14, Mut.mslice (Referent.rtF (Referent.fInt Syntax.w8)) (Syntax.tyRef Syntax.erased Syntax.mut (Syntax.tyInt Syntax.w8)) 4) (List._∷_ (15, Rows'.any-gone (Syntax.tyRef Syntax.erased Syntax.imm (Syntax.tyArray ColumnMetadataRow.named 4096))) List.[])))))))))))))))
+        g20 = List._∷_ (0, Rows'.any-gone (Syntax.tyInt Syntax.w64)) (List._∷_ (1, Relend.mslice-owed (Referent.rtF (Referent.fInt Syntax.w8)) (Syntax.tyRef (Syntax.named 0) Syntax.mut (Syntax.tyInt Syntax.w8)) 0 4 (Row.lease (κs .0) (qs .0))) (List._∷_ (2, Rows'.sc-here (Row.sInt Syntax.w64)) (List._∷_ (3, Rows'.sslice (Referent.rtF (Referent.fInt Syntax.w8)) (Syntax.tyRef (Syntax.named 1) Syntax.imm (Syntax.tyInt Syntax.w8)) 1) (List._∷_ (4, Rows'.any-gone (ColumnMetadataRow.ty)) (List._∷_ (5, Rows.arr-shrP (ColumnMetadataRow.RT) 4096 5) (List._∷_ (6, Rows'.any-gone (Syntax.tyStruct (List._∷_ 115 (List._∷_ 113 (List._∷_ 108 (List._∷_ 100 (List._∷_ 97 (List._∷_ 114 (List._∷_ 100 (List._∷_ 58 (List._∷_ 58 (List._∷_ 83 (List._∷_ 113 (List._∷_ 108 (List._∷_ 100 (List._∷_ 97 (List._∷_ 114 (List._∷_ 100 (List._∷_ 65 (List._∷_ 110 (List._∷_ 115 (List._∷_ 119 (List._∷_ 101 (List._∷_ 114 List.[])))))))))))))))))))))) (Syntax.tcons (Syntax.tyEnum (List._∷_ 111 (List._∷_ 117 (List._∷_ 116 (List._∷_ 99 (List._∷_ 111 (List._∷_ 109 (List._∷_ 101 (List._∷_ 58 (List._∷_ 58 (List._∷_ 79 (List._∷_ 117 (List._∷_ 116 (List._∷_ 99 (List._∷_ 111 (List._∷_ 109 (List._∷_ 101 List.[])))))))))))))))) (Syntax.ttcons Syntax.tnil (Syntax.ttcons Syntax.tnil (Syntax.ttcons (Syntax.tcons (Syntax.tyInt Syntax.w64) (Syntax.tcons (Syntax.tyInt Syntax.w64) Syntax.tnil)) (Syntax.ttcons Syntax.tnil (Syntax.ttcons (Syntax.tcons (Syntax.tyInt Syntax.w16) Syntax.tnil) (Syntax.ttcons Syntax.tnil (Syntax.ttcons (Syntax.tcons (Syntax.tyInt Syntax.w64) Syntax.tnil) (Syntax.ttcons Syntax.tnil (Syntax.ttcons (Syntax.tcons (Syntax.tyInt Syntax.w16) Syntax.tnil) Syntax.ttnil)))))))))) (Syntax.tcons (Syntax.tyStruct (List._∷_ 115 (List._∷_ 113 (List._∷_ 108 (List._∷_ 99 (List._∷_ 97 (List._∷_ 114 (List._∷_ 100 (List._∷_ 58 (List._∷_ 58 (List._∷_ 83 (List._∷_ 113 (List._∷_ 108 (List._∷_ 67 (List._∷_ 97 (List._∷_ 114 (List._∷_ 100 List.[])))))))))))))))) (Syntax.tcons Syntax.tyBool (Syntax.tcons (Syntax.tyInt Syntax.w32) (Syntax.tcons (Syntax.tyArray (Syntax.tyInt Syntax.w8) 5) (Syntax.tcons (Syntax.tyArray (Syntax.tyInt Syntax.w8) 8) (Syntax.tcons (Syntax.tyInt Syntax.w8) (Syntax.tcons (Syntax.tyArray (Syntax.tyInt Syntax.w32) 6) (Syntax.tcons (Syntax.tyInt Syntax.w64) (Syntax.tcons (Syntax.tyInt Syntax.w32) (Syntax.tcons (Syntax.tyArray (Syntax.tyInt Syntax.w8) 11) (Syntax.tcons (Syntax.tyInt Syntax.w64) (Syntax.tcons (Syntax.tyInt Syntax.w64) Syntax.tnil)))))))))))) (Syntax.tcons (Syntax.tyInt Syntax.w64) Syntax.tnil))))) (List._∷_ (7, Rows'.sc-here (Row.sInt Syntax.w64)) (List._∷_ (8, Rows'.sc-here (Row.sInt Syntax.w64)) (List._∷_ (9, Rows'.any-gone (Syntax.tyRef Syntax.erased Syntax.mut (Syntax.tyArray ColumnMetadataRow.named 4096))) (List._∷_ (10, Rows'.any-gone (Syntax.tyStruct (List._∷_ 38 (List._∷_ 91 (List._∷_ 93 List.[]))) (Syntax.tcons (Syntax.tyRef Syntax.erased Syntax.mut ColumnMetadataRow.named) (Syntax.tcons (Syntax.tyInt Syntax.w64) Syntax.tnil)))) (List._∷_ (11, Rows'.any-gone (Syntax.tyRef Syntax.erased Syntax.mut (Syntax.tyInt Syntax.w8))) (List._∷_ (12, Rows'.any-gone (Syntax.tyStruct (List._∷_ 38 (List._∷_ 91 (List._∷_ 93 List.[]))) (Syntax.tcons (Syntax.tyRef Syntax.erased Syntax.mut (Syntax.tyInt Syntax.w8)) (Syntax.tcons (Syntax.tyInt Syntax.w64) Syntax.tnil)))) (List._∷_ (13, Rows'.any-gone (Syntax.tyRef Syntax.erased Syntax.mut (Syntax.tyInt Syntax.w8))) (List._∷_ (14, Mut.mslice (Referent.rtF (Referent.fInt Syntax.w8)) (Syntax.tyRef Syntax.erased Syntax.mut (Syntax.tyInt Syntax.w8)) 4) (List._∷_ (15, Rows'.any-gone (Syntax.tyRef Syntax.erased Syntax.imm (Syntax.tyArray ColumnMetadataRow.named 4096))) List.[])))))))))))))))
 
         abbrev g22 : List.List Row.Entry
-        g22 = List._∷_ (0, Rows'.sc-here (Row.sInt Syntax.w64)) (List._∷_ (1, Relend.mslice-owed (Referent.rtF (Referent.fInt Syntax.w8)) (Syntax.tyRef (Syntax.named 0) Syntax.mut (Syntax.tyInt Syntax.w8)) 0 4 (Row.lease (κs .0) (qs .0))) (List._∷_ (2, Rows'.sc-here (Row.sInt Syntax.w64)) (List._∷_ (3, Rows'.sslice (Referent.rtF (Referent.fInt Syntax.w8)) (Syntax.tyRef (Syntax.named 1) Syntax.imm (Syntax.tyInt Syntax.w8)) 1) (List._∷_ (4, Rows'.any-gone (ColumnMetadataRow.ty)) (List._∷_ (5, Rows.arr-shrP (ColumnMetadataRow.RT) 4096 5) (List._∷_ (6, Rows'.any-gone (Syntax.tyStruct (List._∷_ 115 (List._∷_ 113 (List._∷_ 108 (List._∷_ 100 (List._∷_ 97 (List._∷_ 114 (List._∷_ 100 (List._∷_ 58 (List._∷_ 58 (List._∷_ 83 (List._∷_ 113 (List._∷_ 108 (List._∷_ 100 (List._∷_ 97 (List._∷_ 114 (List._∷_ 100 (List._∷_ 65 (List._∷_ 110 (List._∷_ 115 (List._∷_ 119 (List._∷_ 101 (List._∷_ 114 List.[])))))))))))))))))))))) (Syntax.tcons (Syntax.tyEnum (List._∷_ 111 (List._∷_ 117 (List._∷_ 116 (List._∷_ 99 (List._∷_ 111 (List._∷_ 109 (List._∷_ 101 (List._∷_ 58 (List._∷_ 58 (List._∷_ 79 (List._∷_ 117 (List._∷_ 116 (List._∷_ 99 (List._∷_ 111 (List._∷_ 109 (List._∷_ 101 List.[])))))))))))))))) (Syntax.ttcons Syntax.tnil (Syntax.ttcons Syntax.tnil (Syntax.ttcons (Syntax.tcons (Syntax.tyInt Syntax.w64) (Syntax.tcons (Syntax.tyInt Syntax.w64) Syntax.tnil)) (Syntax.ttcons Syntax.tnil (Syntax.ttcons (Syntax.tcons (Syntax.tyInt Syntax.w16) Syntax.tnil) (Syntax.ttcons Syntax.tnil (Syntax.ttcons (Syntax.tcons (Syntax.tyInt Syntax.w64) Syntax.tnil) (Syntax.ttcons Syntax.tnil Syntax.ttnil))))))))) (Syntax.tcons (Syntax.tyStruct (List._∷_ 115 (List._∷_ 113 (List._∷_ 108 (List._∷_ 99 (List._∷_ 97 (List._∷_ 114 (List._∷_ 100 (List._∷_ 58 (List._∷_ 58 (List._∷_ 83 (List._∷_ 113 (List._∷_ 108 (List._∷_ 67 (List._∷_ 97 (List._∷_ 114 (List._∷_ 100 List.[])))))))))))))))) (Syntax.tcons Syntax.tyBool (Syntax.tcons (Syntax.tyInt Syntax.w32) (Syntax.tcons (Syntax.tyArray (Syntax.tyInt Syntax.w8) 5) (Syntax.tcons (Syntax.tyArray (Syntax.tyInt Syntax.w8) 8) (Syntax.tcons (Syntax.tyInt Syntax.w8) (Syntax.tcons (Syntax.tyArray (Syntax.tyInt Syntax.w32) 6) (Syntax.tcons (Syntax.tyInt Syntax.w64) (Syntax.tcons (Syntax.tyInt Syntax.w32) (Syntax.tcons (Syntax.tyArray (Syntax.tyInt Syntax.w8) 11) (Syntax.tcons (Syntax.tyInt Syntax.w64) (Syntax.tcons (Syntax.tyInt Syntax.w64) Syntax.tnil)))))))))))) (Syntax.tcons (Syntax.tyInt Syntax.w64) Syntax.tnil))))) (List._∷_ (7, Rows'.sc-here (Row.sInt Syntax.w64)) (List._∷_ (8, Rows'.sc-here (Row.sInt Syntax.w64)) (List._∷_ (9, Rows'.any-gone (Syntax.tyRef Syntax.erased Syntax.mut (Syntax.tyArray ColumnMetadataRow.named 4096))) (List._∷_ (10, Rows'.any-gone (Syntax.tyStruct (List._∷_ 38 (List._∷_ 91 (List._∷_ 93 List.[]))) (Syntax.tcons (Syntax.tyRef Syntax.erased Syntax.mut ColumnMetadataRow.named) (Syntax.tcons (Syntax.tyInt Syntax.w64) Syntax.tnil)))) (List._∷_ (11, Rows'.any-gone (Syntax.tyRef Syntax.erased Syntax.mut (Syntax.tyInt Syntax.w8))) (List._∷_ (12, Rows'.any-gone (Syntax.tyStruct (List._∷_ 38 (List._∷_ 91 (List._∷_ 93 List.[]))) (Syntax.tcons (Syntax.tyRef Syntax.erased Syntax.mut (Syntax.tyInt Syntax.w8)) (Syntax.tcons (Syntax.tyInt Syntax.w64) Syntax.tnil)))) (List._∷_ (13, Rows'.any-gone (Syntax.tyRef Syntax.erased Syntax.mut (Syntax.tyInt Syntax.w8))) (List._∷_ (14, Mut.msleft (Referent.rtF (Referent.fInt Syntax.w8)) (Syntax.tyRef Syntax.erased Syntax.mut (Syntax.tyInt Syntax.w8))) (List._∷_ (15, Rows'.any-gone (Syntax.tyRef Syntax.erased Syntax.imm (Syntax.tyArray ColumnMetadataRow.named 4096))) List.[])))))))))))))))
+        g22 = List._∷_ (0, Rows'.sc-here (Row.sInt Syntax.w64)) (List._∷_ (1, Relend.mslice-owed (Referent.rtF (Referent.fInt Syntax.w8)) (Syntax.tyRef (Syntax.named 0) Syntax.mut (Syntax.tyInt Syntax.w8)) 0 4 (Row.lease (κs .0) (qs .0))) (List._∷_ (2, Rows'.sc-here (Row.sInt Syntax.w64)) (List._∷_ (3, Rows'.sslice (Referent.rtF (Referent.fInt Syntax.w8)) (Syntax.tyRef (Syntax.named 1) Syntax.imm (Syntax.tyInt Syntax.w8)) 1) (List._∷_ (4, Rows'.any-gone (ColumnMetadataRow.ty)) (List._∷_ (5, Rows.arr-shrP (ColumnMetadataRow.RT) 4096 5) (List._∷_ (6, Rows'.any-gone (Syntax.tyStruct (List._∷_ 115 (List._∷_ 113 (List._∷_ 108 (List._∷_ 100 (List._∷_ 97 (List._∷_ 114 (List._∷_ 100 (List._∷_ 58 (List._∷_ 58 (List._∷_ 83 (List._∷_ 113 (List._∷_ 108 (List._∷_ 100 (List._∷_ 97 (List._∷_ 114 (List._∷_ 100 (List._∷_ 65 (List._∷_ 110 (List._∷_ 115 (List._∷_ 119 (List._∷_ 101 (List._∷_ 114 List.[])))))))))))))))))))))) (Syntax.tcons (Syntax.tyEnum (List._∷_ 111 (List._∷_ 117 (List._∷_ 116 (List._∷_ 99 (List._∷_ 111 (List._∷_ 109 (List._∷_ 101 (List._∷_ 58 (List._∷_ 58 (List._∷_ 79 (List._∷_ 117 (List._∷_ 116 (List._∷_ 99 (List._∷_ 111 (List._∷_ 109 (List._∷_ 101 List.[])))))))))))))))) (Syntax.ttcons Syntax.tnil (Syntax.ttcons Syntax.tnil (Syntax.ttcons (Syntax.tcons (Syntax.tyInt Syntax.w64) (Syntax.tcons (Syntax.tyInt Syntax.w64) Syntax.tnil)) (Syntax.ttcons Syntax.tnil (Syntax.ttcons (Syntax.tcons (Syntax.tyInt Syntax.w16) Syntax.tnil) (Syntax.ttcons Syntax.tnil (Syntax.ttcons (Syntax.tcons (Syntax.tyInt Syntax.w64) Syntax.tnil) (Syntax.ttcons Syntax.tnil (Syntax.ttcons (Syntax.tcons (Syntax.tyInt Syntax.w16) Syntax.tnil) Syntax.ttnil)))))))))) (Syntax.tcons (Syntax.tyStruct (List._∷_ 115 (List._∷_ 113 (List._∷_ 108 (List._∷_ 99 (List._∷_ 97 (List._∷_ 114 (List._∷_ 100 (List._∷_ 58 (List._∷_ 58 (List._∷_ 83 (List._∷_ 113 (List._∷_ 108 (List._∷_ 67 (List._∷_ 97 (List._∷_ 114 (List._∷_ 100 List.[])))))))))))))))) (Syntax.tcons Syntax.tyBool (Syntax.tcons (Syntax.tyInt Syntax.w32) (Syntax.tcons (Syntax.tyArray (Syntax.tyInt Syntax.w8) 5) (Syntax.tcons (Syntax.tyArray (Syntax.tyInt Syntax.w8) 8) (Syntax.tcons (Syntax.tyInt Syntax.w8) (Syntax.tcons (Syntax.tyArray (Syntax.tyInt Syntax.w32) 6) (Syntax.tcons (Syntax.tyInt Syntax.w64) (Syntax.tcons (Syntax.tyInt Syntax.w32) (Syntax.tcons (Syntax.tyArray (Syntax.tyInt Syntax.w8) 11) (Syntax.tcons (Syntax.tyInt Syntax.w64) (Syntax.tcons (Syntax.tyInt Syntax.w64) Syntax.tnil)))))))))))) (Syntax.tcons (Syntax.tyInt Syntax.w64) Syntax.tnil))))) (List._∷_ (7, Rows'.sc-here (Row.sInt Syntax.w64)) (List._∷_ (8, Rows'.sc-here (Row.sInt Syntax.w64)) (List._∷_ (9, Rows'.any-gone (Syntax.tyRef Syntax.erased Syntax.mut (Syntax.tyArray ColumnMetadataRow.named 4096))) (List._∷_ (10, Rows'.any-gone (Syntax.tyStruct (List._∷_ 38 (List._∷_ 91 (List._∷_ 93 List.[]))) (Syntax.tcons (Syntax.tyRef Syntax.erased Syntax.mut ColumnMetadataRow.named) (Syntax.tcons (Syntax.tyInt Syntax.w64) Syntax.tnil)))) (List._∷_ (11, Rows'.any-gone (Syntax.tyRef Syntax.erased Syntax.mut (Syntax.tyInt Syntax.w8))) (List._∷_ (12, Rows'.any-gone (Syntax.tyStruct (List._∷_ 38 (List._∷_ 91 (List._∷_ 93 List.[]))) (Syntax.tcons (Syntax.tyRef Syntax.erased Syntax.mut (Syntax.tyInt Syntax.w8)) (Syntax.tcons (Syntax.tyInt Syntax.w64) Syntax.tnil)))) (List._∷_ (13, Rows'.any-gone (Syntax.tyRef Syntax.erased Syntax.mut (Syntax.tyInt Syntax.w8))) (List._∷_ (14, Mut.msleft (Referent.rtF (Referent.fInt Syntax.w8)) (Syntax.tyRef Syntax.erased Syntax.mut (Syntax.tyInt Syntax.w8))) (List._∷_ (15, Rows'.any-gone (Syntax.tyRef Syntax.erased Syntax.imm (Syntax.tyArray ColumnMetadataRow.named 4096))) List.[])))))))))))))))
 
         abbrev g23 : List.List Row.Entry
-        g23 = List._∷_ (0, Rows'.sc-here (Row.sInt Syntax.w64)) (List._∷_ (1, Relend.mslice-owed (Referent.rtF (Referent.fInt Syntax.w8)) (Syntax.tyRef (Syntax.named 0) Syntax.mut (Syntax.tyInt Syntax.w8)) 0 4 (Row.lease (κs .0) (qs .0))) (List._∷_ (2, Rows'.sc-here (Row.sInt Syntax.w64)) (List._∷_ (3, Rows'.sslice (Referent.rtF (Referent.fInt Syntax.w8)) (Syntax.tyRef (Syntax.named 1) Syntax.imm (Syntax.tyInt Syntax.w8)) 1) (List._∷_ (4, Rows'.any-gone (ColumnMetadataRow.ty)) (List._∷_ (5, Rows.arr-shrP (ColumnMetadataRow.RT) 4096 5) (List._∷_ (6, Rows'.any-gone (Syntax.tyStruct (List._∷_ 115 (List._∷_ 113 (List._∷_ 108 (List._∷_ 100 (List._∷_ 97 (List._∷_ 114 (List._∷_ 100 (List._∷_ 58 (List._∷_ 58 (List._∷_ 83 (List._∷_ 113 (List._∷_ 108 (List._∷_ 100 (List._∷_ 97 (List._∷_ 114 (List._∷_ 100 (List._∷_ 65 (List._∷_ 110 (List._∷_ 115 (List._∷_ 119 (List._∷_ 101 (List._∷_ 114 List.[])))))))))))))))))))))) (Syntax.tcons (Syntax.tyEnum (List._∷_ 111 (List._∷_ 117 (List._∷_ 116 (List._∷_ 99 (List._∷_ 111 (List._∷_ 109 (List._∷_ 101 (List._∷_ 58 (List._∷_ 58 (List._∷_ 79 (List._∷_ 117 (List._∷_ 116 (List._∷_ 99 (List._∷_ 111 (List._∷_ 109 (List._∷_ 101 List.[])))))))))))))))) (Syntax.ttcons Syntax.tnil (Syntax.ttcons Syntax.tnil (Syntax.ttcons (Syntax.tcons (Syntax.tyInt Syntax.w64) (Syntax.tcons (Syntax.tyInt Syntax.w64) Syntax.tnil)) (Syntax.ttcons Syntax.tnil (Syntax.ttcons (Syntax.tcons (Syntax.tyInt Syntax.w16) Syntax.tnil) (Syntax.ttcons Syntax.tnil (Syntax.ttcons (Syntax.tcons (Syntax.tyInt Syntax.w64) Syntax.tnil) (Syntax.ttcons Syntax.tnil Syntax.ttnil))))))))) (Syntax.tcons (Syntax.tyStruct (List._∷_ 115 (List._∷_ 113 (List._∷_ 108 (List._∷_ 99 (List._∷_ 97 (List._∷_ 114 (List._∷_ 100 (List._∷_ 58 (List._∷_ 58 (List._∷_ 83 (List._∷_ 113 (List._∷_ 108 (List._∷_ 67 (List._∷_ 97 (List._∷_ 114 (List._∷_ 100 List.[])))))))))))))))) (Syntax.tcons Syntax.tyBool (Syntax.tcons (Syntax.tyInt Syntax.w32) (Syntax.tcons (Syntax.tyArray (Syntax.tyInt Syntax.w8) 5) (Syntax.tcons (Syntax.tyArray (Syntax.tyInt Syntax.w8) 8) (Syntax.tcons (Syntax.tyInt Syntax.w8) (Syntax.tcons (Syntax.tyArray (Syntax.tyInt Syntax.w32) 6) (Syntax.tcons (Syntax.tyInt Syntax.w64) (Syntax.tcons (Syntax.tyInt Syntax.w32) (Syntax.tcons (Syntax.tyArray (Syntax.tyInt Syntax.w8) 11) (Syntax.tcons (Syntax.tyInt Syntax.w64) (Syntax.tcons (Syntax.tyInt Syntax.w64) Syntax.tnil)))))))))))) (Syntax.tcons (Syntax.tyInt Syntax.w64) Syntax.tnil))))) (List._∷_ (7, Rows'.any-gone (Syntax.tyInt Syntax.w64)) (List._∷_ (8, Rows'.sc-here (Row.sInt Syntax.w64)) (List._∷_ (9, Rows'.any-gone (Syntax.tyRef Syntax.erased Syntax.mut (Syntax.tyArray ColumnMetadataRow.named 4096))) (List._∷_ (10, Rows'.any-gone (Syntax.tyStruct (List._∷_ 38 (List._∷_ 91 (List._∷_ 93 List.[]))) (Syntax.tcons (Syntax.tyRef Syntax.erased Syntax.mut ColumnMetadataRow.named) (Syntax.tcons (Syntax.tyInt Syntax.w64) Syntax.tnil)))) (List._∷_ (11, Rows'.any-gone (Syntax.tyRef Syntax.erased Syntax.mut (Syntax.tyInt Syntax.w8))) (List._∷_ (12, Rows'.any-gone (Syntax.tyStruct (List._∷_ 38 (List._∷_ 91 (List._∷_ 93 List.[]))) (Syntax.tcons (Syntax.tyRef Syntax.erased Syntax.mut (Syntax.tyInt Syntax.w8)) (Syntax.tcons (Syntax.tyInt Syntax.w64) Syntax.tnil)))) (List._∷_ (13, Rows'.any-gone (Syntax.tyRef Syntax.erased Syntax.mut (Syntax.tyInt Syntax.w8))) (List._∷_ (14, Mut.msleft (Referent.rtF (Referent.fInt Syntax.w8)) (Syntax.tyRef Syntax.erased Syntax.mut (Syntax.tyInt Syntax.w8))) (List._∷_ (15, Rows'.any-gone (Syntax.tyRef Syntax.erased Syntax.imm (Syntax.tyArray ColumnMetadataRow.named 4096))) List.[])))))))))))))))
+        g23 = List._∷_ (0, Rows'.sc-here (Row.sInt Syntax.w64)) (List._∷_ (1, Relend.mslice-owed (Referent.rtF (Referent.fInt Syntax.w8)) (Syntax.tyRef (Syntax.named 0) Syntax.mut (Syntax.tyInt Syntax.w8)) 0 4 (Row.lease (κs .0) (qs .0))) (List._∷_ (2, Rows'.sc-here (Row.sInt Syntax.w64)) (List._∷_ (3, Rows'.sslice (Referent.rtF (Referent.fInt Syntax.w8)) (Syntax.tyRef (Syntax.named 1) Syntax.imm (Syntax.tyInt Syntax.w8)) 1) (List._∷_ (4, Rows'.any-gone (ColumnMetadataRow.ty)) (List._∷_ (5, Rows.arr-shrP (ColumnMetadataRow.RT) 4096 5) (List._∷_ (6, Rows'.any-gone (Syntax.tyStruct (List._∷_ 115 (List._∷_ 113 (List._∷_ 108 (List._∷_ 100 (List._∷_ 97 (List._∷_ 114 (List._∷_ 100 (List._∷_ 58 (List._∷_ 58 (List._∷_ 83 (List._∷_ 113 (List._∷_ 108 (List._∷_ 100 (List._∷_ 97 (List._∷_ 114 (List._∷_ 100 (List._∷_ 65 (List._∷_ 110 (List._∷_ 115 (List._∷_ 119 (List._∷_ 101 (List._∷_ 114 List.[])))))))))))))))))))))) (Syntax.tcons (Syntax.tyEnum (List._∷_ 111 (List._∷_ 117 (List._∷_ 116 (List._∷_ 99 (List._∷_ 111 (List._∷_ 109 (List._∷_ 101 (List._∷_ 58 (List._∷_ 58 (List._∷_ 79 (List._∷_ 117 (List._∷_ 116 (List._∷_ 99 (List._∷_ 111 (List._∷_ 109 (List._∷_ 101 List.[])))))))))))))))) (Syntax.ttcons Syntax.tnil (Syntax.ttcons Syntax.tnil (Syntax.ttcons (Syntax.tcons (Syntax.tyInt Syntax.w64) (Syntax.tcons (Syntax.tyInt Syntax.w64) Syntax.tnil)) (Syntax.ttcons Syntax.tnil (Syntax.ttcons (Syntax.tcons (Syntax.tyInt Syntax.w16) Syntax.tnil) (Syntax.ttcons Syntax.tnil (Syntax.ttcons (Syntax.tcons (Syntax.tyInt Syntax.w64) Syntax.tnil) (Syntax.ttcons Syntax.tnil (Syntax.ttcons (Syntax.tcons (Syntax.tyInt Syntax.w16) Syntax.tnil) Syntax.ttnil)))))))))) (Syntax.tcons (Syntax.tyStruct (List._∷_ 115 (List._∷_ 113 (List._∷_ 108 (List._∷_ 99 (List._∷_ 97 (List._∷_ 114 (List._∷_ 100 (List._∷_ 58 (List._∷_ 58 (List._∷_ 83 (List._∷_ 113 (List._∷_ 108 (List._∷_ 67 (List._∷_ 97 (List._∷_ 114 (List._∷_ 100 List.[])))))))))))))))) (Syntax.tcons Syntax.tyBool (Syntax.tcons (Syntax.tyInt Syntax.w32) (Syntax.tcons (Syntax.tyArray (Syntax.tyInt Syntax.w8) 5) (Syntax.tcons (Syntax.tyArray (Syntax.tyInt Syntax.w8) 8) (Syntax.tcons (Syntax.tyInt Syntax.w8) (Syntax.tcons (Syntax.tyArray (Syntax.tyInt Syntax.w32) 6) (Syntax.tcons (Syntax.tyInt Syntax.w64) (Syntax.tcons (Syntax.tyInt Syntax.w32) (Syntax.tcons (Syntax.tyArray (Syntax.tyInt Syntax.w8) 11) (Syntax.tcons (Syntax.tyInt Syntax.w64) (Syntax.tcons (Syntax.tyInt Syntax.w64) Syntax.tnil)))))))))))) (Syntax.tcons (Syntax.tyInt Syntax.w64) Syntax.tnil))))) (List._∷_ (7, Rows'.any-gone (Syntax.tyInt Syntax.w64)) (List._∷_ (8, Rows'.sc-here (Row.sInt Syntax.w64)) (List._∷_ (9, Rows'.any-gone (Syntax.tyRef Syntax.erased Syntax.mut (Syntax.tyArray ColumnMetadataRow.named 4096))) (List._∷_ (10, Rows'.any-gone (Syntax.tyStruct (List._∷_ 38 (List._∷_ 91 (List._∷_ 93 List.[]))) (Syntax.tcons (Syntax.tyRef Syntax.erased Syntax.mut ColumnMetadataRow.named) (Syntax.tcons (Syntax.tyInt Syntax.w64) Syntax.tnil)))) (List._∷_ (11, Rows'.any-gone (Syntax.tyRef Syntax.erased Syntax.mut (Syntax.tyInt Syntax.w8))) (List._∷_ (12, Rows'.any-gone (Syntax.tyStruct (List._∷_ 38 (List._∷_ 91 (List._∷_ 93 List.[]))) (Syntax.tcons (Syntax.tyRef Syntax.erased Syntax.mut (Syntax.tyInt Syntax.w8)) (Syntax.tcons (Syntax.tyInt Syntax.w64) Syntax.tnil)))) (List._∷_ (13, Rows'.any-gone (Syntax.tyRef Syntax.erased Syntax.mut (Syntax.tyInt Syntax.w8))) (List._∷_ (14, Mut.msleft (Referent.rtF (Referent.fInt Syntax.w8)) (Syntax.tyRef Syntax.erased Syntax.mut (Syntax.tyInt Syntax.w8))) (List._∷_ (15, Rows'.any-gone (Syntax.tyRef Syntax.erased Syntax.imm (Syntax.tyArray ColumnMetadataRow.named 4096))) List.[])))))))))))))))
 
         abbrev g24 : List.List Row.Entry
-        g24 = List._∷_ (0, Rows'.sc-here (Row.sInt Syntax.w64)) (List._∷_ (1, Relend.mslice-owed (Referent.rtF (Referent.fInt Syntax.w8)) (Syntax.tyRef (Syntax.named 0) Syntax.mut (Syntax.tyInt Syntax.w8)) 0 4 (Row.lease (κs .0) (qs .0))) (List._∷_ (2, Rows'.sc-here (Row.sInt Syntax.w64)) (List._∷_ (3, Rows'.sslice (Referent.rtF (Referent.fInt Syntax.w8)) (Syntax.tyRef (Syntax.named 1) Syntax.imm (Syntax.tyInt Syntax.w8)) 1) (List._∷_ (4, Rows'.any-gone (ColumnMetadataRow.ty)) (List._∷_ (5, Rows.arr-shrP (ColumnMetadataRow.RT) 4096 5) (List._∷_ (6, Rows'.any-gone (Syntax.tyStruct (List._∷_ 115 (List._∷_ 113 (List._∷_ 108 (List._∷_ 100 (List._∷_ 97 (List._∷_ 114 (List._∷_ 100 (List._∷_ 58 (List._∷_ 58 (List._∷_ 83 (List._∷_ 113 (List._∷_ 108 (List._∷_ 100 (List._∷_ 97 (List._∷_ 114 (List._∷_ 100 (List._∷_ 65 (List._∷_ 110 (List._∷_ 115 (List._∷_ 119 (List._∷_ 101 (List._∷_ 114 List.[])))))))))))))))))))))) (Syntax.tcons (Syntax.tyEnum (List._∷_ 111 (List._∷_ 117 (List._∷_ 116 (List._∷_ 99 (List._∷_ 111 (List._∷_ 109 (List._∷_ 101 (List._∷_ 58 (List._∷_ 58 (List._∷_ 79 (List._∷_ 117 (List._∷_ 116 (List._∷_ 99 (List._∷_ 111 (List._∷_ 109 (List._∷_ 101 List.[])))))))))))))))) (Syntax.ttcons Syntax.tnil (Syntax.ttcons Syntax.tnil (Syntax.ttcons (Syntax.tcons (Syntax.tyInt Syntax.w64) (Syntax.tcons (Syntax.tyInt Syntax.w64) Syntax.tnil)) (Syntax.ttcons Syntax.tnil (Syntax.ttcons (Syntax.tcons (Syntax.tyInt Syntax.w16) Syntax.tnil) (Syntax.ttcons Syntax.tnil (Syntax.ttcons (Syntax.tcons (Syntax.tyInt Syntax.w64) Syntax.tnil) (Syntax.ttcons Syntax.tnil Syntax.ttnil))))))))) (Syntax.tcons (Syntax.tyStruct (List._∷_ 115 (List._∷_ 113 (List._∷_ 108 (List._∷_ 99 (List._∷_ 97 (List._∷_ 114 (List._∷_ 100 (List._∷_ 58 (List._∷_ 58 (List._∷_ 83 (List._∷_ 113 (List._∷_ 108 (List._∷_ 67 (List._∷_ 97 (List._∷_ 114 (List._∷_ 100 List.[])))))))))))))))) (Syntax.tcons Syntax.tyBool (Syntax.tcons (Syntax.tyInt Syntax.w32) (Syntax.tcons (Syntax.tyArray (Syntax.tyInt Syntax.w8) 5) (Syntax.tcons (Syntax.tyArray (Syntax.tyInt Syntax.w8) 8) (Syntax.tcons (Syntax.tyInt Syntax.w8) (Syntax.tcons (Syntax.tyArray (Syntax.tyInt Syntax.w32) 6) (Syntax.tcons (Syntax.tyInt Syntax.w64) (Syntax.tcons (Syntax.tyInt Syntax.w32) (Syntax.tcons (Syntax.tyArray (Syntax.tyInt Syntax.w8) 11) (Syntax.tcons (Syntax.tyInt Syntax.w64) (Syntax.tcons (Syntax.tyInt Syntax.w64) Syntax.tnil)))))))))))) (Syntax.tcons (Syntax.tyInt Syntax.w64) Syntax.tnil))))) (List._∷_ (7, Rows'.any-gone (Syntax.tyInt Syntax.w64)) (List._∷_ (8, Rows'.any-gone (Syntax.tyInt Syntax.w64)) (List._∷_ (9, Rows'.any-gone (Syntax.tyRef Syntax.erased Syntax.mut (Syntax.tyArray ColumnMetadataRow.named 4096))) (List._∷_ (10, Rows'.any-gone (Syntax.tyStruct (List._∷_ 38 (List._∷_ 91 (List._∷_ 93 List.[]))) (Syntax.tcons (Syntax.tyRef Syntax.erased Syntax.mut ColumnMetadataRow.named) (Syntax.tcons (Syntax.tyInt Syntax.w64) Syntax.tnil)))) (List._∷_ (11, Rows'.any-gone (Syntax.tyRef Syntax.erased Syntax.mut (Syntax.tyInt Syntax.w8))) (List._∷_ (12, Rows'.any-gone (Syntax.tyStruct (List._∷_ 38 (List._∷_ 91 (List._∷_ 93 List.[]))) (Syntax.tcons (Syntax.tyRef Syntax.erased Syntax.mut (Syntax.tyInt Syntax.w8)) (Syntax.tcons (Syntax.tyInt Syntax.w64) Syntax.tnil)))) (List._∷_ (13, Rows'.any-gone (Syntax.tyRef Syntax.erased Syntax.mut (Syntax.tyInt Syntax.w8))) (List._∷_ (14, Mut.msleft (Referent.rtF (Referent.fInt Syntax.w8)) (Syntax.tyRef Syntax.erased Syntax.mut (Syntax.tyInt Syntax.w8))) (List._∷_ (15, Rows'.any-gone (Syntax.tyRef Syntax.erased Syntax.imm (Syntax.tyArray ColumnMetadataRow.named 4096))) List.[])))))))))))))))
+        g24 = List._∷_ (0, Rows'.sc-here (Row.sInt Syntax.w64)) (List._∷_ (1, Relend.mslice-owed (Referent.rtF (Referent.fInt Syntax.w8)) (Syntax.tyRef (Syntax.named 0) Syntax.mut (Syntax.tyInt Syntax.w8)) 0 4 (Row.lease (κs .0) (qs .0))) (List._∷_ (2, Rows'.sc-here (Row.sInt Syntax.w64)) (List._∷_ (3, Rows'.sslice (Referent.rtF (Referent.fInt Syntax.w8)) (Syntax.tyRef (Syntax.named 1) Syntax.imm (Syntax.tyInt Syntax.w8)) 1) (List._∷_ (4, Rows'.any-gone (ColumnMetadataRow.ty)) (List._∷_ (5, Rows.arr-shrP (ColumnMetadataRow.RT) 4096 5) (List._∷_ (6, Rows'.any-gone (Syntax.tyStruct (List._∷_ 115 (List._∷_ 113 (List._∷_ 108 (List._∷_ 100 (List._∷_ 97 (List._∷_ 114 (List._∷_ 100 (List._∷_ 58 (List._∷_ 58 (List._∷_ 83 (List._∷_ 113 (List._∷_ 108 (List._∷_ 100 (List._∷_ 97 (List._∷_ 114 (List._∷_ 100 (List._∷_ 65 (List._∷_ 110 (List._∷_ 115 (List._∷_ 119 (List._∷_ 101 (List._∷_ 114 List.[])))))))))))))))))))))) (Syntax.tcons (Syntax.tyEnum (List._∷_ 111 (List._∷_ 117 (List._∷_ 116 (List._∷_ 99 (List._∷_ 111 (List._∷_ 109 (List._∷_ 101 (List._∷_ 58 (List._∷_ 58 (List._∷_ 79 (List._∷_ 117 (List._∷_ 116 (List._∷_ 99 (List._∷_ 111 (List._∷_ 109 (List._∷_ 101 List.[])))))))))))))))) (Syntax.ttcons Syntax.tnil (Syntax.ttcons Syntax.tnil (Syntax.ttcons (Syntax.tcons (Syntax.tyInt Syntax.w64) (Syntax.tcons (Syntax.tyInt Syntax.w64) Syntax.tnil)) (Syntax.ttcons Syntax.tnil (Syntax.ttcons (Syntax.tcons (Syntax.tyInt Syntax.w16) Syntax.tnil) (Syntax.ttcons Syntax.tnil (Syntax.ttcons (Syntax.tcons (Syntax.tyInt Syntax.w64) Syntax.tnil) (Syntax.ttcons Syntax.tnil (Syntax.ttcons (Syntax.tcons (Syntax.tyInt Syntax.w16) Syntax.tnil) Syntax.ttnil)))))))))) (Syntax.tcons (Syntax.tyStruct (List._∷_ 115 (List._∷_ 113 (List._∷_ 108 (List._∷_ 99 (List._∷_ 97 (List._∷_ 114 (List._∷_ 100 (List._∷_ 58 (List._∷_ 58 (List._∷_ 83 (List._∷_ 113 (List._∷_ 108 (List._∷_ 67 (List._∷_ 97 (List._∷_ 114 (List._∷_ 100 List.[])))))))))))))))) (Syntax.tcons Syntax.tyBool (Syntax.tcons (Syntax.tyInt Syntax.w32) (Syntax.tcons (Syntax.tyArray (Syntax.tyInt Syntax.w8) 5) (Syntax.tcons (Syntax.tyArray (Syntax.tyInt Syntax.w8) 8) (Syntax.tcons (Syntax.tyInt Syntax.w8) (Syntax.tcons (Syntax.tyArray (Syntax.tyInt Syntax.w32) 6) (Syntax.tcons (Syntax.tyInt Syntax.w64) (Syntax.tcons (Syntax.tyInt Syntax.w32) (Syntax.tcons (Syntax.tyArray (Syntax.tyInt Syntax.w8) 11) (Syntax.tcons (Syntax.tyInt Syntax.w64) (Syntax.tcons (Syntax.tyInt Syntax.w64) Syntax.tnil)))))))))))) (Syntax.tcons (Syntax.tyInt Syntax.w64) Syntax.tnil))))) (List._∷_ (7, Rows'.any-gone (Syntax.tyInt Syntax.w64)) (List._∷_ (8, Rows'.any-gone (Syntax.tyInt Syntax.w64)) (List._∷_ (9, Rows'.any-gone (Syntax.tyRef Syntax.erased Syntax.mut (Syntax.tyArray ColumnMetadataRow.named 4096))) (List._∷_ (10, Rows'.any-gone (Syntax.tyStruct (List._∷_ 38 (List._∷_ 91 (List._∷_ 93 List.[]))) (Syntax.tcons (Syntax.tyRef Syntax.erased Syntax.mut ColumnMetadataRow.named) (Syntax.tcons (Syntax.tyInt Syntax.w64) Syntax.tnil)))) (List._∷_ (11, Rows'.any-gone (Syntax.tyRef Syntax.erased Syntax.mut (Syntax.tyInt Syntax.w8))) (List._∷_ (12, Rows'.any-gone (Syntax.tyStruct (List._∷_ 38 (List._∷_ 91 (List._∷_ 93 List.[]))) (Syntax.tcons (Syntax.tyRef Syntax.erased Syntax.mut (Syntax.tyInt Syntax.w8)) (Syntax.tcons (Syntax.tyInt Syntax.w64) Syntax.tnil)))) (List._∷_ (13, Rows'.any-gone (Syntax.tyRef Syntax.erased Syntax.mut (Syntax.tyInt Syntax.w8))) (List._∷_ (14, Mut.msleft (Referent.rtF (Referent.fInt Syntax.w8)) (Syntax.tyRef Syntax.erased Syntax.mut (Syntax.tyInt Syntax.w8))) (List._∷_ (15, Rows'.any-gone (Syntax.tyRef Syntax.erased Syntax.imm (Syntax.tyArray ColumnMetadataRow.named 4096))) List.[])))))))))))))))
 
         abbrev G0 : Row.Cx
         G0 = record { locals = List._++_ t0 t1; slots = List._∷_ (Row.lease (κs .0) (qs .0)) (List._∷_ (Row.lease (κs .1 .0) (qs .1 .0)) (List._∷_ Row.off (List._∷_ Row.off (List._∷_ Row.off (List._∷_ Row.off List.[]))))) }
@@ -854,7 +854,7 @@ module _ (claims· : Claims) where
           d23 = Typed.g-pre 𝓤 H A W 𝓣 E G20 G21 b19 Δ0 (λ Ψ. Ψ) (at22 bs) (Lifetime.g-end 𝓤 H A W E G20 3 Path'.refl) d22
 
           d24 : Typed.Typed 𝓤 H A 𝓣 E G19 b19 Δ0 (at24 bs)
-          d24 = Typed.g-pre 𝓤 H A W 𝓣 E G19 G20 b19 Δ0 (Typed.pass T19 T20 (s18 bs)) (at23 bs) (Scalar.g-room 𝓤 H A W E G19 6 (Syntax.tyStruct (List._∷_ 115 (List._∷_ 113 (List._∷_ 108 (List._∷_ 100 (List._∷_ 97 (List._∷_ 114 (List._∷_ 100 (List._∷_ 58 (List._∷_ 58 (List._∷_ 83 (List._∷_ 113 (List._∷_ 108 (List._∷_ 100 (List._∷_ 97 (List._∷_ 114 (List._∷_ 100 (List._∷_ 65 (List._∷_ 110 (List._∷_ 115 (List._∷_ 119 (List._∷_ 101 (List._∷_ 114 List.[])))))))))))))))))))))) (Syntax.tcons (Syntax.tyEnum (List._∷_ 111 (List._∷_ 117 (List._∷_ 116 (List._∷_ 99 (List._∷_ 111 (List._∷_ 109 (List._∷_ 101 (List._∷_ 58 (List._∷_ 58 (List._∷_ 79 (List._∷_ 117 (List._∷_ 116 (List._∷_ 99 (List._∷_ 111 (List._∷_ 109 (List._∷_ 101 List.[])))))))))))))))) (Syntax.ttcons Syntax.tnil (Syntax.ttcons Syntax.tnil (Syntax.ttcons (Syntax.tcons (Syntax.tyInt Syntax.w64) (Syntax.tcons (Syntax.tyInt Syntax.w64) Syntax.tnil)) (Syntax.ttcons Syntax.tnil (Syntax.ttcons (Syntax.tcons (Syntax.tyInt Syntax.w16) Syntax.tnil) (Syntax.ttcons Syntax.tnil (Syntax.ttcons (Syntax.tcons (Syntax.tyInt Syntax.w64) Syntax.tnil) (Syntax.ttcons Syntax.tnil Syntax.ttnil))))))))) (Syntax.tcons (Syntax.tyStruct (List._∷_ 115 (List._∷_ 113 (List._∷_ 108 (List._∷_ 99 (List._∷_ 97 (List._∷_ 114 (List._∷_ 100 (List._∷_ 58 (List._∷_ 58 (List._∷_ 83 (List._∷_ 113 (List._∷_ 108 (List._∷_ 67 (List._∷_ 97 (List._∷_ 114 (List._∷_ 100 List.[])))))))))))))))) (Syntax.tcons Syntax.tyBool (Syntax.tcons (Syntax.tyInt Syntax.w32) (Syntax.tcons (Syntax.tyArray (Syntax.tyInt Syntax.w8) 5) (Syntax.tcons (Syntax.tyArray (Syntax.tyInt Syntax.w8) 8) (Syntax.tcons (Syntax.tyInt Syntax.w8) (Syntax.tcons (Syntax.tyArray (Syntax.tyInt Syntax.w32) 6) (Syntax.tcons (Syntax.tyInt Syntax.w64) (Syntax.tcons (Syntax.tyInt Syntax.w32) (Syntax.tcons (Syntax.tyArray (Syntax.tyInt Syntax.w8) 11) (Syntax.tcons (Syntax.tyInt Syntax.w64) (Syntax.tcons (Syntax.tyInt Syntax.w64) Syntax.tnil)))))))))))) (Syntax.tcons (Syntax.tyInt Syntax.w64) Syntax.tnil)))) (Local.room-whole 𝓤 H A W (Declared.row SqldardAnswer.the-type) (Syntax.tyStruct (List._∷_ 115 (List._∷_ 113 (List._∷_ 108 (List._∷_ 100 (List._∷_ 97 (List._∷_ 114 (List._∷_ 100 (List._∷_ 58 (List._∷_ 58 (List._∷_ 83 (List._∷_ 113 (List._∷_ 108 (List._∷_ 100 (List._∷_ 97 (List._∷_ 114 (List._∷_ 100 (List._∷_ 65 (List._∷_ 110 (List._∷_ 115 (List._∷_ 119 (List._∷_ 101 (List._∷_ 114 List.[])))))))))))))))))))))) (Syntax.tcons (Syntax.tyEnum (List._∷_ 111 (List._∷_ 117 (List._∷_ 116 (List._∷_ 99 (List._∷_ 111 (List._∷_ 109 (List._∷_ 101 (List._∷_ 58 (List._∷_ 58 (List._∷_ 79 (List._∷_ 117 (List._∷_ 116 (List._∷_ 99 (List._∷_ 111 (List._∷_ 109 (List._∷_ 101 List.[])))))))))))))))) (Syntax.ttcons Syntax.tnil (Syntax.ttcons Syntax.tnil (Syntax.ttcons (Syntax.tcons (Syntax.tyInt Syntax.w64) (Syntax.tcons (Syntax.tyInt Syntax.w64) Syntax.tnil)) (Syntax.ttcons Syntax.tnil (Syntax.ttcons (Syntax.tcons (Syntax.tyInt Syntax.w16) Syntax.tnil) (Syntax.ttcons Syntax.tnil (Syntax.ttcons (Syntax.tcons (Syntax.tyInt Syntax.w64) Syntax.tnil) (Syntax.ttcons Syntax.tnil Syntax.ttnil))))))))) (Syntax.tcons (Syntax.tyStruct (List._∷_ 115 (List._∷_ 113 (List._∷_ 108 (List._∷_ 99 (List._∷_ 97 (List._∷_ 114 (List._∷_ 100 (List._∷_ 58 (List._∷_ 58 (List._∷_ 83 (List._∷_ 113 (List._∷_ 108 (List._∷_ 67 (List._∷_ 97 (List._∷_ 114 (List._∷_ 100 List.[])))))))))))))))) (Syntax.tcons Syntax.tyBool (Syntax.tcons (Syntax.tyInt Syntax.w32) (Syntax.tcons (Syntax.tyArray (Syntax.tyInt Syntax.w8) 5) (Syntax.tcons (Syntax.tyArray (Syntax.tyInt Syntax.w8) 8) (Syntax.tcons (Syntax.tyInt Syntax.w8) (Syntax.tcons (Syntax.tyArray (Syntax.tyInt Syntax.w32) 6) (Syntax.tcons (Syntax.tyInt Syntax.w64) (Syntax.tcons (Syntax.tyInt Syntax.w32) (Syntax.tcons (Syntax.tyArray (Syntax.tyInt Syntax.w8) 11) (Syntax.tcons (Syntax.tyInt Syntax.w64) (Syntax.tcons (Syntax.tyInt Syntax.w64) Syntax.tnil)))))))))))) (Syntax.tcons (Syntax.tyInt Syntax.w64) Syntax.tnil)))) Path'.refl)) d23
+          d24 = Typed.g-pre 𝓤 H A W 𝓣 E G19 G20 b19 Δ0 (Typed.pass T19 T20 (s18 bs)) (at23 bs) (Scalar.g-room 𝓤 H A W E G19 6 (Syntax.tyStruct (List._∷_ 115 (List._∷_ 113 (List._∷_ 108 (List._∷_ 100 (List._∷_ 97 (List._∷_ 114 (List._∷_ 100 (List._∷_ 58 (List._∷_ 58 (List._∷_ 83 (List._∷_ 113 (List._∷_ 108 (List._∷_ 100 (List._∷_ 97 (List._∷_ 114 (List._∷_ 100 (List._∷_ 65 (List._∷_ 110 (List._∷_ 115 (List._∷_ 119 (List._∷_ 101 (List._∷_ 114 List.[])))))))))))))))))))))) (Syntax.tcons (Syntax.tyEnum (List._∷_ 111 (List._∷_ 117 (List._∷_ 116 (List._∷_ 99 (List._∷_ 111 (List._∷_ 109 (List._∷_ 101 (List._∷_ 58 (List._∷_ 58 (List._∷_ 79 (List._∷_ 117 (List._∷_ 116 (List._∷_ 99 (List._∷_ 111 (List._∷_ 109 (List._∷_ 101 List.[])))))))))))))))) (Syntax.ttcons Syntax.tnil (Syntax.ttcons Syntax.tnil (Syntax.ttcons (Syntax.tcons (Syntax.tyInt Syntax.w64) (Syntax.tcons (Syntax.tyInt Syntax.w64) Syntax.tnil)) (Syntax.ttcons Syntax.tnil (Syntax.ttcons (Syntax.tcons (Syntax.tyInt Syntax.w16) Syntax.tnil) (Syntax.ttcons Syntax.tnil (Syntax.ttcons (Syntax.tcons (Syntax.tyInt Syntax.w64) Syntax.tnil) (Syntax.ttcons Syntax.tnil (Syntax.ttcons (Syntax.tcons (Syntax.tyInt Syntax.w16) Syntax.tnil) Syntax.ttnil)))))))))) (Syntax.tcons (Syntax.tyStruct (List._∷_ 115 (List._∷_ 113 (List._∷_ 108 (List._∷_ 99 (List._∷_ 97 (List._∷_ 114 (List._∷_ 100 (List._∷_ 58 (List._∷_ 58 (List._∷_ 83 (List._∷_ 113 (List._∷_ 108 (List._∷_ 67 (List._∷_ 97 (List._∷_ 114 (List._∷_ 100 List.[])))))))))))))))) (Syntax.tcons Syntax.tyBool (Syntax.tcons (Syntax.tyInt Syntax.w32) (Syntax.tcons (Syntax.tyArray (Syntax.tyInt Syntax.w8) 5) (Syntax.tcons (Syntax.tyArray (Syntax.tyInt Syntax.w8) 8) (Syntax.tcons (Syntax.tyInt Syntax.w8) (Syntax.tcons (Syntax.tyArray (Syntax.tyInt Syntax.w32) 6) (Syntax.tcons (Syntax.tyInt Syntax.w64) (Syntax.tcons (Syntax.tyInt Syntax.w32) (Syntax.tcons (Syntax.tyArray (Syntax.tyInt Syntax.w8) 11) (Syntax.tcons (Syntax.tyInt Syntax.w64) (Syntax.tcons (Syntax.tyInt Syntax.w64) Syntax.tnil)))))))))))) (Syntax.tcons (Syntax.tyInt Syntax.w64) Syntax.tnil)))) (Local.room-whole 𝓤 H A W (Declared.row SqldardAnswer.the-type) (Syntax.tyStruct (List._∷_ 115 (List._∷_ 113 (List._∷_ 108 (List._∷_ 100 (List._∷_ 97 (List._∷_ 114 (List._∷_ 100 (List._∷_ 58 (List._∷_ 58 (List._∷_ 83 (List._∷_ 113 (List._∷_ 108 (List._∷_ 100 (List._∷_ 97 (List._∷_ 114 (List._∷_ 100 (List._∷_ 65 (List._∷_ 110 (List._∷_ 115 (List._∷_ 119 (List._∷_ 101 (List._∷_ 114 List.[])))))))))))))))))))))) (Syntax.tcons (Syntax.tyEnum (List._∷_ 111 (List._∷_ 117 (List._∷_ 116 (List._∷_ 99 (List._∷_ 111 (List._∷_ 109 (List._∷_ 101 (List._∷_ 58 (List._∷_ 58 (List._∷_ 79 (List._∷_ 117 (List._∷_ 116 (List._∷_ 99 (List._∷_ 111 (List._∷_ 109 (List._∷_ 101 List.[])))))))))))))))) (Syntax.ttcons Syntax.tnil (Syntax.ttcons Syntax.tnil (Syntax.ttcons (Syntax.tcons (Syntax.tyInt Syntax.w64) (Syntax.tcons (Syntax.tyInt Syntax.w64) Syntax.tnil)) (Syntax.ttcons Syntax.tnil (Syntax.ttcons (Syntax.tcons (Syntax.tyInt Syntax.w16) Syntax.tnil) (Syntax.ttcons Syntax.tnil (Syntax.ttcons (Syntax.tcons (Syntax.tyInt Syntax.w64) Syntax.tnil) (Syntax.ttcons Syntax.tnil (Syntax.ttcons (Syntax.tcons (Syntax.tyInt Syntax.w16) Syntax.tnil) Syntax.ttnil)))))))))) (Syntax.tcons (Syntax.tyStruct (List._∷_ 115 (List._∷_ 113 (List._∷_ 108 (List._∷_ 99 (List._∷_ 97 (List._∷_ 114 (List._∷_ 100 (List._∷_ 58 (List._∷_ 58 (List._∷_ 83 (List._∷_ 113 (List._∷_ 108 (List._∷_ 67 (List._∷_ 97 (List._∷_ 114 (List._∷_ 100 List.[])))))))))))))))) (Syntax.tcons Syntax.tyBool (Syntax.tcons (Syntax.tyInt Syntax.w32) (Syntax.tcons (Syntax.tyArray (Syntax.tyInt Syntax.w8) 5) (Syntax.tcons (Syntax.tyArray (Syntax.tyInt Syntax.w8) 8) (Syntax.tcons (Syntax.tyInt Syntax.w8) (Syntax.tcons (Syntax.tyArray (Syntax.tyInt Syntax.w32) 6) (Syntax.tcons (Syntax.tyInt Syntax.w64) (Syntax.tcons (Syntax.tyInt Syntax.w32) (Syntax.tcons (Syntax.tyArray (Syntax.tyInt Syntax.w8) 11) (Syntax.tcons (Syntax.tyInt Syntax.w64) (Syntax.tcons (Syntax.tyInt Syntax.w64) Syntax.tnil)))))))))))) (Syntax.tcons (Syntax.tyInt Syntax.w64) Syntax.tnil)))) Path'.refl)) d23
 
           d25 : Typed.Typed 𝓤 H A 𝓣 E G18 b20 Δ0 (at25 bs)
           d25 = Typed.s-seq 𝓤 H A W 𝓣 E G18 G19 b8 b19 Δ0 (Typed.both (s17 bs)) (at24 bs) (Plain.t-call-plain 𝓤 H A W 𝓣 1 ps·2 r·2 (claims· .4) (claims· .5) "description_output::put_count" (known .2) E (λ pos β. β) G18 (record { pos = 12; ty = Syntax.tyRef Syntax.erased Syntax.mut (Syntax.tyInt Syntax.w8); ref = λ x. x }, (Num.vAt 2 λ x. x, (record { pos = 6; st = List.[]; d = 0; at = λ x. x }, tt))) 8 (List._∷_ 3 List.[]) (Call.sub-id 𝓤 H A W (G18 .slots)) (Reads'.as-is 𝓤 H A (Mut.mslice (Referent.rtF (Referent.fInt Syntax.w8)) (Syntax.tyRef Syntax.erased Syntax.mut (Syntax.tyInt Syntax.w8)) 3), Mut.reads-mslice 𝓤 H A W (Referent.rtF (Referent.fInt Syntax.w8)) (Syntax.tyRef Syntax.erased Syntax.mut (Syntax.tyInt Syntax.w8)) 3, Path'.refl, ((Scalar.reads-sc 𝓤 H A W (Row.sInt Syntax.w64), Path'.refl), ((Yields.yields-copy 𝓤 H A W (λ ρ. Unit) (Declared.row SqldardAnswer.the-type) Path'.refl (Copies.cStruct SqldardAnswer.the-type Laws.the-laws Laws.the-copy .copy 𝓤 H A W) (Rows'.whole (Declared.row SqldardAnswer.the-type)) (λ x. x) (λ x. x) (λ ρ told. Local.mem-whole 𝓤 H A W (Declared.row SqldardAnswer.the-type) ρ) λ ρ told. Local.whole-mem 𝓤 H A W (Declared.row SqldardAnswer.the-type) ρ, Path'.refl), tt))) (Reads'.room-gone 𝓤 H A (Syntax.tyInt Syntax.w64)) (tt, tt) Path'.refl) d24
@@ -881,7 +881,7 @@ module _ (claims· : Claims) where
           d32 = Typed.g-pre 𝓤 H A W 𝓣 E G11 G12 b23 Δ0 (λ Ψ. Ψ) (at31 bs) (Lifetime.g-end 𝓤 H A W E G11 2 Path'.refl) d31
 
           d33 : Typed.Typed 𝓤 H A 𝓣 E G10 b24 Δ0 (at33 bs)
-          d33 = Typed.s-seq 𝓤 H A W 𝓣 E G10 G11 b4 b23 Δ0 (Typed.both (s9 bs)) (at32 bs) (Plain.t-call-plain 𝓤 H A W 𝓣 2 ps·1 r·1 (claims· .2) (claims· .3) "sqldard::parse_sqldard_data" (known .1) E (λ pos β. β) G10 (record { pos = 3; ty = Syntax.tyRef (Syntax.named 1) Syntax.imm (Syntax.tyInt Syntax.w8); ref = λ x. x }, (record { pos = 10; ty = Syntax.tyRef Syntax.erased Syntax.mut ColumnMetadataRow.named; ref = λ x. x }, tt)) 6 (List._∷_ 1 (List._∷_ 2 List.[])) (Call.sub-id 𝓤 H A W (G10 .slots)) (ShrSlice.spares-sslice 𝓤 H A W (Referent.rtF (Referent.fInt Syntax.w8)) (Syntax.tyRef (Syntax.named 1) Syntax.imm (Syntax.tyInt Syntax.w8)) 1, Shared.reads-sslice 𝓤 H A W (Referent.rtF (Referent.fInt Syntax.w8)) (Syntax.tyRef (Syntax.named 1) Syntax.imm (Syntax.tyInt Syntax.w8)) 1, Path'.refl, (Reads'.as-is 𝓤 H A (Mut.mslice (ColumnMetadataRow.RT) (Syntax.tyRef Syntax.erased Syntax.mut ColumnMetadataRow.named) 2), Mut.reads-mslice 𝓤 H A W (ColumnMetadataRow.RT) (Syntax.tyRef Syntax.erased Syntax.mut ColumnMetadataRow.named) 2, Path'.refl, tt)) (Reads'.room-gone 𝓤 H A (Syntax.tyStruct (List._∷_ 115 (List._∷_ 113 (List._∷_ 108 (List._∷_ 100 (List._∷_ 97 (List._∷_ 114 (List._∷_ 100 (List._∷_ 58 (List._∷_ 58 (List._∷_ 83 (List._∷_ 113 (List._∷_ 108 (List._∷_ 100 (List._∷_ 97 (List._∷_ 114 (List._∷_ 100 (List._∷_ 65 (List._∷_ 110 (List._∷_ 115 (List._∷_ 119 (List._∷_ 101 (List._∷_ 114 List.[])))))))))))))))))))))) (Syntax.tcons (Syntax.tyEnum (List._∷_ 111 (List._∷_ 117 (List._∷_ 116 (List._∷_ 99 (List._∷_ 111 (List._∷_ 109 (List._∷_ 101 (List._∷_ 58 (List._∷_ 58 (List._∷_ 79 (List._∷_ 117 (List._∷_ 116 (List._∷_ 99 (List._∷_ 111 (List._∷_ 109 (List._∷_ 101 List.[])))))))))))))))) (Syntax.ttcons Syntax.tnil (Syntax.ttcons Syntax.tnil (Syntax.ttcons (Syntax.tcons (Syntax.tyInt Syntax.w64) (Syntax.tcons (Syntax.tyInt Syntax.w64) Syntax.tnil)) (Syntax.ttcons Syntax.tnil (Syntax.ttcons (Syntax.tcons (Syntax.tyInt Syntax.w16) Syntax.tnil) (Syntax.ttcons Syntax.tnil (Syntax.ttcons (Syntax.tcons (Syntax.tyInt Syntax.w64) Syntax.tnil) (Syntax.ttcons Syntax.tnil Syntax.ttnil))))))))) (Syntax.tcons (Syntax.tyStruct (List._∷_ 115 (List._∷_ 113 (List._∷_ 108 (List._∷_ 99 (List._∷_ 97 (List._∷_ 114 (List._∷_ 100 (List._∷_ 58 (List._∷_ 58 (List._∷_ 83 (List._∷_ 113 (List._∷_ 108 (List._∷_ 67 (List._∷_ 97 (List._∷_ 114 (List._∷_ 100 List.[])))))))))))))))) (Syntax.tcons Syntax.tyBool (Syntax.tcons (Syntax.tyInt Syntax.w32) (Syntax.tcons (Syntax.tyArray (Syntax.tyInt Syntax.w8) 5) (Syntax.tcons (Syntax.tyArray (Syntax.tyInt Syntax.w8) 8) (Syntax.tcons (Syntax.tyInt Syntax.w8) (Syntax.tcons (Syntax.tyArray (Syntax.tyInt Syntax.w32) 6) (Syntax.tcons (Syntax.tyInt Syntax.w64) (Syntax.tcons (Syntax.tyInt Syntax.w32) (Syntax.tcons (Syntax.tyArray (Syntax.tyInt Syntax.w8) 11) (Syntax.tcons (Syntax.tyInt Syntax.w64) (Syntax.tcons (Syntax.tyInt Syntax.w64) Syntax.tnil)))))))))))) (Syntax.tcons (Syntax.tyInt Syntax.w64) Syntax.tnil))))) (tt, (tt, tt)) Path'.refl) d32
+          d33 = Typed.s-seq 𝓤 H A W 𝓣 E G10 G11 b4 b23 Δ0 (Typed.both (s9 bs)) (at32 bs) (Plain.t-call-plain 𝓤 H A W 𝓣 2 ps·1 r·1 (claims· .2) (claims· .3) "sqldard::parse_sqldard_data" (known .1) E (λ pos β. β) G10 (record { pos = 3; ty = Syntax.tyRef (Syntax.named 1) Syntax.imm (Syntax.tyInt Syntax.w8); ref = λ x. x }, (record { pos = 10; ty = Syntax.tyRef Syntax.erased Syntax.mut ColumnMetadataRow.named; ref = λ x. x }, tt)) 6 (List._∷_ 1 (List._∷_ 2 List.[])) (Call.sub-id 𝓤 H A W (G10 .slots)) (ShrSlice.spares-sslice 𝓤 H A W (Referent.rtF (Referent.fInt Syntax.w8)) (Syntax.tyRef (Syntax.named 1) Syntax.imm (Syntax.tyInt Syntax.w8)) 1, Shared.reads-sslice 𝓤 H A W (Referent.rtF (Referent.fInt Syntax.w8)) (Syntax.tyRef (Syntax.named 1) Syntax.imm (Syntax.tyInt Syntax.w8)) 1, Path'.refl, (Reads'.as-is 𝓤 H A (Mut.mslice (ColumnMetadataRow.RT) (Syntax.tyRef Syntax.erased Syntax.mut ColumnMetadataRow.named) 2), Mut.reads-mslice 𝓤 H A W (ColumnMetadataRow.RT) (Syntax.tyRef Syntax.erased Syntax.mut ColumnMetadataRow.named) 2, Path'.refl, tt)) (Reads'.room-gone 𝓤 H A (Syntax.tyStruct (List._∷_ 115 (List._∷_ 113 (List._∷_ 108 (List._∷_ 100 (List._∷_ 97 (List._∷_ 114 (List._∷_ 100 (List._∷_ 58 (List._∷_ 58 (List._∷_ 83 (List._∷_ 113 (List._∷_ 108 (List._∷_ 100 (List._∷_ 97 (List._∷_ 114 (List._∷_ 100 (List._∷_ 65 (List._∷_ 110 (List._∷_ 115 (List._∷_ 119 (List._∷_ 101 (List._∷_ 114 List.[])))))))))))))))))))))) (Syntax.tcons (Syntax.tyEnum (List._∷_ 111 (List._∷_ 117 (List._∷_ 116 (List._∷_ 99 (List._∷_ 111 (List._∷_ 109 (List._∷_ 101 (List._∷_ 58 (List._∷_ 58 (List._∷_ 79 (List._∷_ 117 (List._∷_ 116 (List._∷_ 99 (List._∷_ 111 (List._∷_ 109 (List._∷_ 101 List.[])))))))))))))))) (Syntax.ttcons Syntax.tnil (Syntax.ttcons Syntax.tnil (Syntax.ttcons (Syntax.tcons (Syntax.tyInt Syntax.w64) (Syntax.tcons (Syntax.tyInt Syntax.w64) Syntax.tnil)) (Syntax.ttcons Syntax.tnil (Syntax.ttcons (Syntax.tcons (Syntax.tyInt Syntax.w16) Syntax.tnil) (Syntax.ttcons Syntax.tnil (Syntax.ttcons (Syntax.tcons (Syntax.tyInt Syntax.w64) Syntax.tnil) (Syntax.ttcons Syntax.tnil (Syntax.ttcons (Syntax.tcons (Syntax.tyInt Syntax.w16) Syntax.tnil) Syntax.ttnil)))))))))) (Syntax.tcons (Syntax.tyStruct (List._∷_ 115 (List._∷_ 113 (List._∷_ 108 (List._∷_ 99 (List._∷_ 97 (List._∷_ 114 (List._∷_ 100 (List._∷_ 58 (List._∷_ 58 (List._∷_ 83 (List._∷_ 113 (List._∷_ 108 (List._∷_ 67 (List._∷_ 97 (List._∷_ 114 (List._∷_ 100 List.[])))))))))))))))) (Syntax.tcons Syntax.tyBool (Syntax.tcons (Syntax.tyInt Syntax.w32) (Syntax.tcons (Syntax.tyArray (Syntax.tyInt Syntax.w8) 5) (Syntax.tcons (Syntax.tyArray (Syntax.tyInt Syntax.w8) 8) (Syntax.tcons (Syntax.tyInt Syntax.w8) (Syntax.tcons (Syntax.tyArray (Syntax.tyInt Syntax.w32) 6) (Syntax.tcons (Syntax.tyInt Syntax.w64) (Syntax.tcons (Syntax.tyInt Syntax.w32) (Syntax.tcons (Syntax.tyArray (Syntax.tyInt Syntax.w8) 11) (Syntax.tcons (Syntax.tyInt Syntax.w64) (Syntax.tcons (Syntax.tyInt Syntax.w64) Syntax.tnil)))))))))))) (Syntax.tcons (Syntax.tyInt Syntax.w64) Syntax.tnil))))) (tt, (tt, tt)) Path'.refl) d32
 
           d34 : Typed.Typed 𝓤 H A 𝓣 E G9 b25 Δ0 (at34 bs)
           d34 = Typed.s-seq 𝓤 H A W 𝓣 E G9 G10 b3 b24 Δ0 (Typed.ask (s8 bs)) (at33 bs) (Relend.t-sl-aggregate 𝓤 H A W E (ColumnMetadataRow.RT) 𝓣 (Relend.asMut (ColumnMetadataRow.RT)) G9 9 10 2 (Syntax.tyRef Syntax.erased Syntax.mut (Syntax.tyArray ColumnMetadataRow.named 4096)) (Syntax.tyRef Syntax.erased Syntax.mut ColumnMetadataRow.named) (λ x. x) (Scalar.oBig Syntax.w64 4096) (Reads'.as-is 𝓤 H A (Relend.msptr (ColumnMetadataRow.RT) (Syntax.tyRef Syntax.erased Syntax.mut (Syntax.tyArray ColumnMetadataRow.named 4096)) 2)) (Reads'.room-gone 𝓤 H A (Syntax.tyStruct (List._∷_ 38 (List._∷_ 91 (List._∷_ 93 List.[]))) (Syntax.tcons (Syntax.tyRef Syntax.erased Syntax.mut ColumnMetadataRow.named) (Syntax.tcons (Syntax.tyInt Syntax.w64) Syntax.tnil)))) record { lower = record { fits = Dec'.lit< tt } } Path'.refl Path'.refl λ b o k. tt) d33

@@ -3,8 +3,8 @@
 use Prim.Native.Nat.{_-_}
 use lib.ListN.{length}
 use borrow.Author.Needs.{needs}
-use Rattle.answers.proofs.texts.is_marked.Statement.{statement}
-use Rattle.answers.proofs.texts.is_marked.Tie as tie
+use Rattle.text_output.proofs.is_marked.Statement.{statement}
+use Rattle.text_output.proofs.is_marked.Tie as tie
 
 abbrev Inv-loop : tie.InvT-loop
 Inv-loop lent start i₀ i = Unit {0}

@@ -4,8 +4,8 @@ use Prim.Native.Nat.{_-_}
 use mathlib.Core.Path.{_≡_}
 use lib.ListN.{length}
 use borrow.Author.Needs.{needs}
-use Rattle.answers.proofs.texts.mark.Statement.{statement}
-use Rattle.answers.proofs.texts.mark.Tie as tie
+use Rattle.text_output.proofs.mark.Statement.{statement}
+use Rattle.text_output.proofs.mark.Tie as tie
 
 abbrev Inv-loop : tie.InvT-loop
 Inv-loop lent₀ i₀ lent i = length lent ≡ length lent₀

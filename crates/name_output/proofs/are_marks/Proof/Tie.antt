@@ -1,0 +1,78 @@
+-- Made by tools/lists.py from the source of `name_output::are_marks`: do not edit.
+use Rattle.name_output.proofs.are_marks.Code
+use Rattle.name_output.proofs.are_marks.Key
+use Rattle.name_output.proofs.Known.are_marks.Kinds
+use Rattle.name_output.proofs.are_marks.Proof.Lts
+use Rattle.name_output.proofs.Known.are_marks.Reads
+use Rattle.name_output.proofs.are_marks.Statement
+use Rattle.name_output.proofs.is_mark.Met
+use Rattle.name_output.proofs.is_mark.Reads as Reads'
+use Rattle.name_output.proofs.is_mark.Symbol
+use borrow.Fn.Run
+use borrow.Fn.Written
+use contract.Running
+
+abbrev pub InvT-loop : Type 1
+InvT-loop = Lts.InvT-loop
+
+abbrev pub MeasureT-loop : Type 0
+MeasureT-loop = Lts.MeasureT-loop
+
+abbrev pub Start : (Inv : InvT-loop) → (μ : MeasureT-loop) → Type 0
+Start = λ Inv μ. Lts.Start (Reads'.Asked, Reads'.Learnt) Reads.Pre Reads.Post Inv μ
+
+abbrev pub At-loop : (Inv : InvT-loop) → (μ : MeasureT-loop) → Type 0
+At-loop = λ Inv μ. Lts.At-loop (Reads'.Asked, Reads'.Learnt) Reads.Pre Reads.Post Inv μ
+
+abbrev pub In-loop : (Inv : InvT-loop) → (μ : MeasureT-loop) → Type 0
+In-loop = λ Inv μ. Lts.In-loop (Reads'.Asked, Reads'.Learnt) Reads.Pre Reads.Post Inv μ
+
+abbrev pub After-loop : (Inv : InvT-loop) → (μ : MeasureT-loop) → Type 0
+After-loop = λ Inv μ. Lts.After-loop (Reads'.Asked, Reads'.Learnt) Reads.Pre Reads.Post Inv μ
+
+abbrev pub After-text : (Inv : InvT-loop) → (μ : MeasureT-loop) → Type 0
+After-text = λ Inv μ. Lts.After-text (Reads'.Asked, Reads'.Learnt) Reads.Pre Reads.Post Inv μ
+
+abbrev pub After-is-mark : (Inv : InvT-loop) → (μ : MeasureT-loop) → Type 0
+After-is-mark = λ Inv μ. Lts.After-is-mark (Reads'.Asked, Reads'.Learnt) Reads.Pre Reads.Post Inv μ
+
+abbrev pub Then1 : (Inv : InvT-loop) → (μ : MeasureT-loop) → Type 0
+Then1 = λ Inv μ. Lts.Then1 (Reads'.Asked, Reads'.Learnt) Reads.Pre Reads.Post Inv μ
+
+abbrev pub Else1 : (Inv : InvT-loop) → (μ : MeasureT-loop) → Type 0
+Else1 = λ Inv μ. Lts.Else1 (Reads'.Asked, Reads'.Learnt) Reads.Pre Reads.Post Inv μ
+
+abbrev pub Need-loop-holds : (Inv : InvT-loop) → (μ : MeasureT-loop) → Type 0
+Need-loop-holds = λ Inv μ. Lts.Need-loop-holds (Reads'.Asked, Reads'.Learnt) Reads.Pre Reads.Post Inv μ
+
+abbrev pub Need-mul-text : (Inv : InvT-loop) → (μ : MeasureT-loop) → Type 0
+Need-mul-text = λ Inv μ. Lts.Need-mul-text (Reads'.Asked, Reads'.Learnt) Reads.Pre Reads.Post Inv μ
+
+abbrev pub Need-shared-slice-copy-out-text : (Inv : InvT-loop) → (μ : MeasureT-loop) → Type 0
+Need-shared-slice-copy-out-text = λ Inv μ. Lts.Need-shared-slice-copy-out-text (Reads'.Asked, Reads'.Learnt) Reads.Pre Reads.Post Inv μ
+
+abbrev pub Need-is-mark-requires : (Inv : InvT-loop) → (μ : MeasureT-loop) → Type 0
+Need-is-mark-requires = λ Inv μ. Lts.Need-is-mark-requires (Reads'.Asked, Reads'.Learnt) Reads.Pre Reads.Post Inv μ
+
+abbrev pub Need-returns : (Inv : InvT-loop) → (μ : MeasureT-loop) → Type 0
+Need-returns = λ Inv μ. Lts.Need-returns (Reads'.Asked, Reads'.Learnt) Reads.Pre Reads.Post Inv μ
+
+abbrev pub Need-add-i : (Inv : InvT-loop) → (μ : MeasureT-loop) → Type 0
+Need-add-i = λ Inv μ. Lts.Need-add-i (Reads'.Asked, Reads'.Learnt) Reads.Pre Reads.Post Inv μ
+
+abbrev pub Need-loop-less : (Inv : InvT-loop) → (μ : MeasureT-loop) → Type 0
+Need-loop-less = λ Inv μ. Lts.Need-loop-less (Reads'.Asked, Reads'.Learnt) Reads.Pre Reads.Post Inv μ
+
+abbrev pub Need-loop-again : (Inv : InvT-loop) → (μ : MeasureT-loop) → Type 0
+Need-loop-again = λ Inv μ. Lts.Need-loop-again (Reads'.Asked, Reads'.Learnt) Reads.Pre Reads.Post Inv μ
+
+abbrev pub Need-returns-2 : (Inv : InvT-loop) → (μ : MeasureT-loop) → Type 0
+Need-returns-2 = λ Inv μ. Lts.Need-returns-2 (Reads'.Asked, Reads'.Learnt) Reads.Pre Reads.Post Inv μ
+
+module _ {M : Type 1} where
+  pub spec : (Inv : InvT-loop) → (μ : MeasureT-loop) → (answer : Need-loop-holds Inv μ) → (answer : Need-mul-text Inv μ) → (answer : Need-shared-slice-copy-out-text Inv μ) → (answer : Need-is-mark-requires Inv μ) → (answer : Need-returns Inv μ) → (answer : Need-add-i Inv μ) → (answer : Need-loop-less Inv μ) → (answer : Need-loop-again Inv μ) → (answer : Need-returns-2 Inv μ) → Lts.Closed (Reads'.Asked, Reads'.Learnt) Reads.Pre Reads.Post M
+  spec = λ Inv μ answer answer' answer'' answer'3 answer'4 answer'5 answer'6 answer'7 answer'8. Lts.spec (Reads'.Asked, Reads'.Learnt) Reads.Pre Reads.Post Inv μ answer answer' answer'' answer'3 answer'4 answer'5 answer'6 answer'7 answer'8
+
+  pub close : Lts.Closed (Reads'.Asked, Reads'.Learnt) Reads.Pre Reads.Post M → Statement.statement M
+  unfolding Code.routine Running.tablesOf
+  close = λ closed 𝓤 H 𝓜 𝓖 𝓡. Written.close 1 Kinds.ps Kinds.r Reads.Ghost Reads.requires Reads.ensures Reads.pre-read Reads.Pinned Reads.Owned Reads.post-read record { M = M; 𝓤 = 𝓤; H = H; 𝓜 = 𝓜; 𝓖 = 𝓖; 𝓡 = 𝓡 } Code.env Key.name Code.function (Code.unfolded 𝓤 H 𝓜 𝓡) (λ κs a g. tt) (λ κs. Reads.owns κs record { M = M; 𝓤 = 𝓤; H = H; 𝓜 = 𝓜; 𝓖 = 𝓖; 𝓡 = 𝓡 }) (Reads.passes record { M = M; 𝓤 = 𝓤; H = H; 𝓜 = 𝓜; 𝓖 = 𝓖; 𝓡 = 𝓡 }) λ g. closed 𝓤 H (𝓖 .A) (Running.givenOf 𝓤 H 𝓜 𝓖) (Run.Over 𝓤 H 𝓜 𝓖 𝓡 Code.env) (Reads'.known record { M = M; 𝓤 = 𝓤; H = H; 𝓜 = 𝓜; 𝓖 = 𝓖; 𝓡 = 𝓡 } Code.env Symbol.name Symbol.routine Code.calls-name-output·is-mark (Met.met 𝓤 H 𝓜 𝓖 𝓡))
