@@ -1,6 +1,6 @@
 -- Candidates for names: strings of the reply by their 16-bit BE length, whatever they stand in (01, Name scan).
 use mathlib.Core.Bool.{Bool, not, _&&_}
-use mathlib.Core.List.{List, [], _∷_}
+use mathlib.Core.List.{List, []}
 use Prim.Native.Nat.{ℕ, zero, suc, _+_, _-_}
 use lib.Dec.{eqb, ltb, leb}
 use lib.ListN.{length, take, drop}

@@ -8,7 +8,6 @@ use native.Mathlib.Omega.{arith}
 use lib.Dec.{eqb}
 use lib.ListN.{length}
 use mir.Val.{boolByte}
-use borrow.Author.Tests.{eqb-true, eqb-false, eq-eqb, ne-eqb}
 use Rattle.search.specs.Search.{pick, front}
 use Rattle.text.specs.declared.Text.{Text}
 use Rattle.text.specs.Text.{emptyText}

@@ -1,14 +1,13 @@
 -- Small replies, computed against the definition of the name scan.
 -- Assumes nothing.
 use mathlib.Core.Path.{_≡_, refl}
-use mathlib.Core.List.{List, [], _∷_, _++_}
+use mathlib.Core.List.{List, [], _∷_}
 use Prim.Native.Nat.{ℕ}
 use Rattle.search.specs.Walks.{keep, bestOf, best, chain}
 use Rattle.codepage.specs.Page.{page037, table037}
 use Rattle.codepage.specs.Blank.{isBlankIn}
 use Rattle.field.specs.Numbers.{number}
 use Rattle.field.specs.Strings.{stringEnd, stringsEnd, stringAt, chosen, pairAt}
-use Rattle.text.specs.declared.Text.{Text}
 use Rattle.text.specs.Chars.{isAscii, charOf}
 use Rattle.text.specs.Text.{textIs, leading, kept, placed, textOn}
 use Rattle.text.specs.Generated.{isGenerated}
@@ -19,9 +18,8 @@ use Rattle.identifier.specs.Identifier.{isIdentifier, isIdentifierAt}
 use Rattle.name_run.specs.Layout.{nameIn, hasOptions, isNamedLayout}
 use Rattle.name_run.specs.Run.{nameRunFrom, longestNameRun, namesOfRun}
 use Rattle.candidates.specs.Candidates.{sameText, isCandidate, isNearRepeat, isKept, candidatesIn, candidatesFrom, candidates}
-use Rattle.listing.specs.declared.Rule.the-variants.{Returning, BeforeFirst}
-use Rattle.listing.specs.Listing.{returns, isBefore, isListed, after, unlisted, listed, listedBy}
-use Rattle.names.specs.Names.{NameScan, refusedWith, chosenNames, columnNames, nameScan}
+use Rattle.listing.specs.Listing.{returns, isBefore, isListed, after, listed, listedBy}
+use Rattle.names.specs.Names.{refusedWith, chosenNames, columnNames, nameScan}
 
 -- to unfold this is to unfold the whole entry, for a proof that computes it
 unfoldable pub everything : Unit {0}
