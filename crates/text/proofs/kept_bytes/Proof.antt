@@ -25,20 +25,22 @@ loop-holds c = (omega arith, ap (kept (isBlankOf page037 (c .before .args .alpha
 
 returns : tie.Need-returns Inv-loop μ-loop
 returns c =
-    kept-stop (isBlankOf page037 (c .before .before .before .before .before .before .args .alphabet)) _ _ _ (c .before .before .before .before .loop .inv .1) (c .before .before .before .loop-test .taken)
+    kept-stop (isBlankOf page037 (c .before .before .before .before .before .before .args .alphabet)) _ _ _ (c .before .before .before .before .loop .inv .1) (omega (arith, c .before .before .before .loop-test .taken))
     (c .before .before .before .before .loop .inv .0)
     (sym (c .before .is-blank-in .ensures) ∙ not-true _ (c .if1 .taken))
 
 loop-again : tie.Need-loop-again Inv-loop μ-loop
 loop-again c = (
   omega arith,
-  kept-less (isBlankOf page037 (c .before .before .before .before .before .before .args .alphabet)) _ _ _ (c .before .before .before .before .loop .inv .1) (c .before .before .before .loop-test .taken)
+  kept-less (isBlankOf page037 (c .before .before .before .before .before .before .args .alphabet)) _ _ _ (c .before .before .before .before .loop .inv .1) (omega (arith, c .before .before .before .loop-test .taken))
       (c .before .before .before .before .loop .inv .0)
       (sym (c .before .is-blank-in .ensures) ∙ not-false _ (c .if1 .left)),
 )
 
 returns-2 : tie.Need-returns-2 Inv-loop μ-loop
-returns-2 c = kept-done (isBlankOf page037 (c .before .before .before .args .alphabet)) _ _ _ (c .before .loop .inv .1) (c .loop-test .left)
+returns-2 c =
+    kept-done (isBlankOf page037 (c .before .before .before .args .alphabet)) _ (c .before .loop .end) _ (c .before .loop .inv .1)
+    (omega (arith, c .loop-test .left))
 
 pub kept-bytes-spec : {M : Type 1} → statement M
 kept-bytes-spec =
