@@ -31,6 +31,7 @@ import re
 import shutil
 import subprocess
 import sys
+from concurrent.futures import ThreadPoolExecutor
 
 ROOT = os.path.dirname(os.path.dirname(os.path.abspath(__file__)))
 WORK = ROOT + '/target/lists'
@@ -422,7 +423,7 @@ class Crate:
 
     def derive(self, ready, called, everywhere):
         """The driver's derivations of the twins, in a repository of their own."""
-        repo, out = WORK + '/' + self.name, WORK + '/generated'
+        repo, out = WORK + '/' + self.name, WORK + '/generated/' + self.name
         imported = {x.split('::')[-1] for x in re.findall(r'^(?:pub )?use ([\w:]+);', self.everything, re.M)}
         constants = constants_of(self.alias, self.everything)
         write(repo + '/crates.txt', ''.join('%s: %s\n' % (c, ' '.join(self.needs[c])) for c in self.order))
@@ -448,15 +449,13 @@ class Crate:
         t = re.sub(r'^use %s\.(Lts[\w-]*|Tie)\b' % re.escape(at), r'use %s.Proof.\1' % at, t, flags=re.M)
         return ''.join('use %s.%s as %s\n' % (self.mine, row, row) for row, _, _ in self.rows if row + '.' in t) + t
 
-    def make_all(self):
+    def make_derivations(self):
         rounds = list(self.rounds())
         everywhere = set().union(*(called for _, called in rounds))
         for ready, called in rounds:
             folder, said = self.derive(ready, called, everywhere)
             for path in ready:
                 self.make_one(path, folder, said)
-        self.make_others()
-        self.make_modules()
 
     def make_one(self, path, folder, said):
         place = path.replace('.', '/')
@@ -542,8 +541,13 @@ def main():
     crates = [c for c in needs if os.path.exists('%s/crates/%s/lists.conf' % (ROOT, c))]
     if named:
         crates = [c for c in crates if any(c in reached(x, needs) for x in named)]
-    for c in crates:
-        Crate(c, needs, made).make_all()
+    parts = [Crate(c, needs, made) for c in crates]
+    # most of the time is the driver's: two crates at a time
+    with ThreadPoolExecutor(2) as pool:
+        list(pool.map(Crate.make_derivations, parts))
+    for part in parts:
+        part.make_others()
+        part.make_modules()
     made = laid_out(made)
     stale = [x for x in committed(crates) if x not in made]
     changed = [x for x in made if not os.path.exists(ROOT + '/' + x) or read(ROOT + '/' + x) != made[x]]
