@@ -87,7 +87,7 @@ abbrev pub r : Kinds.RK 3
 r = Num.rNum Syntax.w64
 
 abbrev pub xs : List.List Syntax.Ty
-xs = List._∷_ (ColumnMetadataRow.ty) (List._∷_ (Syntax.tyArray (ColumnMetadataRow.ty) 4096) (List._∷_ (Syntax.tyStruct (List._∷_ 115 (List._∷_ 113 (List._∷_ 108 (List._∷_ 100 (List._∷_ 97 (List._∷_ 114 (List._∷_ 100 (List._∷_ 58 (List._∷_ 58 (List._∷_ 83 (List._∷_ 113 (List._∷_ 108 (List._∷_ 100 (List._∷_ 97 (List._∷_ 114 (List._∷_ 100 (List._∷_ 65 (List._∷_ 110 (List._∷_ 115 (List._∷_ 119 (List._∷_ 101 (List._∷_ 114 List.[])))))))))))))))))))))) (Syntax.tcons (Syntax.tyEnum (List._∷_ 111 (List._∷_ 117 (List._∷_ 116 (List._∷_ 99 (List._∷_ 111 (List._∷_ 109 (List._∷_ 101 (List._∷_ 58 (List._∷_ 58 (List._∷_ 79 (List._∷_ 117 (List._∷_ 116 (List._∷_ 99 (List._∷_ 111 (List._∷_ 109 (List._∷_ 101 List.[])))))))))))))))) (Syntax.ttcons Syntax.tnil (Syntax.ttcons Syntax.tnil (Syntax.ttcons (Syntax.tcons (Syntax.tyInt Syntax.w64) (Syntax.tcons (Syntax.tyInt Syntax.w64) Syntax.tnil)) (Syntax.ttcons Syntax.tnil (Syntax.ttcons (Syntax.tcons (Syntax.tyInt Syntax.w16) Syntax.tnil) (Syntax.ttcons Syntax.tnil (Syntax.ttcons (Syntax.tcons (Syntax.tyInt Syntax.w64) Syntax.tnil) (Syntax.ttcons Syntax.tnil Syntax.ttnil))))))))) (Syntax.tcons (Syntax.tyStruct (List._∷_ 115 (List._∷_ 113 (List._∷_ 108 (List._∷_ 99 (List._∷_ 97 (List._∷_ 114 (List._∷_ 100 (List._∷_ 58 (List._∷_ 58 (List._∷_ 83 (List._∷_ 113 (List._∷_ 108 (List._∷_ 67 (List._∷_ 97 (List._∷_ 114 (List._∷_ 100 List.[])))))))))))))))) (Syntax.tcons Syntax.tyBool (Syntax.tcons (Syntax.tyInt Syntax.w32) (Syntax.tcons (Syntax.tyArray (Syntax.tyInt Syntax.w8) 5) (Syntax.tcons (Syntax.tyArray (Syntax.tyInt Syntax.w8) 8) (Syntax.tcons (Syntax.tyInt Syntax.w8) (Syntax.tcons (Syntax.tyArray (Syntax.tyInt Syntax.w32) 6) (Syntax.tcons (Syntax.tyInt Syntax.w64) (Syntax.tcons (Syntax.tyInt Syntax.w32) (Syntax.tcons (Syntax.tyArray (Syntax.tyInt Syntax.w8) 11) (Syntax.tcons (Syntax.tyInt Syntax.w64) (Syntax.tcons (Syntax.tyInt Syntax.w64) Syntax.tnil)))))))))))) (Syntax.tcons (Syntax.tyInt Syntax.w64) Syntax.tnil)))) (List._∷_ (Syntax.tyEnum (List._∷_ 111 (List._∷_ 117 (List._∷_ 116 (List._∷_ 99 (List._∷_ 111 (List._∷_ 109 (List._∷_ 101 (List._∷_ 58 (List._∷_ 58 (List._∷_ 79 (List._∷_ 117 (List._∷_ 116 (List._∷_ 99 (List._∷_ 111 (List._∷_ 109 (List._∷_ 101 List.[])))))))))))))))) (Syntax.ttcons Syntax.tnil (Syntax.ttcons Syntax.tnil (Syntax.ttcons (Syntax.tcons (Syntax.tyInt Syntax.w64) (Syntax.tcons (Syntax.tyInt Syntax.w64) Syntax.tnil)) (Syntax.ttcons Syntax.tnil (Syntax.ttcons (Syntax.tcons (Syntax.tyInt Syntax.w16) Syntax.tnil) (Syntax.ttcons Syntax.tnil (Syntax.ttcons (Syntax.tcons (Syntax.tyInt Syntax.w64) Syntax.tnil) (Syntax.ttcons Syntax.tnil Syntax.ttnil))))))))) (List._∷_ (Syntax.tyInt Syntax.w64) (List._∷_ (Syntax.tyStruct (List._∷_ 115 (List._∷_ 113 (List._∷_ 108 (List._∷_ 99 (List._∷_ 97 (List._∷_ 114 (List._∷_ 100 (List._∷_ 58 (List._∷_ 58 (List._∷_ 83 (List._∷_ 113 (List._∷_ 108 (List._∷_ 67 (List._∷_ 97 (List._∷_ 114 (List._∷_ 100 List.[])))))))))))))))) (Syntax.tcons Syntax.tyBool (Syntax.tcons (Syntax.tyInt Syntax.w32) (Syntax.tcons (Syntax.tyArray (Syntax.tyInt Syntax.w8) 5) (Syntax.tcons (Syntax.tyArray (Syntax.tyInt Syntax.w8) 8) (Syntax.tcons (Syntax.tyInt Syntax.w8) (Syntax.tcons (Syntax.tyArray (Syntax.tyInt Syntax.w32) 6) (Syntax.tcons (Syntax.tyInt Syntax.w64) (Syntax.tcons (Syntax.tyInt Syntax.w32) (Syntax.tcons (Syntax.tyArray (Syntax.tyInt Syntax.w8) 11) (Syntax.tcons (Syntax.tyInt Syntax.w64) (Syntax.tcons (Syntax.tyInt Syntax.w64) Syntax.tnil)))))))))))) (List._∷_ (Syntax.tyStruct (List._∷_ 116 (List._∷_ 97 (List._∷_ 98 (List._∷_ 108 (List._∷_ 101 (List._∷_ 95 (List._∷_ 111 (List._∷_ 117 (List._∷_ 116 (List._∷_ 112 (List._∷_ 117 (List._∷_ 116 (List._∷_ 58 (List._∷_ 58 (List._∷_ 114 (List._∷_ 111 (List._∷_ 119 (List._∷_ 115 (List._∷_ 58 (List._∷_ 58 (List._∷_ 87 (List._∷_ 105 (List._∷_ 100 (List._∷_ 116 (List._∷_ 104 (List._∷_ 115 List.[])))))))))))))))))))))))))) (Syntax.tcons (Syntax.tyInt Syntax.w64) (Syntax.tcons (Syntax.tyInt Syntax.w64) (Syntax.tcons (Syntax.tyInt Syntax.w64) (Syntax.tcons (Syntax.tyInt Syntax.w64) Syntax.tnil))))) (List._∷_ (Syntax.tyInt Syntax.w64) (List._∷_ (Syntax.tyRef Syntax.erased Syntax.mut (Syntax.tyArray ColumnMetadataRow.named 4096)) (List._∷_ (Syntax.tyStruct (List._∷_ 38 (List._∷_ 91 (List._∷_ 93 List.[]))) (Syntax.tcons (Syntax.tyRef Syntax.erased Syntax.mut ColumnMetadataRow.named) (Syntax.tcons (Syntax.tyInt Syntax.w64) Syntax.tnil))) (List._∷_ Syntax.tyBool (List._∷_ (Syntax.tyRef Syntax.erased Syntax.mut (Syntax.tyInt Syntax.w8)) (List._∷_ (Syntax.tyStruct (List._∷_ 38 (List._∷_ 91 (List._∷_ 93 List.[]))) (Syntax.tcons (Syntax.tyRef Syntax.erased Syntax.mut (Syntax.tyInt Syntax.w8)) (Syntax.tcons (Syntax.tyInt Syntax.w64) Syntax.tnil))) (List._∷_ (Syntax.tyRef Syntax.erased Syntax.imm (Syntax.tyArray ColumnMetadataRow.named 4096)) (List._∷_ (Syntax.tyStruct (List._∷_ 38 (List._∷_ 91 (List._∷_ 93 List.[]))) (Syntax.tcons (Syntax.tyRef Syntax.erased Syntax.imm ColumnMetadataRow.named) (Syntax.tcons (Syntax.tyInt Syntax.w64) Syntax.tnil))) (List._∷_ (Syntax.tyRef Syntax.erased Syntax.mut (Syntax.tyInt Syntax.w8)) (List._∷_ (Syntax.tyStruct (List._∷_ 38 (List._∷_ 91 (List._∷_ 93 List.[]))) (Syntax.tcons (Syntax.tyRef Syntax.erased Syntax.mut (Syntax.tyInt Syntax.w8)) (Syntax.tcons (Syntax.tyInt Syntax.w64) Syntax.tnil))) (List._∷_ (Syntax.tyRef Syntax.erased Syntax.mut (Syntax.tyInt Syntax.w8)) (List._∷_ (Syntax.tyStruct (List._∷_ 38 (List._∷_ 91 (List._∷_ 93 List.[]))) (Syntax.tcons (Syntax.tyRef Syntax.erased Syntax.mut (Syntax.tyInt Syntax.w8)) (Syntax.tcons (Syntax.tyInt Syntax.w64) Syntax.tnil))) (List._∷_ (Syntax.tyRef Syntax.erased Syntax.mut (Syntax.tyInt Syntax.w8)) (List._∷_ (Syntax.tyStruct (List._∷_ 38 (List._∷_ 91 (List._∷_ 93 List.[]))) (Syntax.tcons (Syntax.tyRef Syntax.erased Syntax.mut (Syntax.tyInt Syntax.w8)) (Syntax.tcons (Syntax.tyInt Syntax.w64) Syntax.tnil))) (List._∷_ (Syntax.tyRef Syntax.erased Syntax.imm (Syntax.tyArray ColumnMetadataRow.named 4096)) (List._∷_ (Syntax.tyStruct (List._∷_ 38 (List._∷_ 91 (List._∷_ 93 List.[]))) (Syntax.tcons (Syntax.tyRef Syntax.erased Syntax.imm ColumnMetadataRow.named) (Syntax.tcons (Syntax.tyInt Syntax.w64) Syntax.tnil))) List.[]))))))))))))))))))))))
+xs = List._∷_ (ColumnMetadataRow.ty) (List._∷_ (Syntax.tyArray (ColumnMetadataRow.ty) 4096) (List._∷_ (Syntax.tyStruct (List._∷_ 115 (List._∷_ 113 (List._∷_ 108 (List._∷_ 100 (List._∷_ 97 (List._∷_ 114 (List._∷_ 100 (List._∷_ 58 (List._∷_ 58 (List._∷_ 83 (List._∷_ 113 (List._∷_ 108 (List._∷_ 100 (List._∷_ 97 (List._∷_ 114 (List._∷_ 100 (List._∷_ 65 (List._∷_ 110 (List._∷_ 115 (List._∷_ 119 (List._∷_ 101 (List._∷_ 114 List.[])))))))))))))))))))))) (Syntax.tcons (Syntax.tyEnum (List._∷_ 111 (List._∷_ 117 (List._∷_ 116 (List._∷_ 99 (List._∷_ 111 (List._∷_ 109 (List._∷_ 101 (List._∷_ 58 (List._∷_ 58 (List._∷_ 79 (List._∷_ 117 (List._∷_ 116 (List._∷_ 99 (List._∷_ 111 (List._∷_ 109 (List._∷_ 101 List.[])))))))))))))))) (Syntax.ttcons Syntax.tnil (Syntax.ttcons Syntax.tnil (Syntax.ttcons (Syntax.tcons (Syntax.tyInt Syntax.w64) (Syntax.tcons (Syntax.tyInt Syntax.w64) Syntax.tnil)) (Syntax.ttcons Syntax.tnil (Syntax.ttcons (Syntax.tcons (Syntax.tyInt Syntax.w16) Syntax.tnil) (Syntax.ttcons Syntax.tnil (Syntax.ttcons (Syntax.tcons (Syntax.tyInt Syntax.w64) Syntax.tnil) (Syntax.ttcons Syntax.tnil (Syntax.ttcons (Syntax.tcons (Syntax.tyInt Syntax.w16) Syntax.tnil) Syntax.ttnil)))))))))) (Syntax.tcons (Syntax.tyStruct (List._∷_ 115 (List._∷_ 113 (List._∷_ 108 (List._∷_ 99 (List._∷_ 97 (List._∷_ 114 (List._∷_ 100 (List._∷_ 58 (List._∷_ 58 (List._∷_ 83 (List._∷_ 113 (List._∷_ 108 (List._∷_ 67 (List._∷_ 97 (List._∷_ 114 (List._∷_ 100 List.[])))))))))))))))) (Syntax.tcons Syntax.tyBool (Syntax.tcons (Syntax.tyInt Syntax.w32) (Syntax.tcons (Syntax.tyArray (Syntax.tyInt Syntax.w8) 5) (Syntax.tcons (Syntax.tyArray (Syntax.tyInt Syntax.w8) 8) (Syntax.tcons (Syntax.tyInt Syntax.w8) (Syntax.tcons (Syntax.tyArray (Syntax.tyInt Syntax.w32) 6) (Syntax.tcons (Syntax.tyInt Syntax.w64) (Syntax.tcons (Syntax.tyInt Syntax.w32) (Syntax.tcons (Syntax.tyArray (Syntax.tyInt Syntax.w8) 11) (Syntax.tcons (Syntax.tyInt Syntax.w64) (Syntax.tcons (Syntax.tyInt Syntax.w64) Syntax.tnil)))))))))))) (Syntax.tcons (Syntax.tyInt Syntax.w64) Syntax.tnil)))) (List._∷_ (Syntax.tyEnum (List._∷_ 111 (List._∷_ 117 (List._∷_ 116 (List._∷_ 99 (List._∷_ 111 (List._∷_ 109 (List._∷_ 101 (List._∷_ 58 (List._∷_ 58 (List._∷_ 79 (List._∷_ 117 (List._∷_ 116 (List._∷_ 99 (List._∷_ 111 (List._∷_ 109 (List._∷_ 101 List.[])))))))))))))))) (Syntax.ttcons Syntax.tnil (Syntax.ttcons Syntax.tnil (Syntax.ttcons (Syntax.tcons (Syntax.tyInt Syntax.w64) (Syntax.tcons (Syntax.tyInt Syntax.w64) Syntax.tnil)) (Syntax.ttcons Syntax.tnil (Syntax.ttcons (Syntax.tcons (Syntax.tyInt Syntax.w16) Syntax.tnil) (Syntax.ttcons Syntax.tnil (Syntax.ttcons (Syntax.tcons (Syntax.tyInt Syntax.w64) Syntax.tnil) (Syntax.ttcons Syntax.tnil (Syntax.ttcons (Syntax.tcons (Syntax.tyInt Syntax.w16) Syntax.tnil) Syntax.ttnil)))))))))) (List._∷_ (Syntax.tyInt Syntax.w64) (List._∷_ (Syntax.tyStruct (List._∷_ 115 (List._∷_ 113 (List._∷_ 108 (List._∷_ 99 (List._∷_ 97 (List._∷_ 114 (List._∷_ 100 (List._∷_ 58 (List._∷_ 58 (List._∷_ 83 (List._∷_ 113 (List._∷_ 108 (List._∷_ 67 (List._∷_ 97 (List._∷_ 114 (List._∷_ 100 List.[])))))))))))))))) (Syntax.tcons Syntax.tyBool (Syntax.tcons (Syntax.tyInt Syntax.w32) (Syntax.tcons (Syntax.tyArray (Syntax.tyInt Syntax.w8) 5) (Syntax.tcons (Syntax.tyArray (Syntax.tyInt Syntax.w8) 8) (Syntax.tcons (Syntax.tyInt Syntax.w8) (Syntax.tcons (Syntax.tyArray (Syntax.tyInt Syntax.w32) 6) (Syntax.tcons (Syntax.tyInt Syntax.w64) (Syntax.tcons (Syntax.tyInt Syntax.w32) (Syntax.tcons (Syntax.tyArray (Syntax.tyInt Syntax.w8) 11) (Syntax.tcons (Syntax.tyInt Syntax.w64) (Syntax.tcons (Syntax.tyInt Syntax.w64) Syntax.tnil)))))))))))) (List._∷_ (Syntax.tyStruct (List._∷_ 116 (List._∷_ 97 (List._∷_ 98 (List._∷_ 108 (List._∷_ 101 (List._∷_ 95 (List._∷_ 111 (List._∷_ 117 (List._∷_ 116 (List._∷_ 112 (List._∷_ 117 (List._∷_ 116 (List._∷_ 58 (List._∷_ 58 (List._∷_ 114 (List._∷_ 111 (List._∷_ 119 (List._∷_ 115 (List._∷_ 58 (List._∷_ 58 (List._∷_ 87 (List._∷_ 105 (List._∷_ 100 (List._∷_ 116 (List._∷_ 104 (List._∷_ 115 List.[])))))))))))))))))))))))))) (Syntax.tcons (Syntax.tyInt Syntax.w64) (Syntax.tcons (Syntax.tyInt Syntax.w64) (Syntax.tcons (Syntax.tyInt Syntax.w64) (Syntax.tcons (Syntax.tyInt Syntax.w64) Syntax.tnil))))) (List._∷_ (Syntax.tyInt Syntax.w64) (List._∷_ (Syntax.tyRef Syntax.erased Syntax.mut (Syntax.tyArray ColumnMetadataRow.named 4096)) (List._∷_ (Syntax.tyStruct (List._∷_ 38 (List._∷_ 91 (List._∷_ 93 List.[]))) (Syntax.tcons (Syntax.tyRef Syntax.erased Syntax.mut ColumnMetadataRow.named) (Syntax.tcons (Syntax.tyInt Syntax.w64) Syntax.tnil))) (List._∷_ Syntax.tyBool (List._∷_ (Syntax.tyRef Syntax.erased Syntax.mut (Syntax.tyInt Syntax.w8)) (List._∷_ (Syntax.tyStruct (List._∷_ 38 (List._∷_ 91 (List._∷_ 93 List.[]))) (Syntax.tcons (Syntax.tyRef Syntax.erased Syntax.mut (Syntax.tyInt Syntax.w8)) (Syntax.tcons (Syntax.tyInt Syntax.w64) Syntax.tnil))) (List._∷_ (Syntax.tyRef Syntax.erased Syntax.imm (Syntax.tyArray ColumnMetadataRow.named 4096)) (List._∷_ (Syntax.tyStruct (List._∷_ 38 (List._∷_ 91 (List._∷_ 93 List.[]))) (Syntax.tcons (Syntax.tyRef Syntax.erased Syntax.imm ColumnMetadataRow.named) (Syntax.tcons (Syntax.tyInt Syntax.w64) Syntax.tnil))) (List._∷_ (Syntax.tyRef Syntax.erased Syntax.mut (Syntax.tyInt Syntax.w8)) (List._∷_ (Syntax.tyStruct (List._∷_ 38 (List._∷_ 91 (List._∷_ 93 List.[]))) (Syntax.tcons (Syntax.tyRef Syntax.erased Syntax.mut (Syntax.tyInt Syntax.w8)) (Syntax.tcons (Syntax.tyInt Syntax.w64) Syntax.tnil))) (List._∷_ (Syntax.tyRef Syntax.erased Syntax.mut (Syntax.tyInt Syntax.w8)) (List._∷_ (Syntax.tyStruct (List._∷_ 38 (List._∷_ 91 (List._∷_ 93 List.[]))) (Syntax.tcons (Syntax.tyRef Syntax.erased Syntax.mut (Syntax.tyInt Syntax.w8)) (Syntax.tcons (Syntax.tyInt Syntax.w64) Syntax.tnil))) (List._∷_ (Syntax.tyRef Syntax.erased Syntax.mut (Syntax.tyInt Syntax.w8)) (List._∷_ (Syntax.tyStruct (List._∷_ 38 (List._∷_ 91 (List._∷_ 93 List.[]))) (Syntax.tcons (Syntax.tyRef Syntax.erased Syntax.mut (Syntax.tyInt Syntax.w8)) (Syntax.tcons (Syntax.tyInt Syntax.w64) Syntax.tnil))) (List._∷_ (Syntax.tyRef Syntax.erased Syntax.imm (Syntax.tyArray ColumnMetadataRow.named 4096)) (List._∷_ (Syntax.tyStruct (List._∷_ 38 (List._∷_ 91 (List._∷_ 93 List.[]))) (Syntax.tcons (Syntax.tyRef Syntax.erased Syntax.imm ColumnMetadataRow.named) (Syntax.tcons (Syntax.tyInt Syntax.w64) Syntax.tnil))) List.[]))))))))))))))))))))))
 
 abbrev pub m : Nat.ℕ
 m = 7
@@ -309,37 +309,37 @@ abbrev pub Claims : Type 1
 Claims = Kinds.In 0 ps·0 × Kinds.Out 0 ps·0 r·0 × Kinds.In 2 ps·1 × Kinds.Out 2 ps·1 r·1 × Kinds.In 0 ps·2 × Kinds.Out 0 ps·2 r·2 × Kinds.In 1 ps·3 × Kinds.Out 1 ps·3 r·3 × Kinds.In 1 ps·4 × Kinds.Out 1 ps·4 r·4 × Kinds.In 3 ps·5 × Kinds.Out 3 ps·5 r·5 × Kinds.In 3 ps·6 × Kinds.Out 3 ps·6 r·6
 
 abbrev pub t0 : List.List Row.Entry
-t0 = List._∷_ (0, Rows'.any-gone (Syntax.tyInt Syntax.w64)) (List._∷_ (1, Mut.mslice (Referent.rtF (Referent.fInt Syntax.w8)) (Syntax.tyRef (Syntax.named 0) Syntax.mut (Syntax.tyInt Syntax.w8)) 0) (List._∷_ (2, Rows'.sc-here (Row.sInt Syntax.w64)) (List._∷_ (3, Rows'.sslice (Referent.rtF (Referent.fInt Syntax.w8)) (Syntax.tyRef (Syntax.named 1) Syntax.imm (Syntax.tyInt Syntax.w8)) 1) (List._∷_ (4, Mut.mslice (Referent.rtF (Referent.fInt Syntax.w8)) (Syntax.tyRef (Syntax.named 2) Syntax.mut (Syntax.tyInt Syntax.w8)) 2) (List._∷_ (5, Rows'.any-gone (ColumnMetadataRow.ty)) (List._∷_ (6, Rows'.any-gone (Syntax.tyArray (ColumnMetadataRow.ty) 4096)) (List._∷_ (7, Rows'.any-gone (Syntax.tyStruct (List._∷_ 115 (List._∷_ 113 (List._∷_ 108 (List._∷_ 100 (List._∷_ 97 (List._∷_ 114 (List._∷_ 100 (List._∷_ 58 (List._∷_ 58 (List._∷_ 83 (List._∷_ 113 (List._∷_ 108 (List._∷_ 100 (List._∷_ 97 (List._∷_ 114 (List._∷_ 100 (List._∷_ 65 (List._∷_ 110 (List._∷_ 115 (List._∷_ 119 (List._∷_ 101 (List._∷_ 114 List.[])))))))))))))))))))))) (Syntax.tcons (Syntax.tyEnum (List._∷_ 111 (List._∷_ 117 (List._∷_ 116 (List._∷_ 99 (List._∷_ 111 (List._∷_ 109 (List._∷_ 101 (List._∷_ 58 (List._∷_ 58 (List._∷_ 79 (List._∷_ 117 (List._∷_ 116 (List._∷_ 99 (List._∷_ 111 (List._∷_ 109 (List._∷_ 101 List.[])))))))))))))))) (Syntax.ttcons Syntax.tnil (Syntax.ttcons Syntax.tnil (Syntax.ttcons (Syntax.tcons (Syntax.tyInt Syntax.w64) (Syntax.tcons (Syntax.tyInt Syntax.w64) Syntax.tnil)) (Syntax.ttcons Syntax.tnil (Syntax.ttcons (Syntax.tcons (Syntax.tyInt Syntax.w16) Syntax.tnil) (Syntax.ttcons Syntax.tnil (Syntax.ttcons (Syntax.tcons (Syntax.tyInt Syntax.w64) Syntax.tnil) (Syntax.ttcons Syntax.tnil Syntax.ttnil))))))))) (Syntax.tcons (Syntax.tyStruct (List._∷_ 115 (List._∷_ 113 (List._∷_ 108 (List._∷_ 99 (List._∷_ 97 (List._∷_ 114 (List._∷_ 100 (List._∷_ 58 (List._∷_ 58 (List._∷_ 83 (List._∷_ 113 (List._∷_ 108 (List._∷_ 67 (List._∷_ 97 (List._∷_ 114 (List._∷_ 100 List.[])))))))))))))))) (Syntax.tcons Syntax.tyBool (Syntax.tcons (Syntax.tyInt Syntax.w32) (Syntax.tcons (Syntax.tyArray (Syntax.tyInt Syntax.w8) 5) (Syntax.tcons (Syntax.tyArray (Syntax.tyInt Syntax.w8) 8) (Syntax.tcons (Syntax.tyInt Syntax.w8) (Syntax.tcons (Syntax.tyArray (Syntax.tyInt Syntax.w32) 6) (Syntax.tcons (Syntax.tyInt Syntax.w64) (Syntax.tcons (Syntax.tyInt Syntax.w32) (Syntax.tcons (Syntax.tyArray (Syntax.tyInt Syntax.w8) 11) (Syntax.tcons (Syntax.tyInt Syntax.w64) (Syntax.tcons (Syntax.tyInt Syntax.w64) Syntax.tnil)))))))))))) (Syntax.tcons (Syntax.tyInt Syntax.w64) Syntax.tnil))))) (List._∷_ (8, Rows'.any-gone (Syntax.tyEnum (List._∷_ 111 (List._∷_ 117 (List._∷_ 116 (List._∷_ 99 (List._∷_ 111 (List._∷_ 109 (List._∷_ 101 (List._∷_ 58 (List._∷_ 58 (List._∷_ 79 (List._∷_ 117 (List._∷_ 116 (List._∷_ 99 (List._∷_ 111 (List._∷_ 109 (List._∷_ 101 List.[])))))))))))))))) (Syntax.ttcons Syntax.tnil (Syntax.ttcons Syntax.tnil (Syntax.ttcons (Syntax.tcons (Syntax.tyInt Syntax.w64) (Syntax.tcons (Syntax.tyInt Syntax.w64) Syntax.tnil)) (Syntax.ttcons Syntax.tnil (Syntax.ttcons (Syntax.tcons (Syntax.tyInt Syntax.w16) Syntax.tnil) (Syntax.ttcons Syntax.tnil (Syntax.ttcons (Syntax.tcons (Syntax.tyInt Syntax.w64) Syntax.tnil) (Syntax.ttcons Syntax.tnil Syntax.ttnil)))))))))) (List._∷_ (9, Rows'.any-gone (Syntax.tyInt Syntax.w64)) (List._∷_ (10, Rows'.any-gone (Syntax.tyStruct (List._∷_ 115 (List._∷_ 113 (List._∷_ 108 (List._∷_ 99 (List._∷_ 97 (List._∷_ 114 (List._∷_ 100 (List._∷_ 58 (List._∷_ 58 (List._∷_ 83 (List._∷_ 113 (List._∷_ 108 (List._∷_ 67 (List._∷_ 97 (List._∷_ 114 (List._∷_ 100 List.[])))))))))))))))) (Syntax.tcons Syntax.tyBool (Syntax.tcons (Syntax.tyInt Syntax.w32) (Syntax.tcons (Syntax.tyArray (Syntax.tyInt Syntax.w8) 5) (Syntax.tcons (Syntax.tyArray (Syntax.tyInt Syntax.w8) 8) (Syntax.tcons (Syntax.tyInt Syntax.w8) (Syntax.tcons (Syntax.tyArray (Syntax.tyInt Syntax.w32) 6) (Syntax.tcons (Syntax.tyInt Syntax.w64) (Syntax.tcons (Syntax.tyInt Syntax.w32) (Syntax.tcons (Syntax.tyArray (Syntax.tyInt Syntax.w8) 11) (Syntax.tcons (Syntax.tyInt Syntax.w64) (Syntax.tcons (Syntax.tyInt Syntax.w64) Syntax.tnil))))))))))))) (List._∷_ (11, Rows'.any-gone (Syntax.tyStruct (List._∷_ 116 (List._∷_ 97 (List._∷_ 98 (List._∷_ 108 (List._∷_ 101 (List._∷_ 95 (List._∷_ 111 (List._∷_ 117 (List._∷_ 116 (List._∷_ 112 (List._∷_ 117 (List._∷_ 116 (List._∷_ 58 (List._∷_ 58 (List._∷_ 114 (List._∷_ 111 (List._∷_ 119 (List._∷_ 115 (List._∷_ 58 (List._∷_ 58 (List._∷_ 87 (List._∷_ 105 (List._∷_ 100 (List._∷_ 116 (List._∷_ 104 (List._∷_ 115 List.[])))))))))))))))))))))))))) (Syntax.tcons (Syntax.tyInt Syntax.w64) (Syntax.tcons (Syntax.tyInt Syntax.w64) (Syntax.tcons (Syntax.tyInt Syntax.w64) (Syntax.tcons (Syntax.tyInt Syntax.w64) Syntax.tnil)))))) (List._∷_ (12, Rows'.any-gone (Syntax.tyInt Syntax.w64)) (List._∷_ (13, Rows'.any-gone (Syntax.tyRef Syntax.erased Syntax.mut (Syntax.tyArray ColumnMetadataRow.named 4096))) (List._∷_ (14, Rows'.any-gone (Syntax.tyStruct (List._∷_ 38 (List._∷_ 91 (List._∷_ 93 List.[]))) (Syntax.tcons (Syntax.tyRef Syntax.erased Syntax.mut ColumnMetadataRow.named) (Syntax.tcons (Syntax.tyInt Syntax.w64) Syntax.tnil)))) (List._∷_ (15, Rows'.any-gone Syntax.tyBool) List.[])))))))))))))))
+t0 = List._∷_ (0, Rows'.any-gone (Syntax.tyInt Syntax.w64)) (List._∷_ (1, Mut.mslice (Referent.rtF (Referent.fInt Syntax.w8)) (Syntax.tyRef (Syntax.named 0) Syntax.mut (Syntax.tyInt Syntax.w8)) 0) (List._∷_ (2, Rows'.sc-here (Row.sInt Syntax.w64)) (List._∷_ (3, Rows'.sslice (Referent.rtF (Referent.fInt Syntax.w8)) (Syntax.tyRef (Syntax.named 1) Syntax.imm (Syntax.tyInt Syntax.w8)) 1) (List._∷_ (4, Mut.mslice (Referent.rtF (Referent.fInt Syntax.w8)) (Syntax.tyRef (Syntax.named 2) Syntax.mut (Syntax.tyInt Syntax.w8)) 2) (List._∷_ (5, Rows'.any-gone (ColumnMetadataRow.ty)) (List._∷_ (6, Rows'.any-gone (Syntax.tyArray (ColumnMetadataRow.ty) 4096)) (List._∷_ (7, Rows'.any-gone (Syntax.tyStruct (List._∷_ 115 (List._∷_ 113 (List._∷_ 108 (List._∷_ 100 (List._∷_ 97 (List._∷_ 114 (List._∷_ 100 (List._∷_ 58 (List._∷_ 58 (List._∷_ 83 (List._∷_ 113 (List._∷_ 108 (List._∷_ 100 (List._∷_ 97 (List._∷_ 114 (List._∷_ 100 (List._∷_ 65 (List._∷_ 110 (List._∷_ 115 (List._∷_ 119 (List._∷_ 101 (List._∷_ 114 List.[])))))))))))))))))))))) (Syntax.tcons (Syntax.tyEnum (List._∷_ 111 (List._∷_ 117 (List._∷_ 116 (List._∷_ 99 (List._∷_ 111 (List._∷_ 109 (List._∷_ 101 (List._∷_ 58 (List._∷_ 58 (List._∷_ 79 (List._∷_ 117 (List._∷_ 116 (List._∷_ 99 (List._∷_ 111 (List._∷_ 109 (List._∷_ 101 List.[])))))))))))))))) (Syntax.ttcons Syntax.tnil (Syntax.ttcons Syntax.tnil (Syntax.ttcons (Syntax.tcons (Syntax.tyInt Syntax.w64) (Syntax.tcons (Syntax.tyInt Syntax.w64) Syntax.tnil)) (Syntax.ttcons Syntax.tnil (Syntax.ttcons (Syntax.tcons (Syntax.tyInt Syntax.w16) Syntax.tnil) (Syntax.ttcons Syntax.tnil (Syntax.ttcons (Syntax.tcons (Syntax.tyInt Syntax.w64) Syntax.tnil) (Syntax.ttcons Syntax.tnil (Syntax.ttcons (Syntax.tcons (Syntax.tyInt Syntax.w16) Syntax.tnil) Syntax.ttnil)))))))))) (Syntax.tcons (Syntax.tyStruct (List._∷_ 115 (List._∷_ 113 (List._∷_ 108 (List._∷_ 99 (List._∷_ 97 (List._∷_ 114 (List._∷_ 100 (List._∷_ 58 (List._∷_ 58 (List._∷_ 83 (List._∷_ 113 (List._∷_ 108 (List._∷_ 67 (List._∷_ 97 (List._∷_ 114 (List._∷_ 100 List.[])))))))))))))))) (Syntax.tcons Syntax.tyBool (Syntax.tcons (Syntax.tyInt Syntax.w32) (Syntax.tcons (Syntax.tyArray (Syntax.tyInt Syntax.w8) 5) (Syntax.tcons (Syntax.tyArray (Syntax.tyInt Syntax.w8) 8) (Syntax.tcons (Syntax.tyInt Syntax.w8) (Syntax.tcons (Syntax.tyArray (Syntax.tyInt Syntax.w32) 6) (Syntax.tcons (Syntax.tyInt Syntax.w64) (Syntax.tcons (Syntax.tyInt Syntax.w32) (Syntax.tcons (Syntax.tyArray (Syntax.tyInt Syntax.w8) 11) (Syntax.tcons (Syntax.tyInt Syntax.w64) (Syntax.tcons (Syntax.tyInt Syntax.w64) Syntax.tnil)))))))))))) (Syntax.tcons (Syntax.tyInt Syntax.w64) Syntax.tnil))))) (List._∷_ (8, Rows'.any-gone (Syntax.tyEnum (List._∷_ 111 (List._∷_ 117 (List._∷_ 116 (List._∷_ 99 (List._∷_ 111 (List._∷_ 109 (List._∷_ 101 (List._∷_ 58 (List._∷_ 58 (List._∷_ 79 (List._∷_ 117 (List._∷_ 116 (List._∷_ 99 (List._∷_ 111 (List._∷_ 109 (List._∷_ 101 List.[])))))))))))))))) (Syntax.ttcons Syntax.tnil (Syntax.ttcons Syntax.tnil (Syntax.ttcons (Syntax.tcons (Syntax.tyInt Syntax.w64) (Syntax.tcons (Syntax.tyInt Syntax.w64) Syntax.tnil)) (Syntax.ttcons Syntax.tnil (Syntax.ttcons (Syntax.tcons (Syntax.tyInt Syntax.w16) Syntax.tnil) (Syntax.ttcons Syntax.tnil (Syntax.ttcons (Syntax.tcons (Syntax.tyInt Syntax.w64) Syntax.tnil) (Syntax.ttcons Syntax.tnil (Syntax.ttcons (Syntax.tcons (Syntax.tyInt Syntax.w16) Syntax.tnil) Syntax.ttnil))))))))))) (List._∷_ (9, Rows'.any-gone (Syntax.tyInt Syntax.w64)) (List._∷_ (10, Rows'.any-gone (Syntax.tyStruct (List._∷_ 115 (List._∷_ 113 (List._∷_ 108 (List._∷_ 99 (List._∷_ 97 (List._∷_ 114 (List._∷_ 100 (List._∷_ 58 (List._∷_ 58 (List._∷_ 83 (List._∷_ 113 (List._∷_ 108 (List._∷_ 67 (List._∷_ 97 (List._∷_ 114 (List._∷_ 100 List.[])))))))))))))))) (Syntax.tcons Syntax.tyBool (Syntax.tcons (Syntax.tyInt Syntax.w32) (Syntax.tcons (Syntax.tyArray (Syntax.tyInt Syntax.w8) 5) (Syntax.tcons (Syntax.tyArray (Syntax.tyInt Syntax.w8) 8) (Syntax.tcons (Syntax.tyInt Syntax.w8) (Syntax.tcons (Syntax.tyArray (Syntax.tyInt Syntax.w32) 6) (Syntax.tcons (Syntax.tyInt Syntax.w64) (Syntax.tcons (Syntax.tyInt Syntax.w32) (Syntax.tcons (Syntax.tyArray (Syntax.tyInt Syntax.w8) 11) (Syntax.tcons (Syntax.tyInt Syntax.w64) (Syntax.tcons (Syntax.tyInt Syntax.w64) Syntax.tnil))))))))))))) (List._∷_ (11, Rows'.any-gone (Syntax.tyStruct (List._∷_ 116 (List._∷_ 97 (List._∷_ 98 (List._∷_ 108 (List._∷_ 101 (List._∷_ 95 (List._∷_ 111 (List._∷_ 117 (List._∷_ 116 (List._∷_ 112 (List._∷_ 117 (List._∷_ 116 (List._∷_ 58 (List._∷_ 58 (List._∷_ 114 (List._∷_ 111 (List._∷_ 119 (List._∷_ 115 (List._∷_ 58 (List._∷_ 58 (List._∷_ 87 (List._∷_ 105 (List._∷_ 100 (List._∷_ 116 (List._∷_ 104 (List._∷_ 115 List.[])))))))))))))))))))))))))) (Syntax.tcons (Syntax.tyInt Syntax.w64) (Syntax.tcons (Syntax.tyInt Syntax.w64) (Syntax.tcons (Syntax.tyInt Syntax.w64) (Syntax.tcons (Syntax.tyInt Syntax.w64) Syntax.tnil)))))) (List._∷_ (12, Rows'.any-gone (Syntax.tyInt Syntax.w64)) (List._∷_ (13, Rows'.any-gone (Syntax.tyRef Syntax.erased Syntax.mut (Syntax.tyArray ColumnMetadataRow.named 4096))) (List._∷_ (14, Rows'.any-gone (Syntax.tyStruct (List._∷_ 38 (List._∷_ 91 (List._∷_ 93 List.[]))) (Syntax.tcons (Syntax.tyRef Syntax.erased Syntax.mut ColumnMetadataRow.named) (Syntax.tcons (Syntax.tyInt Syntax.w64) Syntax.tnil)))) (List._∷_ (15, Rows'.any-gone Syntax.tyBool) List.[])))))))))))))))
 
 abbrev pub t1 : List.List Row.Entry
 t1 = List._∷_ (16, Rows'.any-gone (Syntax.tyRef Syntax.erased Syntax.mut (Syntax.tyInt Syntax.w8))) (List._∷_ (17, Rows'.any-gone (Syntax.tyStruct (List._∷_ 38 (List._∷_ 91 (List._∷_ 93 List.[]))) (Syntax.tcons (Syntax.tyRef Syntax.erased Syntax.mut (Syntax.tyInt Syntax.w8)) (Syntax.tcons (Syntax.tyInt Syntax.w64) Syntax.tnil)))) (List._∷_ (18, Rows'.any-gone (Syntax.tyRef Syntax.erased Syntax.imm (Syntax.tyArray ColumnMetadataRow.named 4096))) (List._∷_ (19, Rows'.any-gone (Syntax.tyStruct (List._∷_ 38 (List._∷_ 91 (List._∷_ 93 List.[]))) (Syntax.tcons (Syntax.tyRef Syntax.erased Syntax.imm ColumnMetadataRow.named) (Syntax.tcons (Syntax.tyInt Syntax.w64) Syntax.tnil)))) (List._∷_ (20, Rows'.any-gone (Syntax.tyRef Syntax.erased Syntax.mut (Syntax.tyInt Syntax.w8))) (List._∷_ (21, Rows'.any-gone (Syntax.tyStruct (List._∷_ 38 (List._∷_ 91 (List._∷_ 93 List.[]))) (Syntax.tcons (Syntax.tyRef Syntax.erased Syntax.mut (Syntax.tyInt Syntax.w8)) (Syntax.tcons (Syntax.tyInt Syntax.w64) Syntax.tnil)))) (List._∷_ (22, Rows'.any-gone (Syntax.tyRef Syntax.erased Syntax.mut (Syntax.tyInt Syntax.w8))) (List._∷_ (23, Rows'.any-gone (Syntax.tyStruct (List._∷_ 38 (List._∷_ 91 (List._∷_ 93 List.[]))) (Syntax.tcons (Syntax.tyRef Syntax.erased Syntax.mut (Syntax.tyInt Syntax.w8)) (Syntax.tcons (Syntax.tyInt Syntax.w64) Syntax.tnil)))) (List._∷_ (24, Rows'.any-gone (Syntax.tyRef Syntax.erased Syntax.mut (Syntax.tyInt Syntax.w8))) (List._∷_ (25, Rows'.any-gone (Syntax.tyStruct (List._∷_ 38 (List._∷_ 91 (List._∷_ 93 List.[]))) (Syntax.tcons (Syntax.tyRef Syntax.erased Syntax.mut (Syntax.tyInt Syntax.w8)) (Syntax.tcons (Syntax.tyInt Syntax.w64) Syntax.tnil)))) (List._∷_ (26, Rows'.any-gone (Syntax.tyRef Syntax.erased Syntax.imm (Syntax.tyArray ColumnMetadataRow.named 4096))) (List._∷_ (27, Rows'.any-gone (Syntax.tyStruct (List._∷_ 38 (List._∷_ 91 (List._∷_ 93 List.[]))) (Syntax.tcons (Syntax.tyRef Syntax.erased Syntax.imm ColumnMetadataRow.named) (Syntax.tcons (Syntax.tyInt Syntax.w64) Syntax.tnil)))) List.[])))))))))))
 
 abbrev pub t2 : List.List Row.Entry
-t2 = List._∷_ (0, Rows'.sc-here (Row.sInt Syntax.w64)) (List._∷_ (1, Mut.mslice (Referent.rtF (Referent.fInt Syntax.w8)) (Syntax.tyRef (Syntax.named 0) Syntax.mut (Syntax.tyInt Syntax.w8)) 0) (List._∷_ (2, Rows'.any-gone (Syntax.tyInt Syntax.w64)) (List._∷_ (3, Rows'.sslice (Referent.rtF (Referent.fInt Syntax.w8)) (Syntax.tyRef (Syntax.named 1) Syntax.imm (Syntax.tyInt Syntax.w8)) 1) (List._∷_ (4, Mut.mslice (Referent.rtF (Referent.fInt Syntax.w8)) (Syntax.tyRef (Syntax.named 2) Syntax.mut (Syntax.tyInt Syntax.w8)) 2) (List._∷_ (5, Rows'.any-gone (ColumnMetadataRow.ty)) (List._∷_ (6, Rows'.any-gone (Syntax.tyArray (ColumnMetadataRow.ty) 4096)) (List._∷_ (7, Rows'.any-gone (Syntax.tyStruct (List._∷_ 115 (List._∷_ 113 (List._∷_ 108 (List._∷_ 100 (List._∷_ 97 (List._∷_ 114 (List._∷_ 100 (List._∷_ 58 (List._∷_ 58 (List._∷_ 83 (List._∷_ 113 (List._∷_ 108 (List._∷_ 100 (List._∷_ 97 (List._∷_ 114 (List._∷_ 100 (List._∷_ 65 (List._∷_ 110 (List._∷_ 115 (List._∷_ 119 (List._∷_ 101 (List._∷_ 114 List.[])))))))))))))))))))))) (Syntax.tcons (Syntax.tyEnum (List._∷_ 111 (List._∷_ 117 (List._∷_ 116 (List._∷_ 99 (List._∷_ 111 (List._∷_ 109 (List._∷_ 101 (List._∷_ 58 (List._∷_ 58 (List._∷_ 79 (List._∷_ 117 (List._∷_ 116 (List._∷_ 99 (List._∷_ 111 (List._∷_ 109 (List._∷_ 101 List.[])))))))))))))))) (Syntax.ttcons Syntax.tnil (Syntax.ttcons Syntax.tnil (Syntax.ttcons (Syntax.tcons (Syntax.tyInt Syntax.w64) (Syntax.tcons (Syntax.tyInt Syntax.w64) Syntax.tnil)) (Syntax.ttcons Syntax.tnil (Syntax.ttcons (Syntax.tcons (Syntax.tyInt Syntax.w16) Syntax.tnil) (Syntax.ttcons Syntax.tnil (Syntax.ttcons (Syntax.tcons (Syntax.tyInt Syntax.w64) Syntax.tnil) (Syntax.ttcons Syntax.tnil Syntax.ttnil))))))))) (Syntax.tcons (Syntax.tyStruct (List._∷_ 115 (List._∷_ 113 (List._∷_ 108 (List._∷_ 99 (List._∷_ 97 (List._∷_ 114 (List._∷_ 100 (List._∷_ 58 (List._∷_ 58 (List._∷_ 83 (List._∷_ 113 (List._∷_ 108 (List._∷_ 67 (List._∷_ 97 (List._∷_ 114 (List._∷_ 100 List.[])))))))))))))))) (Syntax.tcons Syntax.tyBool (Syntax.tcons (Syntax.tyInt Syntax.w32) (Syntax.tcons (Syntax.tyArray (Syntax.tyInt Syntax.w8) 5) (Syntax.tcons (Syntax.tyArray (Syntax.tyInt Syntax.w8) 8) (Syntax.tcons (Syntax.tyInt Syntax.w8) (Syntax.tcons (Syntax.tyArray (Syntax.tyInt Syntax.w32) 6) (Syntax.tcons (Syntax.tyInt Syntax.w64) (Syntax.tcons (Syntax.tyInt Syntax.w32) (Syntax.tcons (Syntax.tyArray (Syntax.tyInt Syntax.w8) 11) (Syntax.tcons (Syntax.tyInt Syntax.w64) (Syntax.tcons (Syntax.tyInt Syntax.w64) Syntax.tnil)))))))))))) (Syntax.tcons (Syntax.tyInt Syntax.w64) Syntax.tnil))))) (List._∷_ (8, Rows'.any-gone (Syntax.tyEnum (List._∷_ 111 (List._∷_ 117 (List._∷_ 116 (List._∷_ 99 (List._∷_ 111 (List._∷_ 109 (List._∷_ 101 (List._∷_ 58 (List._∷_ 58 (List._∷_ 79 (List._∷_ 117 (List._∷_ 116 (List._∷_ 99 (List._∷_ 111 (List._∷_ 109 (List._∷_ 101 List.[])))))))))))))))) (Syntax.ttcons Syntax.tnil (Syntax.ttcons Syntax.tnil (Syntax.ttcons (Syntax.tcons (Syntax.tyInt Syntax.w64) (Syntax.tcons (Syntax.tyInt Syntax.w64) Syntax.tnil)) (Syntax.ttcons Syntax.tnil (Syntax.ttcons (Syntax.tcons (Syntax.tyInt Syntax.w16) Syntax.tnil) (Syntax.ttcons Syntax.tnil (Syntax.ttcons (Syntax.tcons (Syntax.tyInt Syntax.w64) Syntax.tnil) (Syntax.ttcons Syntax.tnil Syntax.ttnil)))))))))) (List._∷_ (9, Rows'.any-gone (Syntax.tyInt Syntax.w64)) (List._∷_ (10, Rows'.any-gone (Syntax.tyStruct (List._∷_ 115 (List._∷_ 113 (List._∷_ 108 (List._∷_ 99 (List._∷_ 97 (List._∷_ 114 (List._∷_ 100 (List._∷_ 58 (List._∷_ 58 (List._∷_ 83 (List._∷_ 113 (List._∷_ 108 (List._∷_ 67 (List._∷_ 97 (List._∷_ 114 (List._∷_ 100 List.[])))))))))))))))) (Syntax.tcons Syntax.tyBool (Syntax.tcons (Syntax.tyInt Syntax.w32) (Syntax.tcons (Syntax.tyArray (Syntax.tyInt Syntax.w8) 5) (Syntax.tcons (Syntax.tyArray (Syntax.tyInt Syntax.w8) 8) (Syntax.tcons (Syntax.tyInt Syntax.w8) (Syntax.tcons (Syntax.tyArray (Syntax.tyInt Syntax.w32) 6) (Syntax.tcons (Syntax.tyInt Syntax.w64) (Syntax.tcons (Syntax.tyInt Syntax.w32) (Syntax.tcons (Syntax.tyArray (Syntax.tyInt Syntax.w8) 11) (Syntax.tcons (Syntax.tyInt Syntax.w64) (Syntax.tcons (Syntax.tyInt Syntax.w64) Syntax.tnil))))))))))))) (List._∷_ (11, Rows'.any-gone (Syntax.tyStruct (List._∷_ 116 (List._∷_ 97 (List._∷_ 98 (List._∷_ 108 (List._∷_ 101 (List._∷_ 95 (List._∷_ 111 (List._∷_ 117 (List._∷_ 116 (List._∷_ 112 (List._∷_ 117 (List._∷_ 116 (List._∷_ 58 (List._∷_ 58 (List._∷_ 114 (List._∷_ 111 (List._∷_ 119 (List._∷_ 115 (List._∷_ 58 (List._∷_ 58 (List._∷_ 87 (List._∷_ 105 (List._∷_ 100 (List._∷_ 116 (List._∷_ 104 (List._∷_ 115 List.[])))))))))))))))))))))))))) (Syntax.tcons (Syntax.tyInt Syntax.w64) (Syntax.tcons (Syntax.tyInt Syntax.w64) (Syntax.tcons (Syntax.tyInt Syntax.w64) (Syntax.tcons (Syntax.tyInt Syntax.w64) Syntax.tnil)))))) (List._∷_ (12, Rows'.any-gone (Syntax.tyInt Syntax.w64)) (List._∷_ (13, Rows'.any-gone (Syntax.tyRef Syntax.erased Syntax.mut (Syntax.tyArray ColumnMetadataRow.named 4096))) (List._∷_ (14, Rows'.any-gone (Syntax.tyStruct (List._∷_ 38 (List._∷_ 91 (List._∷_ 93 List.[]))) (Syntax.tcons (Syntax.tyRef Syntax.erased Syntax.mut ColumnMetadataRow.named) (Syntax.tcons (Syntax.tyInt Syntax.w64) Syntax.tnil)))) (List._∷_ (15, Rows'.any-gone Syntax.tyBool) List.[])))))))))))))))
+t2 = List._∷_ (0, Rows'.sc-here (Row.sInt Syntax.w64)) (List._∷_ (1, Mut.mslice (Referent.rtF (Referent.fInt Syntax.w8)) (Syntax.tyRef (Syntax.named 0) Syntax.mut (Syntax.tyInt Syntax.w8)) 0) (List._∷_ (2, Rows'.any-gone (Syntax.tyInt Syntax.w64)) (List._∷_ (3, Rows'.sslice (Referent.rtF (Referent.fInt Syntax.w8)) (Syntax.tyRef (Syntax.named 1) Syntax.imm (Syntax.tyInt Syntax.w8)) 1) (List._∷_ (4, Mut.mslice (Referent.rtF (Referent.fInt Syntax.w8)) (Syntax.tyRef (Syntax.named 2) Syntax.mut (Syntax.tyInt Syntax.w8)) 2) (List._∷_ (5, Rows'.any-gone (ColumnMetadataRow.ty)) (List._∷_ (6, Rows'.any-gone (Syntax.tyArray (ColumnMetadataRow.ty) 4096)) (List._∷_ (7, Rows'.any-gone (Syntax.tyStruct (List._∷_ 115 (List._∷_ 113 (List._∷_ 108 (List._∷_ 100 (List._∷_ 97 (List._∷_ 114 (List._∷_ 100 (List._∷_ 58 (List._∷_ 58 (List._∷_ 83 (List._∷_ 113 (List._∷_ 108 (List._∷_ 100 (List._∷_ 97 (List._∷_ 114 (List._∷_ 100 (List._∷_ 65 (List._∷_ 110 (List._∷_ 115 (List._∷_ 119 (List._∷_ 101 (List._∷_ 114 List.[])))))))))))))))))))))) (Syntax.tcons (Syntax.tyEnum (List._∷_ 111 (List._∷_ 117 (List._∷_ 116 (List._∷_ 99 (List._∷_ 111 (List._∷_ 109 (List._∷_ 101 (List._∷_ 58 (List._∷_ 58 (List._∷_ 79 (List._∷_ 117 (List._∷_ 116 (List._∷_ 99 (List._∷_ 111 (List._∷_ 109 (List._∷_ 101 List.[])))))))))))))))) (Syntax.ttcons Syntax.tnil (Syntax.ttcons Syntax.tnil (Syntax.ttcons (Syntax.tcons (Syntax.tyInt Syntax.w64) (Syntax.tcons (Syntax.tyInt Syntax.w64) Syntax.tnil)) (Syntax.ttcons Syntax.tnil (Syntax.ttcons (Syntax.tcons (Syntax.tyInt Syntax.w16) Syntax.tnil) (Syntax.ttcons Syntax.tnil (Syntax.ttcons (Syntax.tcons (Syntax.tyInt Syntax.w64) Syntax.tnil) (Syntax.ttcons Syntax.tnil (Syntax.ttcons (Syntax.tcons (Syntax.tyInt Syntax.w16) Syntax.tnil) Syntax.ttnil)))))))))) (Syntax.tcons (Syntax.tyStruct (List._∷_ 115 (List._∷_ 113 (List._∷_ 108 (List._∷_ 99 (List._∷_ 97 (List._∷_ 114 (List._∷_ 100 (List._∷_ 58 (List._∷_ 58 (List._∷_ 83 (List._∷_ 113 (List._∷_ 108 (List._∷_ 67 (List._∷_ 97 (List._∷_ 114 (List._∷_ 100 List.[])))))))))))))))) (Syntax.tcons Syntax.tyBool (Syntax.tcons (Syntax.tyInt Syntax.w32) (Syntax.tcons (Syntax.tyArray (Syntax.tyInt Syntax.w8) 5) (Syntax.tcons (Syntax.tyArray (Syntax.tyInt Syntax.w8) 8) (Syntax.tcons (Syntax.tyInt Syntax.w8) (Syntax.tcons (Syntax.tyArray (Syntax.tyInt Syntax.w32) 6) (Syntax.tcons (Syntax.tyInt Syntax.w64) (Syntax.tcons (Syntax.tyInt Syntax.w32) (Syntax.tcons (Syntax.tyArray (Syntax.tyInt Syntax.w8) 11) (Syntax.tcons (Syntax.tyInt Syntax.w64) (Syntax.tcons (Syntax.tyInt Syntax.w64) Syntax.tnil)))))))))))) (Syntax.tcons (Syntax.tyInt Syntax.w64) Syntax.tnil))))) (List._∷_ (8, Rows'.any-gone (Syntax.tyEnum (List._∷_ 111 (List._∷_ 117 (List._∷_ 116 (List._∷_ 99 (List._∷_ 111 (List._∷_ 109 (List._∷_ 101 (List._∷_ 58 (List._∷_ 58 (List._∷_ 79 (List._∷_ 117 (List._∷_ 116 (List._∷_ 99 (List._∷_ 111 (List._∷_ 109 (List._∷_ 101 List.[])))))))))))))))) (Syntax.ttcons Syntax.tnil (Syntax.ttcons Syntax.tnil (Syntax.ttcons (Syntax.tcons (Syntax.tyInt Syntax.w64) (Syntax.tcons (Syntax.tyInt Syntax.w64) Syntax.tnil)) (Syntax.ttcons Syntax.tnil (Syntax.ttcons (Syntax.tcons (Syntax.tyInt Syntax.w16) Syntax.tnil) (Syntax.ttcons Syntax.tnil (Syntax.ttcons (Syntax.tcons (Syntax.tyInt Syntax.w64) Syntax.tnil) (Syntax.ttcons Syntax.tnil (Syntax.ttcons (Syntax.tcons (Syntax.tyInt Syntax.w16) Syntax.tnil) Syntax.ttnil))))))))))) (List._∷_ (9, Rows'.any-gone (Syntax.tyInt Syntax.w64)) (List._∷_ (10, Rows'.any-gone (Syntax.tyStruct (List._∷_ 115 (List._∷_ 113 (List._∷_ 108 (List._∷_ 99 (List._∷_ 97 (List._∷_ 114 (List._∷_ 100 (List._∷_ 58 (List._∷_ 58 (List._∷_ 83 (List._∷_ 113 (List._∷_ 108 (List._∷_ 67 (List._∷_ 97 (List._∷_ 114 (List._∷_ 100 List.[])))))))))))))))) (Syntax.tcons Syntax.tyBool (Syntax.tcons (Syntax.tyInt Syntax.w32) (Syntax.tcons (Syntax.tyArray (Syntax.tyInt Syntax.w8) 5) (Syntax.tcons (Syntax.tyArray (Syntax.tyInt Syntax.w8) 8) (Syntax.tcons (Syntax.tyInt Syntax.w8) (Syntax.tcons (Syntax.tyArray (Syntax.tyInt Syntax.w32) 6) (Syntax.tcons (Syntax.tyInt Syntax.w64) (Syntax.tcons (Syntax.tyInt Syntax.w32) (Syntax.tcons (Syntax.tyArray (Syntax.tyInt Syntax.w8) 11) (Syntax.tcons (Syntax.tyInt Syntax.w64) (Syntax.tcons (Syntax.tyInt Syntax.w64) Syntax.tnil))))))))))))) (List._∷_ (11, Rows'.any-gone (Syntax.tyStruct (List._∷_ 116 (List._∷_ 97 (List._∷_ 98 (List._∷_ 108 (List._∷_ 101 (List._∷_ 95 (List._∷_ 111 (List._∷_ 117 (List._∷_ 116 (List._∷_ 112 (List._∷_ 117 (List._∷_ 116 (List._∷_ 58 (List._∷_ 58 (List._∷_ 114 (List._∷_ 111 (List._∷_ 119 (List._∷_ 115 (List._∷_ 58 (List._∷_ 58 (List._∷_ 87 (List._∷_ 105 (List._∷_ 100 (List._∷_ 116 (List._∷_ 104 (List._∷_ 115 List.[])))))))))))))))))))))))))) (Syntax.tcons (Syntax.tyInt Syntax.w64) (Syntax.tcons (Syntax.tyInt Syntax.w64) (Syntax.tcons (Syntax.tyInt Syntax.w64) (Syntax.tcons (Syntax.tyInt Syntax.w64) Syntax.tnil)))))) (List._∷_ (12, Rows'.any-gone (Syntax.tyInt Syntax.w64)) (List._∷_ (13, Rows'.any-gone (Syntax.tyRef Syntax.erased Syntax.mut (Syntax.tyArray ColumnMetadataRow.named 4096))) (List._∷_ (14, Rows'.any-gone (Syntax.tyStruct (List._∷_ 38 (List._∷_ 91 (List._∷_ 93 List.[]))) (Syntax.tcons (Syntax.tyRef Syntax.erased Syntax.mut ColumnMetadataRow.named) (Syntax.tcons (Syntax.tyInt Syntax.w64) Syntax.tnil)))) (List._∷_ (15, Rows'.any-gone Syntax.tyBool) List.[])))))))))))))))
 
 abbrev pub t3 : List.List Row.Entry
-t3 = List._∷_ (0, Rows'.any-gone (Syntax.tyInt Syntax.w64)) (List._∷_ (1, Mut.mslice (Referent.rtF (Referent.fInt Syntax.w8)) (Syntax.tyRef (Syntax.named 0) Syntax.mut (Syntax.tyInt Syntax.w8)) 0) (List._∷_ (2, Rows'.sc-here (Row.sInt Syntax.w64)) (List._∷_ (3, Rows'.sslice (Referent.rtF (Referent.fInt Syntax.w8)) (Syntax.tyRef (Syntax.named 1) Syntax.imm (Syntax.tyInt Syntax.w8)) 1) (List._∷_ (4, Mut.mslice (Referent.rtF (Referent.fInt Syntax.w8)) (Syntax.tyRef (Syntax.named 2) Syntax.mut (Syntax.tyInt Syntax.w8)) 2) (List._∷_ (5, ColumnMetadataRow.row) (List._∷_ (6, Rows'.any-gone (Syntax.tyArray (ColumnMetadataRow.ty) 4096)) (List._∷_ (7, Rows'.any-gone (Syntax.tyStruct (List._∷_ 115 (List._∷_ 113 (List._∷_ 108 (List._∷_ 100 (List._∷_ 97 (List._∷_ 114 (List._∷_ 100 (List._∷_ 58 (List._∷_ 58 (List._∷_ 83 (List._∷_ 113 (List._∷_ 108 (List._∷_ 100 (List._∷_ 97 (List._∷_ 114 (List._∷_ 100 (List._∷_ 65 (List._∷_ 110 (List._∷_ 115 (List._∷_ 119 (List._∷_ 101 (List._∷_ 114 List.[])))))))))))))))))))))) (Syntax.tcons (Syntax.tyEnum (List._∷_ 111 (List._∷_ 117 (List._∷_ 116 (List._∷_ 99 (List._∷_ 111 (List._∷_ 109 (List._∷_ 101 (List._∷_ 58 (List._∷_ 58 (List._∷_ 79 (List._∷_ 117 (List._∷_ 116 (List._∷_ 99 (List._∷_ 111 (List._∷_ 109 (List._∷_ 101 List.[])))))))))))))))) (Syntax.ttcons Syntax.tnil (Syntax.ttcons Syntax.tnil (Syntax.ttcons (Syntax.tcons (Syntax.tyInt Syntax.w64) (Syntax.tcons (Syntax.tyInt Syntax.w64) Syntax.tnil)) (Syntax.ttcons Syntax.tnil (Syntax.ttcons (Syntax.tcons (Syntax.tyInt Syntax.w16) Syntax.tnil) (Syntax.ttcons Syntax.tnil (Syntax.ttcons (Syntax.tcons (Syntax.tyInt Syntax.w64) Syntax.tnil) (Syntax.ttcons Syntax.tnil Syntax.ttnil))))))))) (Syntax.tcons (Syntax.tyStruct (List._∷_ 115 (List._∷_ 113 (List._∷_ 108 (List._∷_ 99 (List._∷_ 97 (List._∷_ 114 (List._∷_ 100 (List._∷_ 58 (List._∷_ 58 (List._∷_ 83 (List._∷_ 113 (List._∷_ 108 (List._∷_ 67 (List._∷_ 97 (List._∷_ 114 (List._∷_ 100 List.[])))))))))))))))) (Syntax.tcons Syntax.tyBool (Syntax.tcons (Syntax.tyInt Syntax.w32) (Syntax.tcons (Syntax.tyArray (Syntax.tyInt Syntax.w8) 5) (Syntax.tcons (Syntax.tyArray (Syntax.tyInt Syntax.w8) 8) (Syntax.tcons (Syntax.tyInt Syntax.w8) (Syntax.tcons (Syntax.tyArray (Syntax.tyInt Syntax.w32) 6) (Syntax.tcons (Syntax.tyInt Syntax.w64) (Syntax.tcons (Syntax.tyInt Syntax.w32) (Syntax.tcons (Syntax.tyArray (Syntax.tyInt Syntax.w8) 11) (Syntax.tcons (Syntax.tyInt Syntax.w64) (Syntax.tcons (Syntax.tyInt Syntax.w64) Syntax.tnil)))))))))))) (Syntax.tcons (Syntax.tyInt Syntax.w64) Syntax.tnil))))) (List._∷_ (8, Rows'.any-gone (Syntax.tyEnum (List._∷_ 111 (List._∷_ 117 (List._∷_ 116 (List._∷_ 99 (List._∷_ 111 (List._∷_ 109 (List._∷_ 101 (List._∷_ 58 (List._∷_ 58 (List._∷_ 79 (List._∷_ 117 (List._∷_ 116 (List._∷_ 99 (List._∷_ 111 (List._∷_ 109 (List._∷_ 101 List.[])))))))))))))))) (Syntax.ttcons Syntax.tnil (Syntax.ttcons Syntax.tnil (Syntax.ttcons (Syntax.tcons (Syntax.tyInt Syntax.w64) (Syntax.tcons (Syntax.tyInt Syntax.w64) Syntax.tnil)) (Syntax.ttcons Syntax.tnil (Syntax.ttcons (Syntax.tcons (Syntax.tyInt Syntax.w16) Syntax.tnil) (Syntax.ttcons Syntax.tnil (Syntax.ttcons (Syntax.tcons (Syntax.tyInt Syntax.w64) Syntax.tnil) (Syntax.ttcons Syntax.tnil Syntax.ttnil)))))))))) (List._∷_ (9, Rows'.any-gone (Syntax.tyInt Syntax.w64)) (List._∷_ (10, Rows'.any-gone (Syntax.tyStruct (List._∷_ 115 (List._∷_ 113 (List._∷_ 108 (List._∷_ 99 (List._∷_ 97 (List._∷_ 114 (List._∷_ 100 (List._∷_ 58 (List._∷_ 58 (List._∷_ 83 (List._∷_ 113 (List._∷_ 108 (List._∷_ 67 (List._∷_ 97 (List._∷_ 114 (List._∷_ 100 List.[])))))))))))))))) (Syntax.tcons Syntax.tyBool (Syntax.tcons (Syntax.tyInt Syntax.w32) (Syntax.tcons (Syntax.tyArray (Syntax.tyInt Syntax.w8) 5) (Syntax.tcons (Syntax.tyArray (Syntax.tyInt Syntax.w8) 8) (Syntax.tcons (Syntax.tyInt Syntax.w8) (Syntax.tcons (Syntax.tyArray (Syntax.tyInt Syntax.w32) 6) (Syntax.tcons (Syntax.tyInt Syntax.w64) (Syntax.tcons (Syntax.tyInt Syntax.w32) (Syntax.tcons (Syntax.tyArray (Syntax.tyInt Syntax.w8) 11) (Syntax.tcons (Syntax.tyInt Syntax.w64) (Syntax.tcons (Syntax.tyInt Syntax.w64) Syntax.tnil))))))))))))) (List._∷_ (11, Rows'.any-gone (Syntax.tyStruct (List._∷_ 116 (List._∷_ 97 (List._∷_ 98 (List._∷_ 108 (List._∷_ 101 (List._∷_ 95 (List._∷_ 111 (List._∷_ 117 (List._∷_ 116 (List._∷_ 112 (List._∷_ 117 (List._∷_ 116 (List._∷_ 58 (List._∷_ 58 (List._∷_ 114 (List._∷_ 111 (List._∷_ 119 (List._∷_ 115 (List._∷_ 58 (List._∷_ 58 (List._∷_ 87 (List._∷_ 105 (List._∷_ 100 (List._∷_ 116 (List._∷_ 104 (List._∷_ 115 List.[])))))))))))))))))))))))))) (Syntax.tcons (Syntax.tyInt Syntax.w64) (Syntax.tcons (Syntax.tyInt Syntax.w64) (Syntax.tcons (Syntax.tyInt Syntax.w64) (Syntax.tcons (Syntax.tyInt Syntax.w64) Syntax.tnil)))))) (List._∷_ (12, Rows'.any-gone (Syntax.tyInt Syntax.w64)) (List._∷_ (13, Rows'.any-gone (Syntax.tyRef Syntax.erased Syntax.mut (Syntax.tyArray ColumnMetadataRow.named 4096))) (List._∷_ (14, Rows'.any-gone (Syntax.tyStruct (List._∷_ 38 (List._∷_ 91 (List._∷_ 93 List.[]))) (Syntax.tcons (Syntax.tyRef Syntax.erased Syntax.mut ColumnMetadataRow.named) (Syntax.tcons (Syntax.tyInt Syntax.w64) Syntax.tnil)))) (List._∷_ (15, Rows'.any-gone Syntax.tyBool) List.[])))))))))))))))
+t3 = List._∷_ (0, Rows'.any-gone (Syntax.tyInt Syntax.w64)) (List._∷_ (1, Mut.mslice (Referent.rtF (Referent.fInt Syntax.w8)) (Syntax.tyRef (Syntax.named 0) Syntax.mut (Syntax.tyInt Syntax.w8)) 0) (List._∷_ (2, Rows'.sc-here (Row.sInt Syntax.w64)) (List._∷_ (3, Rows'.sslice (Referent.rtF (Referent.fInt Syntax.w8)) (Syntax.tyRef (Syntax.named 1) Syntax.imm (Syntax.tyInt Syntax.w8)) 1) (List._∷_ (4, Mut.mslice (Referent.rtF (Referent.fInt Syntax.w8)) (Syntax.tyRef (Syntax.named 2) Syntax.mut (Syntax.tyInt Syntax.w8)) 2) (List._∷_ (5, ColumnMetadataRow.row) (List._∷_ (6, Rows'.any-gone (Syntax.tyArray (ColumnMetadataRow.ty) 4096)) (List._∷_ (7, Rows'.any-gone (Syntax.tyStruct (List._∷_ 115 (List._∷_ 113 (List._∷_ 108 (List._∷_ 100 (List._∷_ 97 (List._∷_ 114 (List._∷_ 100 (List._∷_ 58 (List._∷_ 58 (List._∷_ 83 (List._∷_ 113 (List._∷_ 108 (List._∷_ 100 (List._∷_ 97 (List._∷_ 114 (List._∷_ 100 (List._∷_ 65 (List._∷_ 110 (List._∷_ 115 (List._∷_ 119 (List._∷_ 101 (List._∷_ 114 List.[])))))))))))))))))))))) (Syntax.tcons (Syntax.tyEnum (List._∷_ 111 (List._∷_ 117 (List._∷_ 116 (List._∷_ 99 (List._∷_ 111 (List._∷_ 109 (List._∷_ 101 (List._∷_ 58 (List._∷_ 58 (List._∷_ 79 (List._∷_ 117 (List._∷_ 116 (List._∷_ 99 (List._∷_ 111 (List._∷_ 109 (List._∷_ 101 List.[])))))))))))))))) (Syntax.ttcons Syntax.tnil (Syntax.ttcons Syntax.tnil (Syntax.ttcons (Syntax.tcons (Syntax.tyInt Syntax.w64) (Syntax.tcons (Syntax.tyInt Syntax.w64) Syntax.tnil)) (Syntax.ttcons Syntax.tnil (Syntax.ttcons (Syntax.tcons (Syntax.tyInt Syntax.w16) Syntax.tnil) (Syntax.ttcons Syntax.tnil (Syntax.ttcons (Syntax.tcons (Syntax.tyInt Syntax.w64) Syntax.tnil) (Syntax.ttcons Syntax.tnil (Syntax.ttcons (Syntax.tcons (Syntax.tyInt Syntax.w16) Syntax.tnil) Syntax.ttnil)))))))))) (Syntax.tcons (Syntax.tyStruct (List._∷_ 115 (List._∷_ 113 (List._∷_ 108 (List._∷_ 99 (List._∷_ 97 (List._∷_ 114 (List._∷_ 100 (List._∷_ 58 (List._∷_ 58 (List._∷_ 83 (List._∷_ 113 (List._∷_ 108 (List._∷_ 67 (List._∷_ 97 (List._∷_ 114 (List._∷_ 100 List.[])))))))))))))))) (Syntax.tcons Syntax.tyBool (Syntax.tcons (Syntax.tyInt Syntax.w32) (Syntax.tcons (Syntax.tyArray (Syntax.tyInt Syntax.w8) 5) (Syntax.tcons (Syntax.tyArray (Syntax.tyInt Syntax.w8) 8) (Syntax.tcons (Syntax.tyInt Syntax.w8) (Syntax.tcons (Syntax.tyArray (Syntax.tyInt Syntax.w32) 6) (Syntax.tcons (Syntax.tyInt Syntax.w64) (Syntax.tcons (Syntax.tyInt Syntax.w32) (Syntax.tcons (Syntax.tyArray (Syntax.tyInt Syntax.w8) 11) (Syntax.tcons (Syntax.tyInt Syntax.w64) (Syntax.tcons (Syntax.tyInt Syntax.w64) Syntax.tnil)))))))))))) (Syntax.tcons (Syntax.tyInt Syntax.w64) Syntax.tnil))))) (List._∷_ (8, Rows'.any-gone (Syntax.tyEnum (List._∷_ 111 (List._∷_ 117 (List._∷_ 116 (List._∷_ 99 (List._∷_ 111 (List._∷_ 109 (List._∷_ 101 (List._∷_ 58 (List._∷_ 58 (List._∷_ 79 (List._∷_ 117 (List._∷_ 116 (List._∷_ 99 (List._∷_ 111 (List._∷_ 109 (List._∷_ 101 List.[])))))))))))))))) (Syntax.ttcons Syntax.tnil (Syntax.ttcons Syntax.tnil (Syntax.ttcons (Syntax.tcons (Syntax.tyInt Syntax.w64) (Syntax.tcons (Syntax.tyInt Syntax.w64) Syntax.tnil)) (Syntax.ttcons Syntax.tnil (Syntax.ttcons (Syntax.tcons (Syntax.tyInt Syntax.w16) Syntax.tnil) (Syntax.ttcons Syntax.tnil (Syntax.ttcons (Syntax.tcons (Syntax.tyInt Syntax.w64) Syntax.tnil) (Syntax.ttcons Syntax.tnil (Syntax.ttcons (Syntax.tcons (Syntax.tyInt Syntax.w16) Syntax.tnil) Syntax.ttnil))))))))))) (List._∷_ (9, Rows'.any-gone (Syntax.tyInt Syntax.w64)) (List._∷_ (10, Rows'.any-gone (Syntax.tyStruct (List._∷_ 115 (List._∷_ 113 (List._∷_ 108 (List._∷_ 99 (List._∷_ 97 (List._∷_ 114 (List._∷_ 100 (List._∷_ 58 (List._∷_ 58 (List._∷_ 83 (List._∷_ 113 (List._∷_ 108 (List._∷_ 67 (List._∷_ 97 (List._∷_ 114 (List._∷_ 100 List.[])))))))))))))))) (Syntax.tcons Syntax.tyBool (Syntax.tcons (Syntax.tyInt Syntax.w32) (Syntax.tcons (Syntax.tyArray (Syntax.tyInt Syntax.w8) 5) (Syntax.tcons (Syntax.tyArray (Syntax.tyInt Syntax.w8) 8) (Syntax.tcons (Syntax.tyInt Syntax.w8) (Syntax.tcons (Syntax.tyArray (Syntax.tyInt Syntax.w32) 6) (Syntax.tcons (Syntax.tyInt Syntax.w64) (Syntax.tcons (Syntax.tyInt Syntax.w32) (Syntax.tcons (Syntax.tyArray (Syntax.tyInt Syntax.w8) 11) (Syntax.tcons (Syntax.tyInt Syntax.w64) (Syntax.tcons (Syntax.tyInt Syntax.w64) Syntax.tnil))))))))))))) (List._∷_ (11, Rows'.any-gone (Syntax.tyStruct (List._∷_ 116 (List._∷_ 97 (List._∷_ 98 (List._∷_ 108 (List._∷_ 101 (List._∷_ 95 (List._∷_ 111 (List._∷_ 117 (List._∷_ 116 (List._∷_ 112 (List._∷_ 117 (List._∷_ 116 (List._∷_ 58 (List._∷_ 58 (List._∷_ 114 (List._∷_ 111 (List._∷_ 119 (List._∷_ 115 (List._∷_ 58 (List._∷_ 58 (List._∷_ 87 (List._∷_ 105 (List._∷_ 100 (List._∷_ 116 (List._∷_ 104 (List._∷_ 115 List.[])))))))))))))))))))))))))) (Syntax.tcons (Syntax.tyInt Syntax.w64) (Syntax.tcons (Syntax.tyInt Syntax.w64) (Syntax.tcons (Syntax.tyInt Syntax.w64) (Syntax.tcons (Syntax.tyInt Syntax.w64) Syntax.tnil)))))) (List._∷_ (12, Rows'.any-gone (Syntax.tyInt Syntax.w64)) (List._∷_ (13, Rows'.any-gone (Syntax.tyRef Syntax.erased Syntax.mut (Syntax.tyArray ColumnMetadataRow.named 4096))) (List._∷_ (14, Rows'.any-gone (Syntax.tyStruct (List._∷_ 38 (List._∷_ 91 (List._∷_ 93 List.[]))) (Syntax.tcons (Syntax.tyRef Syntax.erased Syntax.mut ColumnMetadataRow.named) (Syntax.tcons (Syntax.tyInt Syntax.w64) Syntax.tnil)))) (List._∷_ (15, Rows'.any-gone Syntax.tyBool) List.[])))))))))))))))
 
 abbrev pub t4 : List.List Row.Entry
-t4 = List._∷_ (0, Rows'.any-gone (Syntax.tyInt Syntax.w64)) (List._∷_ (1, Mut.mslice (Referent.rtF (Referent.fInt Syntax.w8)) (Syntax.tyRef (Syntax.named 0) Syntax.mut (Syntax.tyInt Syntax.w8)) 0) (List._∷_ (2, Rows'.sc-here (Row.sInt Syntax.w64)) (List._∷_ (3, Rows'.sslice (Referent.rtF (Referent.fInt Syntax.w8)) (Syntax.tyRef (Syntax.named 1) Syntax.imm (Syntax.tyInt Syntax.w8)) 1) (List._∷_ (4, Mut.mslice (Referent.rtF (Referent.fInt Syntax.w8)) (Syntax.tyRef (Syntax.named 2) Syntax.mut (Syntax.tyInt Syntax.w8)) 2) (List._∷_ (5, ColumnMetadataRow.row) (List._∷_ (6, Rows'.whole (Array'.Array (ColumnMetadataRow.RT) 4096)) (List._∷_ (7, Rows'.any-gone (Syntax.tyStruct (List._∷_ 115 (List._∷_ 113 (List._∷_ 108 (List._∷_ 100 (List._∷_ 97 (List._∷_ 114 (List._∷_ 100 (List._∷_ 58 (List._∷_ 58 (List._∷_ 83 (List._∷_ 113 (List._∷_ 108 (List._∷_ 100 (List._∷_ 97 (List._∷_ 114 (List._∷_ 100 (List._∷_ 65 (List._∷_ 110 (List._∷_ 115 (List._∷_ 119 (List._∷_ 101 (List._∷_ 114 List.[])))))))))))))))))))))) (Syntax.tcons (Syntax.tyEnum (List._∷_ 111 (List._∷_ 117 (List._∷_ 116 (List._∷_ 99 (List._∷_ 111 (List._∷_ 109 (List._∷_ 101 (List._∷_ 58 (List._∷_ 58 (List._∷_ 79 (List._∷_ 117 (List._∷_ 116 (List._∷_ 99 (List._∷_ 111 (List._∷_ 109 (List._∷_ 101 List.[])))))))))))))))) (Syntax.ttcons Syntax.tnil (Syntax.ttcons Syntax.tnil (Syntax.ttcons (Syntax.tcons (Syntax.tyInt Syntax.w64) (Syntax.tcons (Syntax.tyInt Syntax.w64) Syntax.tnil)) (Syntax.ttcons Syntax.tnil (Syntax.ttcons (Syntax.tcons (Syntax.tyInt Syntax.w16) Syntax.tnil) (Syntax.ttcons Syntax.tnil (Syntax.ttcons (Syntax.tcons (Syntax.tyInt Syntax.w64) Syntax.tnil) (Syntax.ttcons Syntax.tnil Syntax.ttnil))))))))) (Syntax.tcons (Syntax.tyStruct (List._∷_ 115 (List._∷_ 113 (List._∷_ 108 (List._∷_ 99 (List._∷_ 97 (List._∷_ 114 (List._∷_ 100 (List._∷_ 58 (List._∷_ 58 (List._∷_ 83 (List._∷_ 113 (List._∷_ 108 (List._∷_ 67 (List._∷_ 97 (List._∷_ 114 (List._∷_ 100 List.[])))))))))))))))) (Syntax.tcons Syntax.tyBool (Syntax.tcons (Syntax.tyInt Syntax.w32) (Syntax.tcons (Syntax.tyArray (Syntax.tyInt Syntax.w8) 5) (Syntax.tcons (Syntax.tyArray (Syntax.tyInt Syntax.w8) 8) (Syntax.tcons (Syntax.tyInt Syntax.w8) (Syntax.tcons (Syntax.tyArray (Syntax.tyInt Syntax.w32) 6) (Syntax.tcons (Syntax.tyInt Syntax.w64) (Syntax.tcons (Syntax.tyInt Syntax.w32) (Syntax.tcons (Syntax.tyArray (Syntax.tyInt Syntax.w8) 11) (Syntax.tcons (Syntax.tyInt Syntax.w64) (Syntax.tcons (Syntax.tyInt Syntax.w64) Syntax.tnil)))))))))))) (Syntax.tcons (Syntax.tyInt Syntax.w64) Syntax.tnil))))) (List._∷_ (8, Rows'.any-gone (Syntax.tyEnum (List._∷_ 111 (List._∷_ 117 (List._∷_ 116 (List._∷_ 99 (List._∷_ 111 (List._∷_ 109 (List._∷_ 101 (List._∷_ 58 (List._∷_ 58 (List._∷_ 79 (List._∷_ 117 (List._∷_ 116 (List._∷_ 99 (List._∷_ 111 (List._∷_ 109 (List._∷_ 101 List.[])))))))))))))))) (Syntax.ttcons Syntax.tnil (Syntax.ttcons Syntax.tnil (Syntax.ttcons (Syntax.tcons (Syntax.tyInt Syntax.w64) (Syntax.tcons (Syntax.tyInt Syntax.w64) Syntax.tnil)) (Syntax.ttcons Syntax.tnil (Syntax.ttcons (Syntax.tcons (Syntax.tyInt Syntax.w16) Syntax.tnil) (Syntax.ttcons Syntax.tnil (Syntax.ttcons (Syntax.tcons (Syntax.tyInt Syntax.w64) Syntax.tnil) (Syntax.ttcons Syntax.tnil Syntax.ttnil)))))))))) (List._∷_ (9, Rows'.any-gone (Syntax.tyInt Syntax.w64)) (List._∷_ (10, Rows'.any-gone (Syntax.tyStruct (List._∷_ 115 (List._∷_ 113 (List._∷_ 108 (List._∷_ 99 (List._∷_ 97 (List._∷_ 114 (List._∷_ 100 (List._∷_ 58 (List._∷_ 58 (List._∷_ 83 (List._∷_ 113 (List._∷_ 108 (List._∷_ 67 (List._∷_ 97 (List._∷_ 114 (List._∷_ 100 List.[])))))))))))))))) (Syntax.tcons Syntax.tyBool (Syntax.tcons (Syntax.tyInt Syntax.w32) (Syntax.tcons (Syntax.tyArray (Syntax.tyInt Syntax.w8) 5) (Syntax.tcons (Syntax.tyArray (Syntax.tyInt Syntax.w8) 8) (Syntax.tcons (Syntax.tyInt Syntax.w8) (Syntax.tcons (Syntax.tyArray (Syntax.tyInt Syntax.w32) 6) (Syntax.tcons (Syntax.tyInt Syntax.w64) (Syntax.tcons (Syntax.tyInt Syntax.w32) (Syntax.tcons (Syntax.tyArray (Syntax.tyInt Syntax.w8) 11) (Syntax.tcons (Syntax.tyInt Syntax.w64) (Syntax.tcons (Syntax.tyInt Syntax.w64) Syntax.tnil))))))))))))) (List._∷_ (11, Rows'.any-gone (Syntax.tyStruct (List._∷_ 116 (List._∷_ 97 (List._∷_ 98 (List._∷_ 108 (List._∷_ 101 (List._∷_ 95 (List._∷_ 111 (List._∷_ 117 (List._∷_ 116 (List._∷_ 112 (List._∷_ 117 (List._∷_ 116 (List._∷_ 58 (List._∷_ 58 (List._∷_ 114 (List._∷_ 111 (List._∷_ 119 (List._∷_ 115 (List._∷_ 58 (List._∷_ 58 (List._∷_ 87 (List._∷_ 105 (List._∷_ 100 (List._∷_ 116 (List._∷_ 104 (List._∷_ 115 List.[])))))))))))))))))))))))))) (Syntax.tcons (Syntax.tyInt Syntax.w64) (Syntax.tcons (Syntax.tyInt Syntax.w64) (Syntax.tcons (Syntax.tyInt Syntax.w64) (Syntax.tcons (Syntax.tyInt Syntax.w64) Syntax.tnil)))))) (List._∷_ (12, Rows'.any-gone (Syntax.tyInt Syntax.w64)) (List._∷_ (13, Rows'.any-gone (Syntax.tyRef Syntax.erased Syntax.mut (Syntax.tyArray ColumnMetadataRow.named 4096))) (List._∷_ (14, Rows'.any-gone (Syntax.tyStruct (List._∷_ 38 (List._∷_ 91 (List._∷_ 93 List.[]))) (Syntax.tcons (Syntax.tyRef Syntax.erased Syntax.mut ColumnMetadataRow.named) (Syntax.tcons (Syntax.tyInt Syntax.w64) Syntax.tnil)))) (List._∷_ (15, Rows'.any-gone Syntax.tyBool) List.[])))))))))))))))
+t4 = List._∷_ (0, Rows'.any-gone (Syntax.tyInt Syntax.w64)) (List._∷_ (1, Mut.mslice (Referent.rtF (Referent.fInt Syntax.w8)) (Syntax.tyRef (Syntax.named 0) Syntax.mut (Syntax.tyInt Syntax.w8)) 0) (List._∷_ (2, Rows'.sc-here (Row.sInt Syntax.w64)) (List._∷_ (3, Rows'.sslice (Referent.rtF (Referent.fInt Syntax.w8)) (Syntax.tyRef (Syntax.named 1) Syntax.imm (Syntax.tyInt Syntax.w8)) 1) (List._∷_ (4, Mut.mslice (Referent.rtF (Referent.fInt Syntax.w8)) (Syntax.tyRef (Syntax.named 2) Syntax.mut (Syntax.tyInt Syntax.w8)) 2) (List._∷_ (5, ColumnMetadataRow.row) (List._∷_ (6, Rows'.whole (Array'.Array (ColumnMetadataRow.RT) 4096)) (List._∷_ (7, Rows'.any-gone (Syntax.tyStruct (List._∷_ 115 (List._∷_ 113 (List._∷_ 108 (List._∷_ 100 (List._∷_ 97 (List._∷_ 114 (List._∷_ 100 (List._∷_ 58 (List._∷_ 58 (List._∷_ 83 (List._∷_ 113 (List._∷_ 108 (List._∷_ 100 (List._∷_ 97 (List._∷_ 114 (List._∷_ 100 (List._∷_ 65 (List._∷_ 110 (List._∷_ 115 (List._∷_ 119 (List._∷_ 101 (List._∷_ 114 List.[])))))))))))))))))))))) (Syntax.tcons (Syntax.tyEnum (List._∷_ 111 (List._∷_ 117 (List._∷_ 116 (List._∷_ 99 (List._∷_ 111 (List._∷_ 109 (List._∷_ 101 (List._∷_ 58 (List._∷_ 58 (List._∷_ 79 (List._∷_ 117 (List._∷_ 116 (List._∷_ 99 (List._∷_ 111 (List._∷_ 109 (List._∷_ 101 List.[])))))))))))))))) (Syntax.ttcons Syntax.tnil (Syntax.ttcons Syntax.tnil (Syntax.ttcons (Syntax.tcons (Syntax.tyInt Syntax.w64) (Syntax.tcons (Syntax.tyInt Syntax.w64) Syntax.tnil)) (Syntax.ttcons Syntax.tnil (Syntax.ttcons (Syntax.tcons (Syntax.tyInt Syntax.w16) Syntax.tnil) (Syntax.ttcons Syntax.tnil (Syntax.ttcons (Syntax.tcons (Syntax.tyInt Syntax.w64) Syntax.tnil) (Syntax.ttcons Syntax.tnil (Syntax.ttcons (Syntax.tcons (Syntax.tyInt Syntax.w16) Syntax.tnil) Syntax.ttnil)))))))))) (Syntax.tcons (Syntax.tyStruct (List._∷_ 115 (List._∷_ 113 (List._∷_ 108 (List._∷_ 99 (List._∷_ 97 (List._∷_ 114 (List._∷_ 100 (List._∷_ 58 (List._∷_ 58 (List._∷_ 83 (List._∷_ 113 (List._∷_ 108 (List._∷_ 67 (List._∷_ 97 (List._∷_ 114 (List._∷_ 100 List.[])))))))))))))))) (Syntax.tcons Syntax.tyBool (Syntax.tcons (Syntax.tyInt Syntax.w32) (Syntax.tcons (Syntax.tyArray (Syntax.tyInt Syntax.w8) 5) (Syntax.tcons (Syntax.tyArray (Syntax.tyInt Syntax.w8) 8) (Syntax.tcons (Syntax.tyInt Syntax.w8) (Syntax.tcons (Syntax.tyArray (Syntax.tyInt Syntax.w32) 6) (Syntax.tcons (Syntax.tyInt Syntax.w64) (Syntax.tcons (Syntax.tyInt Syntax.w32) (Syntax.tcons (Syntax.tyArray (Syntax.tyInt Syntax.w8) 11) (Syntax.tcons (Syntax.tyInt Syntax.w64) (Syntax.tcons (Syntax.tyInt Syntax.w64) Syntax.tnil)))))))))))) (Syntax.tcons (Syntax.tyInt Syntax.w64) Syntax.tnil))))) (List._∷_ (8, Rows'.any-gone (Syntax.tyEnum (List._∷_ 111 (List._∷_ 117 (List._∷_ 116 (List._∷_ 99 (List._∷_ 111 (List._∷_ 109 (List._∷_ 101 (List._∷_ 58 (List._∷_ 58 (List._∷_ 79 (List._∷_ 117 (List._∷_ 116 (List._∷_ 99 (List._∷_ 111 (List._∷_ 109 (List._∷_ 101 List.[])))))))))))))))) (Syntax.ttcons Syntax.tnil (Syntax.ttcons Syntax.tnil (Syntax.ttcons (Syntax.tcons (Syntax.tyInt Syntax.w64) (Syntax.tcons (Syntax.tyInt Syntax.w64) Syntax.tnil)) (Syntax.ttcons Syntax.tnil (Syntax.ttcons (Syntax.tcons (Syntax.tyInt Syntax.w16) Syntax.tnil) (Syntax.ttcons Syntax.tnil (Syntax.ttcons (Syntax.tcons (Syntax.tyInt Syntax.w64) Syntax.tnil) (Syntax.ttcons Syntax.tnil (Syntax.ttcons (Syntax.tcons (Syntax.tyInt Syntax.w16) Syntax.tnil) Syntax.ttnil))))))))))) (List._∷_ (9, Rows'.any-gone (Syntax.tyInt Syntax.w64)) (List._∷_ (10, Rows'.any-gone (Syntax.tyStruct (List._∷_ 115 (List._∷_ 113 (List._∷_ 108 (List._∷_ 99 (List._∷_ 97 (List._∷_ 114 (List._∷_ 100 (List._∷_ 58 (List._∷_ 58 (List._∷_ 83 (List._∷_ 113 (List._∷_ 108 (List._∷_ 67 (List._∷_ 97 (List._∷_ 114 (List._∷_ 100 List.[])))))))))))))))) (Syntax.tcons Syntax.tyBool (Syntax.tcons (Syntax.tyInt Syntax.w32) (Syntax.tcons (Syntax.tyArray (Syntax.tyInt Syntax.w8) 5) (Syntax.tcons (Syntax.tyArray (Syntax.tyInt Syntax.w8) 8) (Syntax.tcons (Syntax.tyInt Syntax.w8) (Syntax.tcons (Syntax.tyArray (Syntax.tyInt Syntax.w32) 6) (Syntax.tcons (Syntax.tyInt Syntax.w64) (Syntax.tcons (Syntax.tyInt Syntax.w32) (Syntax.tcons (Syntax.tyArray (Syntax.tyInt Syntax.w8) 11) (Syntax.tcons (Syntax.tyInt Syntax.w64) (Syntax.tcons (Syntax.tyInt Syntax.w64) Syntax.tnil))))))))))))) (List._∷_ (11, Rows'.any-gone (Syntax.tyStruct (List._∷_ 116 (List._∷_ 97 (List._∷_ 98 (List._∷_ 108 (List._∷_ 101 (List._∷_ 95 (List._∷_ 111 (List._∷_ 117 (List._∷_ 116 (List._∷_ 112 (List._∷_ 117 (List._∷_ 116 (List._∷_ 58 (List._∷_ 58 (List._∷_ 114 (List._∷_ 111 (List._∷_ 119 (List._∷_ 115 (List._∷_ 58 (List._∷_ 58 (List._∷_ 87 (List._∷_ 105 (List._∷_ 100 (List._∷_ 116 (List._∷_ 104 (List._∷_ 115 List.[])))))))))))))))))))))))))) (Syntax.tcons (Syntax.tyInt Syntax.w64) (Syntax.tcons (Syntax.tyInt Syntax.w64) (Syntax.tcons (Syntax.tyInt Syntax.w64) (Syntax.tcons (Syntax.tyInt Syntax.w64) Syntax.tnil)))))) (List._∷_ (12, Rows'.any-gone (Syntax.tyInt Syntax.w64)) (List._∷_ (13, Rows'.any-gone (Syntax.tyRef Syntax.erased Syntax.mut (Syntax.tyArray ColumnMetadataRow.named 4096))) (List._∷_ (14, Rows'.any-gone (Syntax.tyStruct (List._∷_ 38 (List._∷_ 91 (List._∷_ 93 List.[]))) (Syntax.tcons (Syntax.tyRef Syntax.erased Syntax.mut ColumnMetadataRow.named) (Syntax.tcons (Syntax.tyInt Syntax.w64) Syntax.tnil)))) (List._∷_ (15, Rows'.any-gone Syntax.tyBool) List.[])))))))))))))))
 
 abbrev pub t5 : List.List Row.Entry
-t5 = List._∷_ (0, Rows'.any-gone (Syntax.tyInt Syntax.w64)) (List._∷_ (1, Mut.mslice (Referent.rtF (Referent.fInt Syntax.w8)) (Syntax.tyRef (Syntax.named 0) Syntax.mut (Syntax.tyInt Syntax.w8)) 0) (List._∷_ (2, Rows'.sc-here (Row.sInt Syntax.w64)) (List._∷_ (3, Rows'.sslice (Referent.rtF (Referent.fInt Syntax.w8)) (Syntax.tyRef (Syntax.named 1) Syntax.imm (Syntax.tyInt Syntax.w8)) 1) (List._∷_ (4, Mut.mslice (Referent.rtF (Referent.fInt Syntax.w8)) (Syntax.tyRef (Syntax.named 2) Syntax.mut (Syntax.tyInt Syntax.w8)) 2) (List._∷_ (5, ColumnMetadataRow.row) (List._∷_ (6, Rows.arrF (ColumnMetadataRow.RT) 4096 0) (List._∷_ (7, Rows'.any-gone (Syntax.tyStruct (List._∷_ 115 (List._∷_ 113 (List._∷_ 108 (List._∷_ 100 (List._∷_ 97 (List._∷_ 114 (List._∷_ 100 (List._∷_ 58 (List._∷_ 58 (List._∷_ 83 (List._∷_ 113 (List._∷_ 108 (List._∷_ 100 (List._∷_ 97 (List._∷_ 114 (List._∷_ 100 (List._∷_ 65 (List._∷_ 110 (List._∷_ 115 (List._∷_ 119 (List._∷_ 101 (List._∷_ 114 List.[])))))))))))))))))))))) (Syntax.tcons (Syntax.tyEnum (List._∷_ 111 (List._∷_ 117 (List._∷_ 116 (List._∷_ 99 (List._∷_ 111 (List._∷_ 109 (List._∷_ 101 (List._∷_ 58 (List._∷_ 58 (List._∷_ 79 (List._∷_ 117 (List._∷_ 116 (List._∷_ 99 (List._∷_ 111 (List._∷_ 109 (List._∷_ 101 List.[])))))))))))))))) (Syntax.ttcons Syntax.tnil (Syntax.ttcons Syntax.tnil (Syntax.ttcons (Syntax.tcons (Syntax.tyInt Syntax.w64) (Syntax.tcons (Syntax.tyInt Syntax.w64) Syntax.tnil)) (Syntax.ttcons Syntax.tnil (Syntax.ttcons (Syntax.tcons (Syntax.tyInt Syntax.w16) Syntax.tnil) (Syntax.ttcons Syntax.tnil (Syntax.ttcons (Syntax.tcons (Syntax.tyInt Syntax.w64) Syntax.tnil) (Syntax.ttcons Syntax.tnil Syntax.ttnil))))))))) (Syntax.tcons (Syntax.tyStruct (List._∷_ 115 (List._∷_ 113 (List._∷_ 108 (List._∷_ 99 (List._∷_ 97 (List._∷_ 114 (List._∷_ 100 (List._∷_ 58 (List._∷_ 58 (List._∷_ 83 (List._∷_ 113 (List._∷_ 108 (List._∷_ 67 (List._∷_ 97 (List._∷_ 114 (List._∷_ 100 List.[])))))))))))))))) (Syntax.tcons Syntax.tyBool (Syntax.tcons (Syntax.tyInt Syntax.w32) (Syntax.tcons (Syntax.tyArray (Syntax.tyInt Syntax.w8) 5) (Syntax.tcons (Syntax.tyArray (Syntax.tyInt Syntax.w8) 8) (Syntax.tcons (Syntax.tyInt Syntax.w8) (Syntax.tcons (Syntax.tyArray (Syntax.tyInt Syntax.w32) 6) (Syntax.tcons (Syntax.tyInt Syntax.w64) (Syntax.tcons (Syntax.tyInt Syntax.w32) (Syntax.tcons (Syntax.tyArray (Syntax.tyInt Syntax.w8) 11) (Syntax.tcons (Syntax.tyInt Syntax.w64) (Syntax.tcons (Syntax.tyInt Syntax.w64) Syntax.tnil)))))))))))) (Syntax.tcons (Syntax.tyInt Syntax.w64) Syntax.tnil))))) (List._∷_ (8, Rows'.any-gone (Syntax.tyEnum (List._∷_ 111 (List._∷_ 117 (List._∷_ 116 (List._∷_ 99 (List._∷_ 111 (List._∷_ 109 (List._∷_ 101 (List._∷_ 58 (List._∷_ 58 (List._∷_ 79 (List._∷_ 117 (List._∷_ 116 (List._∷_ 99 (List._∷_ 111 (List._∷_ 109 (List._∷_ 101 List.[])))))))))))))))) (Syntax.ttcons Syntax.tnil (Syntax.ttcons Syntax.tnil (Syntax.ttcons (Syntax.tcons (Syntax.tyInt Syntax.w64) (Syntax.tcons (Syntax.tyInt Syntax.w64) Syntax.tnil)) (Syntax.ttcons Syntax.tnil (Syntax.ttcons (Syntax.tcons (Syntax.tyInt Syntax.w16) Syntax.tnil) (Syntax.ttcons Syntax.tnil (Syntax.ttcons (Syntax.tcons (Syntax.tyInt Syntax.w64) Syntax.tnil) (Syntax.ttcons Syntax.tnil Syntax.ttnil)))))))))) (List._∷_ (9, Rows'.any-gone (Syntax.tyInt Syntax.w64)) (List._∷_ (10, Rows'.any-gone (Syntax.tyStruct (List._∷_ 115 (List._∷_ 113 (List._∷_ 108 (List._∷_ 99 (List._∷_ 97 (List._∷_ 114 (List._∷_ 100 (List._∷_ 58 (List._∷_ 58 (List._∷_ 83 (List._∷_ 113 (List._∷_ 108 (List._∷_ 67 (List._∷_ 97 (List._∷_ 114 (List._∷_ 100 List.[])))))))))))))))) (Syntax.tcons Syntax.tyBool (Syntax.tcons (Syntax.tyInt Syntax.w32) (Syntax.tcons (Syntax.tyArray (Syntax.tyInt Syntax.w8) 5) (Syntax.tcons (Syntax.tyArray (Syntax.tyInt Syntax.w8) 8) (Syntax.tcons (Syntax.tyInt Syntax.w8) (Syntax.tcons (Syntax.tyArray (Syntax.tyInt Syntax.w32) 6) (Syntax.tcons (Syntax.tyInt Syntax.w64) (Syntax.tcons (Syntax.tyInt Syntax.w32) (Syntax.tcons (Syntax.tyArray (Syntax.tyInt Syntax.w8) 11) (Syntax.tcons (Syntax.tyInt Syntax.w64) (Syntax.tcons (Syntax.tyInt Syntax.w64) Syntax.tnil))))))))))))) (List._∷_ (11, Rows'.any-gone (Syntax.tyStruct (List._∷_ 116 (List._∷_ 97 (List._∷_ 98 (List._∷_ 108 (List._∷_ 101 (List._∷_ 95 (List._∷_ 111 (List._∷_ 117 (List._∷_ 116 (List._∷_ 112 (List._∷_ 117 (List._∷_ 116 (List._∷_ 58 (List._∷_ 58 (List._∷_ 114 (List._∷_ 111 (List._∷_ 119 (List._∷_ 115 (List._∷_ 58 (List._∷_ 58 (List._∷_ 87 (List._∷_ 105 (List._∷_ 100 (List._∷_ 116 (List._∷_ 104 (List._∷_ 115 List.[])))))))))))))))))))))))))) (Syntax.tcons (Syntax.tyInt Syntax.w64) (Syntax.tcons (Syntax.tyInt Syntax.w64) (Syntax.tcons (Syntax.tyInt Syntax.w64) (Syntax.tcons (Syntax.tyInt Syntax.w64) Syntax.tnil)))))) (List._∷_ (12, Rows'.any-gone (Syntax.tyInt Syntax.w64)) (List._∷_ (13, Rows'.any-gone (Syntax.tyRef Syntax.erased Syntax.mut (Syntax.tyArray ColumnMetadataRow.named 4096))) (List._∷_ (14, Rows'.any-gone (Syntax.tyStruct (List._∷_ 38 (List._∷_ 91 (List._∷_ 93 List.[]))) (Syntax.tcons (Syntax.tyRef Syntax.erased Syntax.mut ColumnMetadataRow.named) (Syntax.tcons (Syntax.tyInt Syntax.w64) Syntax.tnil)))) (List._∷_ (15, Rows'.any-gone Syntax.tyBool) List.[])))))))))))))))
+t5 = List._∷_ (0, Rows'.any-gone (Syntax.tyInt Syntax.w64)) (List._∷_ (1, Mut.mslice (Referent.rtF (Referent.fInt Syntax.w8)) (Syntax.tyRef (Syntax.named 0) Syntax.mut (Syntax.tyInt Syntax.w8)) 0) (List._∷_ (2, Rows'.sc-here (Row.sInt Syntax.w64)) (List._∷_ (3, Rows'.sslice (Referent.rtF (Referent.fInt Syntax.w8)) (Syntax.tyRef (Syntax.named 1) Syntax.imm (Syntax.tyInt Syntax.w8)) 1) (List._∷_ (4, Mut.mslice (Referent.rtF (Referent.fInt Syntax.w8)) (Syntax.tyRef (Syntax.named 2) Syntax.mut (Syntax.tyInt Syntax.w8)) 2) (List._∷_ (5, ColumnMetadataRow.row) (List._∷_ (6, Rows.arrF (ColumnMetadataRow.RT) 4096 0) (List._∷_ (7, Rows'.any-gone (Syntax.tyStruct (List._∷_ 115 (List._∷_ 113 (List._∷_ 108 (List._∷_ 100 (List._∷_ 97 (List._∷_ 114 (List._∷_ 100 (List._∷_ 58 (List._∷_ 58 (List._∷_ 83 (List._∷_ 113 (List._∷_ 108 (List._∷_ 100 (List._∷_ 97 (List._∷_ 114 (List._∷_ 100 (List._∷_ 65 (List._∷_ 110 (List._∷_ 115 (List._∷_ 119 (List._∷_ 101 (List._∷_ 114 List.[])))))))))))))))))))))) (Syntax.tcons (Syntax.tyEnum (List._∷_ 111 (List._∷_ 117 (List._∷_ 116 (List._∷_ 99 (List._∷_ 111 (List._∷_ 109 (List._∷_ 101 (List._∷_ 58 (List._∷_ 58 (List._∷_ 79 (List._∷_ 117 (List._∷_ 116 (List._∷_ 99 (List._∷_ 111 (List._∷_ 109 (List._∷_ 101 List.[])))))))))))))))) (Syntax.ttcons Syntax.tnil (Syntax.ttcons Syntax.tnil (Syntax.ttcons (Syntax.tcons (Syntax.tyInt Syntax.w64) (Syntax.tcons (Syntax.tyInt Syntax.w64) Syntax.tnil)) (Syntax.ttcons Syntax.tnil (Syntax.ttcons (Syntax.tcons (Syntax.tyInt Syntax.w16) Syntax.tnil) (Syntax.ttcons Syntax.tnil (Syntax.ttcons (Syntax.tcons (Syntax.tyInt Syntax.w64) Syntax.tnil) (Syntax.ttcons Syntax.tnil (Syntax.ttcons (Syntax.tcons (Syntax.tyInt Syntax.w16) Syntax.tnil) Syntax.ttnil)))))))))) (Syntax.tcons (Syntax.tyStruct (List._∷_ 115 (List._∷_ 113 (List._∷_ 108 (List._∷_ 99 (List._∷_ 97 (List._∷_ 114 (List._∷_ 100 (List._∷_ 58 (List._∷_ 58 (List._∷_ 83 (List._∷_ 113 (List._∷_ 108 (List._∷_ 67 (List._∷_ 97 (List._∷_ 114 (List._∷_ 100 List.[])))))))))))))))) (Syntax.tcons Syntax.tyBool (Syntax.tcons (Syntax.tyInt Syntax.w32) (Syntax.tcons (Syntax.tyArray (Syntax.tyInt Syntax.w8) 5) (Syntax.tcons (Syntax.tyArray (Syntax.tyInt Syntax.w8) 8) (Syntax.tcons (Syntax.tyInt Syntax.w8) (Syntax.tcons (Syntax.tyArray (Syntax.tyInt Syntax.w32) 6) (Syntax.tcons (Syntax.tyInt Syntax.w64) (Syntax.tcons (Syntax.tyInt Syntax.w32) (Syntax.tcons (Syntax.tyArray (Syntax.tyInt Syntax.w8) 11) (Syntax.tcons (Syntax.tyInt Syntax.w64) (Syntax.tcons (Syntax.tyInt Syntax.w64) Syntax.tnil)))))))))))) (Syntax.tcons (Syntax.tyInt Syntax.w64) Syntax.tnil))))) (List._∷_ (8, Rows'.any-gone (Syntax.tyEnum (List._∷_ 111 (List._∷_ 117 (List._∷_ 116 (List._∷_ 99 (List._∷_ 111 (List._∷_ 109 (List._∷_ 101 (List._∷_ 58 (List._∷_ 58 (List._∷_ 79 (List._∷_ 117 (List._∷_ 116 (List._∷_ 99 (List._∷_ 111 (List._∷_ 109 (List._∷_ 101 List.[])))))))))))))))) (Syntax.ttcons Syntax.tnil (Syntax.ttcons Syntax.tnil (Syntax.ttcons (Syntax.tcons (Syntax.tyInt Syntax.w64) (Syntax.tcons (Syntax.tyInt Syntax.w64) Syntax.tnil)) (Syntax.ttcons Syntax.tnil (Syntax.ttcons (Syntax.tcons (Syntax.tyInt Syntax.w16) Syntax.tnil) (Syntax.ttcons Syntax.tnil (Syntax.ttcons (Syntax.tcons (Syntax.tyInt Syntax.w64) Syntax.tnil) (Syntax.ttcons Syntax.tnil (Syntax.ttcons (Syntax.tcons (Syntax.tyInt Syntax.w16) Syntax.tnil) Syntax.ttnil))))))))))) (List._∷_ (9, Rows'.any-gone (Syntax.tyInt Syntax.w64)) (List._∷_ (10, Rows'.any-gone (Syntax.tyStruct (List._∷_ 115 (List._∷_ 113 (List._∷_ 108 (List._∷_ 99 (List._∷_ 97 (List._∷_ 114 (List._∷_ 100 (List._∷_ 58 (List._∷_ 58 (List._∷_ 83 (List._∷_ 113 (List._∷_ 108 (List._∷_ 67 (List._∷_ 97 (List._∷_ 114 (List._∷_ 100 List.[])))))))))))))))) (Syntax.tcons Syntax.tyBool (Syntax.tcons (Syntax.tyInt Syntax.w32) (Syntax.tcons (Syntax.tyArray (Syntax.tyInt Syntax.w8) 5) (Syntax.tcons (Syntax.tyArray (Syntax.tyInt Syntax.w8) 8) (Syntax.tcons (Syntax.tyInt Syntax.w8) (Syntax.tcons (Syntax.tyArray (Syntax.tyInt Syntax.w32) 6) (Syntax.tcons (Syntax.tyInt Syntax.w64) (Syntax.tcons (Syntax.tyInt Syntax.w32) (Syntax.tcons (Syntax.tyArray (Syntax.tyInt Syntax.w8) 11) (Syntax.tcons (Syntax.tyInt Syntax.w64) (Syntax.tcons (Syntax.tyInt Syntax.w64) Syntax.tnil))))))))))))) (List._∷_ (11, Rows'.any-gone (Syntax.tyStruct (List._∷_ 116 (List._∷_ 97 (List._∷_ 98 (List._∷_ 108 (List._∷_ 101 (List._∷_ 95 (List._∷_ 111 (List._∷_ 117 (List._∷_ 116 (List._∷_ 112 (List._∷_ 117 (List._∷_ 116 (List._∷_ 58 (List._∷_ 58 (List._∷_ 114 (List._∷_ 111 (List._∷_ 119 (List._∷_ 115 (List._∷_ 58 (List._∷_ 58 (List._∷_ 87 (List._∷_ 105 (List._∷_ 100 (List._∷_ 116 (List._∷_ 104 (List._∷_ 115 List.[])))))))))))))))))))))))))) (Syntax.tcons (Syntax.tyInt Syntax.w64) (Syntax.tcons (Syntax.tyInt Syntax.w64) (Syntax.tcons (Syntax.tyInt Syntax.w64) (Syntax.tcons (Syntax.tyInt Syntax.w64) Syntax.tnil)))))) (List._∷_ (12, Rows'.any-gone (Syntax.tyInt Syntax.w64)) (List._∷_ (13, Rows'.any-gone (Syntax.tyRef Syntax.erased Syntax.mut (Syntax.tyArray ColumnMetadataRow.named 4096))) (List._∷_ (14, Rows'.any-gone (Syntax.tyStruct (List._∷_ 38 (List._∷_ 91 (List._∷_ 93 List.[]))) (Syntax.tcons (Syntax.tyRef Syntax.erased Syntax.mut ColumnMetadataRow.named) (Syntax.tcons (Syntax.tyInt Syntax.w64) Syntax.tnil)))) (List._∷_ (15, Rows'.any-gone Syntax.tyBool) List.[])))))))))))))))
 
 abbrev pub t6 : List.List Row.Entry
-t6 = List._∷_ (0, Rows'.any-gone (Syntax.tyInt Syntax.w64)) (List._∷_ (1, Mut.mslice (Referent.rtF (Referent.fInt Syntax.w8)) (Syntax.tyRef (Syntax.named 0) Syntax.mut (Syntax.tyInt Syntax.w8)) 0) (List._∷_ (2, Rows'.sc-here (Row.sInt Syntax.w64)) (List._∷_ (3, Rows'.sslice (Referent.rtF (Referent.fInt Syntax.w8)) (Syntax.tyRef (Syntax.named 1) Syntax.imm (Syntax.tyInt Syntax.w8)) 1) (List._∷_ (4, Mut.mslice (Referent.rtF (Referent.fInt Syntax.w8)) (Syntax.tyRef (Syntax.named 2) Syntax.mut (Syntax.tyInt Syntax.w8)) 2) (List._∷_ (5, Rows'.any-gone (ColumnMetadataRow.ty)) (List._∷_ (6, Rows.arrF (ColumnMetadataRow.RT) 4096 0) (List._∷_ (7, Rows'.any-gone (Syntax.tyStruct (List._∷_ 115 (List._∷_ 113 (List._∷_ 108 (List._∷_ 100 (List._∷_ 97 (List._∷_ 114 (List._∷_ 100 (List._∷_ 58 (List._∷_ 58 (List._∷_ 83 (List._∷_ 113 (List._∷_ 108 (List._∷_ 100 (List._∷_ 97 (List._∷_ 114 (List._∷_ 100 (List._∷_ 65 (List._∷_ 110 (List._∷_ 115 (List._∷_ 119 (List._∷_ 101 (List._∷_ 114 List.[])))))))))))))))))))))) (Syntax.tcons (Syntax.tyEnum (List._∷_ 111 (List._∷_ 117 (List._∷_ 116 (List._∷_ 99 (List._∷_ 111 (List._∷_ 109 (List._∷_ 101 (List._∷_ 58 (List._∷_ 58 (List._∷_ 79 (List._∷_ 117 (List._∷_ 116 (List._∷_ 99 (List._∷_ 111 (List._∷_ 109 (List._∷_ 101 List.[])))))))))))))))) (Syntax.ttcons Syntax.tnil (Syntax.ttcons Syntax.tnil (Syntax.ttcons (Syntax.tcons (Syntax.tyInt Syntax.w64) (Syntax.tcons (Syntax.tyInt Syntax.w64) Syntax.tnil)) (Syntax.ttcons Syntax.tnil (Syntax.ttcons (Syntax.tcons (Syntax.tyInt Syntax.w16) Syntax.tnil) (Syntax.ttcons Syntax.tnil (Syntax.ttcons (Syntax.tcons (Syntax.tyInt Syntax.w64) Syntax.tnil) (Syntax.ttcons Syntax.tnil Syntax.ttnil))))))))) (Syntax.tcons (Syntax.tyStruct (List._∷_ 115 (List._∷_ 113 (List._∷_ 108 (List._∷_ 99 (List._∷_ 97 (List._∷_ 114 (List._∷_ 100 (List._∷_ 58 (List._∷_ 58 (List._∷_ 83 (List._∷_ 113 (List._∷_ 108 (List._∷_ 67 (List._∷_ 97 (List._∷_ 114 (List._∷_ 100 List.[])))))))))))))))) (Syntax.tcons Syntax.tyBool (Syntax.tcons (Syntax.tyInt Syntax.w32) (Syntax.tcons (Syntax.tyArray (Syntax.tyInt Syntax.w8) 5) (Syntax.tcons (Syntax.tyArray (Syntax.tyInt Syntax.w8) 8) (Syntax.tcons (Syntax.tyInt Syntax.w8) (Syntax.tcons (Syntax.tyArray (Syntax.tyInt Syntax.w32) 6) (Syntax.tcons (Syntax.tyInt Syntax.w64) (Syntax.tcons (Syntax.tyInt Syntax.w32) (Syntax.tcons (Syntax.tyArray (Syntax.tyInt Syntax.w8) 11) (Syntax.tcons (Syntax.tyInt Syntax.w64) (Syntax.tcons (Syntax.tyInt Syntax.w64) Syntax.tnil)))))))))))) (Syntax.tcons (Syntax.tyInt Syntax.w64) Syntax.tnil))))) (List._∷_ (8, Rows'.any-gone (Syntax.tyEnum (List._∷_ 111 (List._∷_ 117 (List._∷_ 116 (List._∷_ 99 (List._∷_ 111 (List._∷_ 109 (List._∷_ 101 (List._∷_ 58 (List._∷_ 58 (List._∷_ 79 (List._∷_ 117 (List._∷_ 116 (List._∷_ 99 (List._∷_ 111 (List._∷_ 109 (List._∷_ 101 List.[])))))))))))))))) (Syntax.ttcons Syntax.tnil (Syntax.ttcons Syntax.tnil (Syntax.ttcons (Syntax.tcons (Syntax.tyInt Syntax.w64) (Syntax.tcons (Syntax.tyInt Syntax.w64) Syntax.tnil)) (Syntax.ttcons Syntax.tnil (Syntax.ttcons (Syntax.tcons (Syntax.tyInt Syntax.w16) Syntax.tnil) (Syntax.ttcons Syntax.tnil (Syntax.ttcons (Syntax.tcons (Syntax.tyInt Syntax.w64) Syntax.tnil) (Syntax.ttcons Syntax.tnil Syntax.ttnil)))))))))) (List._∷_ (9, Rows'.any-gone (Syntax.tyInt Syntax.w64)) (List._∷_ (10, Rows'.any-gone (Syntax.tyStruct (List._∷_ 115 (List._∷_ 113 (List._∷_ 108 (List._∷_ 99 (List._∷_ 97 (List._∷_ 114 (List._∷_ 100 (List._∷_ 58 (List._∷_ 58 (List._∷_ 83 (List._∷_ 113 (List._∷_ 108 (List._∷_ 67 (List._∷_ 97 (List._∷_ 114 (List._∷_ 100 List.[])))))))))))))))) (Syntax.tcons Syntax.tyBool (Syntax.tcons (Syntax.tyInt Syntax.w32) (Syntax.tcons (Syntax.tyArray (Syntax.tyInt Syntax.w8) 5) (Syntax.tcons (Syntax.tyArray (Syntax.tyInt Syntax.w8) 8) (Syntax.tcons (Syntax.tyInt Syntax.w8) (Syntax.tcons (Syntax.tyArray (Syntax.tyInt Syntax.w32) 6) (Syntax.tcons (Syntax.tyInt Syntax.w64) (Syntax.tcons (Syntax.tyInt Syntax.w32) (Syntax.tcons (Syntax.tyArray (Syntax.tyInt Syntax.w8) 11) (Syntax.tcons (Syntax.tyInt Syntax.w64) (Syntax.tcons (Syntax.tyInt Syntax.w64) Syntax.tnil))))))))))))) (List._∷_ (11, Rows'.any-gone (Syntax.tyStruct (List._∷_ 116 (List._∷_ 97 (List._∷_ 98 (List._∷_ 108 (List._∷_ 101 (List._∷_ 95 (List._∷_ 111 (List._∷_ 117 (List._∷_ 116 (List._∷_ 112 (List._∷_ 117 (List._∷_ 116 (List._∷_ 58 (List._∷_ 58 (List._∷_ 114 (List._∷_ 111 (List._∷_ 119 (List._∷_ 115 (List._∷_ 58 (List._∷_ 58 (List._∷_ 87 (List._∷_ 105 (List._∷_ 100 (List._∷_ 116 (List._∷_ 104 (List._∷_ 115 List.[])))))))))))))))))))))))))) (Syntax.tcons (Syntax.tyInt Syntax.w64) (Syntax.tcons (Syntax.tyInt Syntax.w64) (Syntax.tcons (Syntax.tyInt Syntax.w64) (Syntax.tcons (Syntax.tyInt Syntax.w64) Syntax.tnil)))))) (List._∷_ (12, Rows'.any-gone (Syntax.tyInt Syntax.w64)) (List._∷_ (13, Rows'.any-gone (Syntax.tyRef Syntax.erased Syntax.mut (Syntax.tyArray ColumnMetadataRow.named 4096))) (List._∷_ (14, Rows'.any-gone (Syntax.tyStruct (List._∷_ 38 (List._∷_ 91 (List._∷_ 93 List.[]))) (Syntax.tcons (Syntax.tyRef Syntax.erased Syntax.mut ColumnMetadataRow.named) (Syntax.tcons (Syntax.tyInt Syntax.w64) Syntax.tnil)))) (List._∷_ (15, Rows'.any-gone Syntax.tyBool) List.[])))))))))))))))
+t6 = List._∷_ (0, Rows'.any-gone (Syntax.tyInt Syntax.w64)) (List._∷_ (1, Mut.mslice (Referent.rtF (Referent.fInt Syntax.w8)) (Syntax.tyRef (Syntax.named 0) Syntax.mut (Syntax.tyInt Syntax.w8)) 0) (List._∷_ (2, Rows'.sc-here (Row.sInt Syntax.w64)) (List._∷_ (3, Rows'.sslice (Referent.rtF (Referent.fInt Syntax.w8)) (Syntax.tyRef (Syntax.named 1) Syntax.imm (Syntax.tyInt Syntax.w8)) 1) (List._∷_ (4, Mut.mslice (Referent.rtF (Referent.fInt Syntax.w8)) (Syntax.tyRef (Syntax.named 2) Syntax.mut (Syntax.tyInt Syntax.w8)) 2) (List._∷_ (5, Rows'.any-gone (ColumnMetadataRow.ty)) (List._∷_ (6, Rows.arrF (ColumnMetadataRow.RT) 4096 0) (List._∷_ (7, Rows'.any-gone (Syntax.tyStruct (List._∷_ 115 (List._∷_ 113 (List._∷_ 108 (List._∷_ 100 (List._∷_ 97 (List._∷_ 114 (List._∷_ 100 (List._∷_ 58 (List._∷_ 58 (List._∷_ 83 (List._∷_ 113 (List._∷_ 108 (List._∷_ 100 (List._∷_ 97 (List._∷_ 114 (List._∷_ 100 (List._∷_ 65 (List._∷_ 110 (List._∷_ 115 (List._∷_ 119 (List._∷_ 101 (List._∷_ 114 List.[])))))))))))))))))))))) (Syntax.tcons (Syntax.tyEnum (List._∷_ 111 (List._∷_ 117 (List._∷_ 116 (List._∷_ 99 (List._∷_ 111 (List._∷_ 109 (List._∷_ 101 (List._∷_ 58 (List._∷_ 58 (List._∷_ 79 (List._∷_ 117 (List._∷_ 116 (List._∷_ 99 (List._∷_ 111 (List._∷_ 109 (List._∷_ 101 List.[])))))))))))))))) (Syntax.ttcons Syntax.tnil (Syntax.ttcons Syntax.tnil (Syntax.ttcons (Syntax.tcons (Syntax.tyInt Syntax.w64) (Syntax.tcons (Syntax.tyInt Syntax.w64) Syntax.tnil)) (Syntax.ttcons Syntax.tnil (Syntax.ttcons (Syntax.tcons (Syntax.tyInt Syntax.w16) Syntax.tnil) (Syntax.ttcons Syntax.tnil (Syntax.ttcons (Syntax.tcons (Syntax.tyInt Syntax.w64) Syntax.tnil) (Syntax.ttcons Syntax.tnil (Syntax.ttcons (Syntax.tcons (Syntax.tyInt Syntax.w16) Syntax.tnil) Syntax.ttnil)))))))))) (Syntax.tcons (Syntax.tyStruct (List._∷_ 115 (List._∷_ 113 (List._∷_ 108 (List._∷_ 99 (List._∷_ 97 (List._∷_ 114 (List._∷_ 100 (List._∷_ 58 (List._∷_ 58 (List._∷_ 83 (List._∷_ 113 (List._∷_ 108 (List._∷_ 67 (List._∷_ 97 (List._∷_ 114 (List._∷_ 100 List.[])))))))))))))))) (Syntax.tcons Syntax.tyBool (Syntax.tcons (Syntax.tyInt Syntax.w32) (Syntax.tcons (Syntax.tyArray (Syntax.tyInt Syntax.w8) 5) (Syntax.tcons (Syntax.tyArray (Syntax.tyInt Syntax.w8) 8) (Syntax.tcons (Syntax.tyInt Syntax.w8) (Syntax.tcons (Syntax.tyArray (Syntax.tyInt Syntax.w32) 6) (Syntax.tcons (Syntax.tyInt Syntax.w64) (Syntax.tcons (Syntax.tyInt Syntax.w32) (Syntax.tcons (Syntax.tyArray (Syntax.tyInt Syntax.w8) 11) (Syntax.tcons (Syntax.tyInt Syntax.w64) (Syntax.tcons (Syntax.tyInt Syntax.w64) Syntax.tnil)))))))))))) (Syntax.tcons (Syntax.tyInt Syntax.w64) Syntax.tnil))))) (List._∷_ (8, Rows'.any-gone (Syntax.tyEnum (List._∷_ 111 (List._∷_ 117 (List._∷_ 116 (List._∷_ 99 (List._∷_ 111 (List._∷_ 109 (List._∷_ 101 (List._∷_ 58 (List._∷_ 58 (List._∷_ 79 (List._∷_ 117 (List._∷_ 116 (List._∷_ 99 (List._∷_ 111 (List._∷_ 109 (List._∷_ 101 List.[])))))))))))))))) (Syntax.ttcons Syntax.tnil (Syntax.ttcons Syntax.tnil (Syntax.ttcons (Syntax.tcons (Syntax.tyInt Syntax.w64) (Syntax.tcons (Syntax.tyInt Syntax.w64) Syntax.tnil)) (Syntax.ttcons Syntax.tnil (Syntax.ttcons (Syntax.tcons (Syntax.tyInt Syntax.w16) Syntax.tnil) (Syntax.ttcons Syntax.tnil (Syntax.ttcons (Syntax.tcons (Syntax.tyInt Syntax.w64) Syntax.tnil) (Syntax.ttcons Syntax.tnil (Syntax.ttcons (Syntax.tcons (Syntax.tyInt Syntax.w16) Syntax.tnil) Syntax.ttnil))))))))))) (List._∷_ (9, Rows'.any-gone (Syntax.tyInt Syntax.w64)) (List._∷_ (10, Rows'.any-gone (Syntax.tyStruct (List._∷_ 115 (List._∷_ 113 (List._∷_ 108 (List._∷_ 99 (List._∷_ 97 (List._∷_ 114 (List._∷_ 100 (List._∷_ 58 (List._∷_ 58 (List._∷_ 83 (List._∷_ 113 (List._∷_ 108 (List._∷_ 67 (List._∷_ 97 (List._∷_ 114 (List._∷_ 100 List.[])))))))))))))))) (Syntax.tcons Syntax.tyBool (Syntax.tcons (Syntax.tyInt Syntax.w32) (Syntax.tcons (Syntax.tyArray (Syntax.tyInt Syntax.w8) 5) (Syntax.tcons (Syntax.tyArray (Syntax.tyInt Syntax.w8) 8) (Syntax.tcons (Syntax.tyInt Syntax.w8) (Syntax.tcons (Syntax.tyArray (Syntax.tyInt Syntax.w32) 6) (Syntax.tcons (Syntax.tyInt Syntax.w64) (Syntax.tcons (Syntax.tyInt Syntax.w32) (Syntax.tcons (Syntax.tyArray (Syntax.tyInt Syntax.w8) 11) (Syntax.tcons (Syntax.tyInt Syntax.w64) (Syntax.tcons (Syntax.tyInt Syntax.w64) Syntax.tnil))))))))))))) (List._∷_ (11, Rows'.any-gone (Syntax.tyStruct (List._∷_ 116 (List._∷_ 97 (List._∷_ 98 (List._∷_ 108 (List._∷_ 101 (List._∷_ 95 (List._∷_ 111 (List._∷_ 117 (List._∷_ 116 (List._∷_ 112 (List._∷_ 117 (List._∷_ 116 (List._∷_ 58 (List._∷_ 58 (List._∷_ 114 (List._∷_ 111 (List._∷_ 119 (List._∷_ 115 (List._∷_ 58 (List._∷_ 58 (List._∷_ 87 (List._∷_ 105 (List._∷_ 100 (List._∷_ 116 (List._∷_ 104 (List._∷_ 115 List.[])))))))))))))))))))))))))) (Syntax.tcons (Syntax.tyInt Syntax.w64) (Syntax.tcons (Syntax.tyInt Syntax.w64) (Syntax.tcons (Syntax.tyInt Syntax.w64) (Syntax.tcons (Syntax.tyInt Syntax.w64) Syntax.tnil)))))) (List._∷_ (12, Rows'.any-gone (Syntax.tyInt Syntax.w64)) (List._∷_ (13, Rows'.any-gone (Syntax.tyRef Syntax.erased Syntax.mut (Syntax.tyArray ColumnMetadataRow.named 4096))) (List._∷_ (14, Rows'.any-gone (Syntax.tyStruct (List._∷_ 38 (List._∷_ 91 (List._∷_ 93 List.[]))) (Syntax.tcons (Syntax.tyRef Syntax.erased Syntax.mut ColumnMetadataRow.named) (Syntax.tcons (Syntax.tyInt Syntax.w64) Syntax.tnil)))) (List._∷_ (15, Rows'.any-gone Syntax.tyBool) List.[])))))))))))))))
 
 abbrev pub t7 : List.List Row.Entry
-t7 = List._∷_ (0, Rows'.any-gone (Syntax.tyInt Syntax.w64)) (List._∷_ (1, Mut.mslice (Referent.rtF (Referent.fInt Syntax.w8)) (Syntax.tyRef (Syntax.named 0) Syntax.mut (Syntax.tyInt Syntax.w8)) 0) (List._∷_ (2, Rows'.sc-here (Row.sInt Syntax.w64)) (List._∷_ (3, Rows'.sslice (Referent.rtF (Referent.fInt Syntax.w8)) (Syntax.tyRef (Syntax.named 1) Syntax.imm (Syntax.tyInt Syntax.w8)) 1) (List._∷_ (4, Mut.mslice (Referent.rtF (Referent.fInt Syntax.w8)) (Syntax.tyRef (Syntax.named 2) Syntax.mut (Syntax.tyInt Syntax.w8)) 2) (List._∷_ (5, Rows'.any-gone (ColumnMetadataRow.ty)) (List._∷_ (6, Rows.arr-owed (ColumnMetadataRow.RT) 4096 3) (List._∷_ (7, Rows'.any-gone (Syntax.tyStruct (List._∷_ 115 (List._∷_ 113 (List._∷_ 108 (List._∷_ 100 (List._∷_ 97 (List._∷_ 114 (List._∷_ 100 (List._∷_ 58 (List._∷_ 58 (List._∷_ 83 (List._∷_ 113 (List._∷_ 108 (List._∷_ 100 (List._∷_ 97 (List._∷_ 114 (List._∷_ 100 (List._∷_ 65 (List._∷_ 110 (List._∷_ 115 (List._∷_ 119 (List._∷_ 101 (List._∷_ 114 List.[])))))))))))))))))))))) (Syntax.tcons (Syntax.tyEnum (List._∷_ 111 (List._∷_ 117 (List._∷_ 116 (List._∷_ 99 (List._∷_ 111 (List._∷_ 109 (List._∷_ 101 (List._∷_ 58 (List._∷_ 58 (List._∷_ 79 (List._∷_ 117 (List._∷_ 116 (List._∷_ 99 (List._∷_ 111 (List._∷_ 109 (List._∷_ 101 List.[])))))))))))))))) (Syntax.ttcons Syntax.tnil (Syntax.ttcons Syntax.tnil (Syntax.ttcons (Syntax.tcons (Syntax.tyInt Syntax.w64) (Syntax.tcons (Syntax.tyInt Syntax.w64) Syntax.tnil)) (Syntax.ttcons Syntax.tnil (Syntax.ttcons (Syntax.tcons (Syntax.tyInt Syntax.w16) Syntax.tnil) (Syntax.ttcons Syntax.tnil (Syntax.ttcons (Syntax.tcons (Syntax.tyInt Syntax.w64) Syntax.tnil) (Syntax.ttcons Syntax.tnil Syntax.ttnil))))))))) (Syntax.tcons (Syntax.tyStruct (List._∷_ 115 (List._∷_ 113 (List._∷_ 108 (List._∷_ 99 (List._∷_ 97 (List._∷_ 114 (List._∷_ 100 (List._∷_ 58 (List._∷_ 58 (List._∷_ 83 (List._∷_ 113 (List._∷_ 108 (List._∷_ 67 (List._∷_ 97 (List._∷_ 114 (List._∷_ 100 List.[])))))))))))))))) (Syntax.tcons Syntax.tyBool (Syntax.tcons (Syntax.tyInt Syntax.w32) (Syntax.tcons (Syntax.tyArray (Syntax.tyInt Syntax.w8) 5) (Syntax.tcons (Syntax.tyArray (Syntax.tyInt Syntax.w8) 8) (Syntax.tcons (Syntax.tyInt Syntax.w8) (Syntax.tcons (Syntax.tyArray (Syntax.tyInt Syntax.w32) 6) (Syntax.tcons (Syntax.tyInt Syntax.w64) (Syntax.tcons (Syntax.tyInt Syntax.w32) (Syntax.tcons (Syntax.tyArray (Syntax.tyInt Syntax.w8) 11) (Syntax.tcons (Syntax.tyInt Syntax.w64) (Syntax.tcons (Syntax.tyInt Syntax.w64) Syntax.tnil)))))))))))) (Syntax.tcons (Syntax.tyInt Syntax.w64) Syntax.tnil))))) (List._∷_ (8, Rows'.any-gone (Syntax.tyEnum (List._∷_ 111 (List._∷_ 117 (List._∷_ 116 (List._∷_ 99 (List._∷_ 111 (List._∷_ 109 (List._∷_ 101 (List._∷_ 58 (List._∷_ 58 (List._∷_ 79 (List._∷_ 117 (List._∷_ 116 (List._∷_ 99 (List._∷_ 111 (List._∷_ 109 (List._∷_ 101 List.[])))))))))))))))) (Syntax.ttcons Syntax.tnil (Syntax.ttcons Syntax.tnil (Syntax.ttcons (Syntax.tcons (Syntax.tyInt Syntax.w64) (Syntax.tcons (Syntax.tyInt Syntax.w64) Syntax.tnil)) (Syntax.ttcons Syntax.tnil (Syntax.ttcons (Syntax.tcons (Syntax.tyInt Syntax.w16) Syntax.tnil) (Syntax.ttcons Syntax.tnil (Syntax.ttcons (Syntax.tcons (Syntax.tyInt Syntax.w64) Syntax.tnil) (Syntax.ttcons Syntax.tnil Syntax.ttnil)))))))))) (List._∷_ (9, Rows'.any-gone (Syntax.tyInt Syntax.w64)) (List._∷_ (10, Rows'.any-gone (Syntax.tyStruct (List._∷_ 115 (List._∷_ 113 (List._∷_ 108 (List._∷_ 99 (List._∷_ 97 (List._∷_ 114 (List._∷_ 100 (List._∷_ 58 (List._∷_ 58 (List._∷_ 83 (List._∷_ 113 (List._∷_ 108 (List._∷_ 67 (List._∷_ 97 (List._∷_ 114 (List._∷_ 100 List.[])))))))))))))))) (Syntax.tcons Syntax.tyBool (Syntax.tcons (Syntax.tyInt Syntax.w32) (Syntax.tcons (Syntax.tyArray (Syntax.tyInt Syntax.w8) 5) (Syntax.tcons (Syntax.tyArray (Syntax.tyInt Syntax.w8) 8) (Syntax.tcons (Syntax.tyInt Syntax.w8) (Syntax.tcons (Syntax.tyArray (Syntax.tyInt Syntax.w32) 6) (Syntax.tcons (Syntax.tyInt Syntax.w64) (Syntax.tcons (Syntax.tyInt Syntax.w32) (Syntax.tcons (Syntax.tyArray (Syntax.tyInt Syntax.w8) 11) (Syntax.tcons (Syntax.tyInt Syntax.w64) (Syntax.tcons (Syntax.tyInt Syntax.w64) Syntax.tnil))))))))))))) (List._∷_ (11, Rows'.any-gone (Syntax.tyStruct (List._∷_ 116 (List._∷_ 97 (List._∷_ 98 (List._∷_ 108 (List._∷_ 101 (List._∷_ 95 (List._∷_ 111 (List._∷_ 117 (List._∷_ 116 (List._∷_ 112 (List._∷_ 117 (List._∷_ 116 (List._∷_ 58 (List._∷_ 58 (List._∷_ 114 (List._∷_ 111 (List._∷_ 119 (List._∷_ 115 (List._∷_ 58 (List._∷_ 58 (List._∷_ 87 (List._∷_ 105 (List._∷_ 100 (List._∷_ 116 (List._∷_ 104 (List._∷_ 115 List.[])))))))))))))))))))))))))) (Syntax.tcons (Syntax.tyInt Syntax.w64) (Syntax.tcons (Syntax.tyInt Syntax.w64) (Syntax.tcons (Syntax.tyInt Syntax.w64) (Syntax.tcons (Syntax.tyInt Syntax.w64) Syntax.tnil)))))) (List._∷_ (12, Rows'.any-gone (Syntax.tyInt Syntax.w64)) (List._∷_ (13, Relend.msptr (ColumnMetadataRow.RT) (Syntax.tyRef Syntax.erased Syntax.mut (Syntax.tyArray ColumnMetadataRow.named 4096)) 3) (List._∷_ (14, Rows'.any-gone (Syntax.tyStruct (List._∷_ 38 (List._∷_ 91 (List._∷_ 93 List.[]))) (Syntax.tcons (Syntax.tyRef Syntax.erased Syntax.mut ColumnMetadataRow.named) (Syntax.tcons (Syntax.tyInt Syntax.w64) Syntax.tnil)))) (List._∷_ (15, Rows'.any-gone Syntax.tyBool) List.[])))))))))))))))
+t7 = List._∷_ (0, Rows'.any-gone (Syntax.tyInt Syntax.w64)) (List._∷_ (1, Mut.mslice (Referent.rtF (Referent.fInt Syntax.w8)) (Syntax.tyRef (Syntax.named 0) Syntax.mut (Syntax.tyInt Syntax.w8)) 0) (List._∷_ (2, Rows'.sc-here (Row.sInt Syntax.w64)) (List._∷_ (3, Rows'.sslice (Referent.rtF (Referent.fInt Syntax.w8)) (Syntax.tyRef (Syntax.named 1) Syntax.imm (Syntax.tyInt Syntax.w8)) 1) (List._∷_ (4, Mut.mslice (Referent.rtF (Referent.fInt Syntax.w8)) (Syntax.tyRef (Syntax.named 2) Syntax.mut (Syntax.tyInt Syntax.w8)) 2) (List._∷_ (5, Rows'.any-gone (ColumnMetadataRow.ty)) (List._∷_ (6, Rows.arr-owed (ColumnMetadataRow.RT) 4096 3) (List._∷_ (7, Rows'.any-gone (Syntax.tyStruct (List._∷_ 115 (List._∷_ 113 (List._∷_ 108 (List._∷_ 100 (List._∷_ 97 (List._∷_ 114 (List._∷_ 100 (List._∷_ 58 (List._∷_ 58 (List._∷_ 83 (List._∷_ 113 (List._∷_ 108 (List._∷_ 100 (List._∷_ 97 (List._∷_ 114 (List._∷_ 100 (List._∷_ 65 (List._∷_ 110 (List._∷_ 115 (List._∷_ 119 (List._∷_ 101 (List._∷_ 114 List.[])))))))))))))))))))))) (Syntax.tcons (Syntax.tyEnum (List._∷_ 111 (List._∷_ 117 (List._∷_ 116 (List._∷_ 99 (List._∷_ 111 (List._∷_ 109 (List._∷_ 101 (List._∷_ 58 (List._∷_ 58 (List._∷_ 79 (List._∷_ 117 (List._∷_ 116 (List._∷_ 99 (List._∷_ 111 (List._∷_ 109 (List._∷_ 101 List.[])))))))))))))))) (Syntax.ttcons Syntax.tnil (Syntax.ttcons Syntax.tnil (Syntax.ttcons (Syntax.tcons (Syntax.tyInt Syntax.w64) (Syntax.tcons (Syntax.tyInt Syntax.w64) Syntax.tnil)) (Syntax.ttcons Syntax.tnil (Syntax.ttcons (Syntax.tcons (Syntax.tyInt Syntax.w16) Syntax.tnil) (Syntax.ttcons Syntax.tnil (Syntax.ttcons (Syntax.tcons (Syntax.tyInt Syntax.w64) Syntax.tnil) (Syntax.ttcons Syntax.tnil (Syntax.ttcons (Syntax.tcons (Syntax.tyInt Syntax.w16) Syntax.tnil) Syntax.ttnil)))))))))) (Syntax.tcons (Syntax.tyStruct (List._∷_ 115 (List._∷_ 113 (List._∷_ 108 (List._∷_ 99 (List._∷_ 97 (List._∷_ 114 (List._∷_ 100 (List._∷_ 58 (List._∷_ 58 (List._∷_ 83 (List._∷_ 113 (List._∷_ 108 (List._∷_ 67 (List._∷_ 97 (List._∷_ 114 (List._∷_ 100 List.[])))))))))))))))) (Syntax.tcons Syntax.tyBool (Syntax.tcons (Syntax.tyInt Syntax.w32) (Syntax.tcons (Syntax.tyArray (Syntax.tyInt Syntax.w8) 5) (Syntax.tcons (Syntax.tyArray (Syntax.tyInt Syntax.w8) 8) (Syntax.tcons (Syntax.tyInt Syntax.w8) (Syntax.tcons (Syntax.tyArray (Syntax.tyInt Syntax.w32) 6) (Syntax.tcons (Syntax.tyInt Syntax.w64) (Syntax.tcons (Syntax.tyInt Syntax.w32) (Syntax.tcons (Syntax.tyArray (Syntax.tyInt Syntax.w8) 11) (Syntax.tcons (Syntax.tyInt Syntax.w64) (Syntax.tcons (Syntax.tyInt Syntax.w64) Syntax.tnil)))))))))))) (Syntax.tcons (Syntax.tyInt Syntax.w64) Syntax.tnil))))) (List._∷_ (8, Rows'.any-gone (Syntax.tyEnum (List._∷_ 111 (List._∷_ 117 (List._∷_ 116 (List._∷_ 99 (List._∷_ 111 (List._∷_ 109 (List._∷_ 101 (List._∷_ 58 (List._∷_ 58 (List._∷_ 79 (List._∷_ 117 (List._∷_ 116 (List._∷_ 99 (List._∷_ 111 (List._∷_ 109 (List._∷_ 101 List.[])))))))))))))))) (Syntax.ttcons Syntax.tnil (Syntax.ttcons Syntax.tnil (Syntax.ttcons (Syntax.tcons (Syntax.tyInt Syntax.w64) (Syntax.tcons (Syntax.tyInt Syntax.w64) Syntax.tnil)) (Syntax.ttcons Syntax.tnil (Syntax.ttcons (Syntax.tcons (Syntax.tyInt Syntax.w16) Syntax.tnil) (Syntax.ttcons Syntax.tnil (Syntax.ttcons (Syntax.tcons (Syntax.tyInt Syntax.w64) Syntax.tnil) (Syntax.ttcons Syntax.tnil (Syntax.ttcons (Syntax.tcons (Syntax.tyInt Syntax.w16) Syntax.tnil) Syntax.ttnil))))))))))) (List._∷_ (9, Rows'.any-gone (Syntax.tyInt Syntax.w64)) (List._∷_ (10, Rows'.any-gone (Syntax.tyStruct (List._∷_ 115 (List._∷_ 113 (List._∷_ 108 (List._∷_ 99 (List._∷_ 97 (List._∷_ 114 (List._∷_ 100 (List._∷_ 58 (List._∷_ 58 (List._∷_ 83 (List._∷_ 113 (List._∷_ 108 (List._∷_ 67 (List._∷_ 97 (List._∷_ 114 (List._∷_ 100 List.[])))))))))))))))) (Syntax.tcons Syntax.tyBool (Syntax.tcons (Syntax.tyInt Syntax.w32) (Syntax.tcons (Syntax.tyArray (Syntax.tyInt Syntax.w8) 5) (Syntax.tcons (Syntax.tyArray (Syntax.tyInt Syntax.w8) 8) (Syntax.tcons (Syntax.tyInt Syntax.w8) (Syntax.tcons (Syntax.tyArray (Syntax.tyInt Syntax.w32) 6) (Syntax.tcons (Syntax.tyInt Syntax.w64) (Syntax.tcons (Syntax.tyInt Syntax.w32) (Syntax.tcons (Syntax.tyArray (Syntax.tyInt Syntax.w8) 11) (Syntax.tcons (Syntax.tyInt Syntax.w64) (Syntax.tcons (Syntax.tyInt Syntax.w64) Syntax.tnil))))))))))))) (List._∷_ (11, Rows'.any-gone (Syntax.tyStruct (List._∷_ 116 (List._∷_ 97 (List._∷_ 98 (List._∷_ 108 (List._∷_ 101 (List._∷_ 95 (List._∷_ 111 (List._∷_ 117 (List._∷_ 116 (List._∷_ 112 (List._∷_ 117 (List._∷_ 116 (List._∷_ 58 (List._∷_ 58 (List._∷_ 114 (List._∷_ 111 (List._∷_ 119 (List._∷_ 115 (List._∷_ 58 (List._∷_ 58 (List._∷_ 87 (List._∷_ 105 (List._∷_ 100 (List._∷_ 116 (List._∷_ 104 (List._∷_ 115 List.[])))))))))))))))))))))))))) (Syntax.tcons (Syntax.tyInt Syntax.w64) (Syntax.tcons (Syntax.tyInt Syntax.w64) (Syntax.tcons (Syntax.tyInt Syntax.w64) (Syntax.tcons (Syntax.tyInt Syntax.w64) Syntax.tnil)))))) (List._∷_ (12, Rows'.any-gone (Syntax.tyInt Syntax.w64)) (List._∷_ (13, Relend.msptr (ColumnMetadataRow.RT) (Syntax.tyRef Syntax.erased Syntax.mut (Syntax.tyArray ColumnMetadataRow.named 4096)) 3) (List._∷_ (14, Rows'.any-gone (Syntax.tyStruct (List._∷_ 38 (List._∷_ 91 (List._∷_ 93 List.[]))) (Syntax.tcons (Syntax.tyRef Syntax.erased Syntax.mut ColumnMetadataRow.named) (Syntax.tcons (Syntax.tyInt Syntax.w64) Syntax.tnil)))) (List._∷_ (15, Rows'.any-gone Syntax.tyBool) List.[])))))))))))))))
 
 abbrev pub t8 : List.List Row.Entry
-t8 = List._∷_ (0, Rows'.any-gone (Syntax.tyInt Syntax.w64)) (List._∷_ (1, Mut.mslice (Referent.rtF (Referent.fInt Syntax.w8)) (Syntax.tyRef (Syntax.named 0) Syntax.mut (Syntax.tyInt Syntax.w8)) 0) (List._∷_ (2, Rows'.sc-here (Row.sInt Syntax.w64)) (List._∷_ (3, Rows'.sslice (Referent.rtF (Referent.fInt Syntax.w8)) (Syntax.tyRef (Syntax.named 1) Syntax.imm (Syntax.tyInt Syntax.w8)) 1) (List._∷_ (4, Mut.mslice (Referent.rtF (Referent.fInt Syntax.w8)) (Syntax.tyRef (Syntax.named 2) Syntax.mut (Syntax.tyInt Syntax.w8)) 2) (List._∷_ (5, Rows'.any-gone (ColumnMetadataRow.ty)) (List._∷_ (6, Rows.arr-owed (ColumnMetadataRow.RT) 4096 3) (List._∷_ (7, Rows'.any-gone (Syntax.tyStruct (List._∷_ 115 (List._∷_ 113 (List._∷_ 108 (List._∷_ 100 (List._∷_ 97 (List._∷_ 114 (List._∷_ 100 (List._∷_ 58 (List._∷_ 58 (List._∷_ 83 (List._∷_ 113 (List._∷_ 108 (List._∷_ 100 (List._∷_ 97 (List._∷_ 114 (List._∷_ 100 (List._∷_ 65 (List._∷_ 110 (List._∷_ 115 (List._∷_ 119 (List._∷_ 101 (List._∷_ 114 List.[])))))))))))))))))))))) (Syntax.tcons (Syntax.tyEnum (List._∷_ 111 (List._∷_ 117 (List._∷_ 116 (List._∷_ 99 (List._∷_ 111 (List._∷_ 109 (List._∷_ 101 (List._∷_ 58 (List._∷_ 58 (List._∷_ 79 (List._∷_ 117 (List._∷_ 116 (List._∷_ 99 (List._∷_ 111 (List._∷_ 109 (List._∷_ 101 List.[])))))))))))))))) (Syntax.ttcons Syntax.tnil (Syntax.ttcons Syntax.tnil (Syntax.ttcons (Syntax.tcons (Syntax.tyInt Syntax.w64) (Syntax.tcons (Syntax.tyInt Syntax.w64) Syntax.tnil)) (Syntax.ttcons Syntax.tnil (Syntax.ttcons (Syntax.tcons (Syntax.tyInt Syntax.w16) Syntax.tnil) (Syntax.ttcons Syntax.tnil (Syntax.ttcons (Syntax.tcons (Syntax.tyInt Syntax.w64) Syntax.tnil) (Syntax.ttcons Syntax.tnil Syntax.ttnil))))))))) (Syntax.tcons (Syntax.tyStruct (List._∷_ 115 (List._∷_ 113 (List._∷_ 108 (List._∷_ 99 (List._∷_ 97 (List._∷_ 114 (List._∷_ 100 (List._∷_ 58 (List._∷_ 58 (List._∷_ 83 (List._∷_ 113 (List._∷_ 108 (List._∷_ 67 (List._∷_ 97 (List._∷_ 114 (List._∷_ 100 List.[])))))))))))))))) (Syntax.tcons Syntax.tyBool (Syntax.tcons (Syntax.tyInt Syntax.w32) (Syntax.tcons (Syntax.tyArray (Syntax.tyInt Syntax.w8) 5) (Syntax.tcons (Syntax.tyArray (Syntax.tyInt Syntax.w8) 8) (Syntax.tcons (Syntax.tyInt Syntax.w8) (Syntax.tcons (Syntax.tyArray (Syntax.tyInt Syntax.w32) 6) (Syntax.tcons (Syntax.tyInt Syntax.w64) (Syntax.tcons (Syntax.tyInt Syntax.w32) (Syntax.tcons (Syntax.tyArray (Syntax.tyInt Syntax.w8) 11) (Syntax.tcons (Syntax.tyInt Syntax.w64) (Syntax.tcons (Syntax.tyInt Syntax.w64) Syntax.tnil)))))))))))) (Syntax.tcons (Syntax.tyInt Syntax.w64) Syntax.tnil))))) (List._∷_ (8, Rows'.any-gone (Syntax.tyEnum (List._∷_ 111 (List._∷_ 117 (List._∷_ 116 (List._∷_ 99 (List._∷_ 111 (List._∷_ 109 (List._∷_ 101 (List._∷_ 58 (List._∷_ 58 (List._∷_ 79 (List._∷_ 117 (List._∷_ 116 (List._∷_ 99 (List._∷_ 111 (List._∷_ 109 (List._∷_ 101 List.[])))))))))))))))) (Syntax.ttcons Syntax.tnil (Syntax.ttcons Syntax.tnil (Syntax.ttcons (Syntax.tcons (Syntax.tyInt Syntax.w64) (Syntax.tcons (Syntax.tyInt Syntax.w64) Syntax.tnil)) (Syntax.ttcons Syntax.tnil (Syntax.ttcons (Syntax.tcons (Syntax.tyInt Syntax.w16) Syntax.tnil) (Syntax.ttcons Syntax.tnil (Syntax.ttcons (Syntax.tcons (Syntax.tyInt Syntax.w64) Syntax.tnil) (Syntax.ttcons Syntax.tnil Syntax.ttnil)))))))))) (List._∷_ (9, Rows'.any-gone (Syntax.tyInt Syntax.w64)) (List._∷_ (10, Rows'.any-gone (Syntax.tyStruct (List._∷_ 115 (List._∷_ 113 (List._∷_ 108 (List._∷_ 99 (List._∷_ 97 (List._∷_ 114 (List._∷_ 100 (List._∷_ 58 (List._∷_ 58 (List._∷_ 83 (List._∷_ 113 (List._∷_ 108 (List._∷_ 67 (List._∷_ 97 (List._∷_ 114 (List._∷_ 100 List.[])))))))))))))))) (Syntax.tcons Syntax.tyBool (Syntax.tcons (Syntax.tyInt Syntax.w32) (Syntax.tcons (Syntax.tyArray (Syntax.tyInt Syntax.w8) 5) (Syntax.tcons (Syntax.tyArray (Syntax.tyInt Syntax.w8) 8) (Syntax.tcons (Syntax.tyInt Syntax.w8) (Syntax.tcons (Syntax.tyArray (Syntax.tyInt Syntax.w32) 6) (Syntax.tcons (Syntax.tyInt Syntax.w64) (Syntax.tcons (Syntax.tyInt Syntax.w32) (Syntax.tcons (Syntax.tyArray (Syntax.tyInt Syntax.w8) 11) (Syntax.tcons (Syntax.tyInt Syntax.w64) (Syntax.tcons (Syntax.tyInt Syntax.w64) Syntax.tnil))))))))))))) (List._∷_ (11, Rows'.any-gone (Syntax.tyStruct (List._∷_ 116 (List._∷_ 97 (List._∷_ 98 (List._∷_ 108 (List._∷_ 101 (List._∷_ 95 (List._∷_ 111 (List._∷_ 117 (List._∷_ 116 (List._∷_ 112 (List._∷_ 117 (List._∷_ 116 (List._∷_ 58 (List._∷_ 58 (List._∷_ 114 (List._∷_ 111 (List._∷_ 119 (List._∷_ 115 (List._∷_ 58 (List._∷_ 58 (List._∷_ 87 (List._∷_ 105 (List._∷_ 100 (List._∷_ 116 (List._∷_ 104 (List._∷_ 115 List.[])))))))))))))))))))))))))) (Syntax.tcons (Syntax.tyInt Syntax.w64) (Syntax.tcons (Syntax.tyInt Syntax.w64) (Syntax.tcons (Syntax.tyInt Syntax.w64) (Syntax.tcons (Syntax.tyInt Syntax.w64) Syntax.tnil)))))) (List._∷_ (12, Rows'.any-gone (Syntax.tyInt Syntax.w64)) (List._∷_ (13, Rows'.any-gone (Syntax.tyRef Syntax.erased Syntax.mut (Syntax.tyArray ColumnMetadataRow.named 4096))) (List._∷_ (14, Mut.mslice (ColumnMetadataRow.RT) (Syntax.tyRef Syntax.erased Syntax.mut ColumnMetadataRow.named) 3) (List._∷_ (15, Rows'.any-gone Syntax.tyBool) List.[])))))))))))))))
+t8 = List._∷_ (0, Rows'.any-gone (Syntax.tyInt Syntax.w64)) (List._∷_ (1, Mut.mslice (Referent.rtF (Referent.fInt Syntax.w8)) (Syntax.tyRef (Syntax.named 0) Syntax.mut (Syntax.tyInt Syntax.w8)) 0) (List._∷_ (2, Rows'.sc-here (Row.sInt Syntax.w64)) (List._∷_ (3, Rows'.sslice (Referent.rtF (Referent.fInt Syntax.w8)) (Syntax.tyRef (Syntax.named 1) Syntax.imm (Syntax.tyInt Syntax.w8)) 1) (List._∷_ (4, Mut.mslice (Referent.rtF (Referent.fInt Syntax.w8)) (Syntax.tyRef (Syntax.named 2) Syntax.mut (Syntax.tyInt Syntax.w8)) 2) (List._∷_ (5, Rows'.any-gone (ColumnMetadataRow.ty)) (List._∷_ (6, Rows.arr-owed (ColumnMetadataRow.RT) 4096 3) (List._∷_ (7, Rows'.any-gone (Syntax.tyStruct (List._∷_ 115 (List._∷_ 113 (List._∷_ 108 (List._∷_ 100 (List._∷_ 97 (List._∷_ 114 (List._∷_ 100 (List._∷_ 58 (List._∷_ 58 (List._∷_ 83 (List._∷_ 113 (List._∷_ 108 (List._∷_ 100 (List._∷_ 97 (List._∷_ 114 (List._∷_ 100 (List._∷_ 65 (List._∷_ 110 (List._∷_ 115 (List._∷_ 119 (List._∷_ 101 (List._∷_ 114 List.[])))))))))))))))))))))) (Syntax.tcons (Syntax.tyEnum (List._∷_ 111 (List._∷_ 117 (List._∷_ 116 (List._∷_ 99 (List._∷_ 111 (List._∷_ 109 (List._∷_ 101 (List._∷_ 58 (List._∷_ 58 (List._∷_ 79 (List._∷_ 117 (List._∷_ 116 (List._∷_ 99 (List._∷_ 111 (List._∷_ 109 (List._∷_ 101 List.[])))))))))))))))) (Syntax.ttcons Syntax.tnil (Syntax.ttcons Syntax.tnil (Syntax.ttcons (Syntax.tcons (Syntax.tyInt Syntax.w64) (Syntax.tcons (Syntax.tyInt Syntax.w64) Syntax.tnil)) (Syntax.ttcons Syntax.tnil (Syntax.ttcons (Syntax.tcons (Syntax.tyInt Syntax.w16) Syntax.tnil) (Syntax.ttcons Syntax.tnil (Syntax.ttcons (Syntax.tcons (Syntax.tyInt Syntax.w64) Syntax.tnil) (Syntax.ttcons Syntax.tnil (Syntax.ttcons (Syntax.tcons (Syntax.tyInt Syntax.w16) Syntax.tnil) Syntax.ttnil)))))))))) (Syntax.tcons (Syntax.tyStruct (List._∷_ 115 (List._∷_ 113 (List._∷_ 108 (List._∷_ 99 (List._∷_ 97 (List._∷_ 114 (List._∷_ 100 (List._∷_ 58 (List._∷_ 58 (List._∷_ 83 (List._∷_ 113 (List._∷_ 108 (List._∷_ 67 (List._∷_ 97 (List._∷_ 114 (List._∷_ 100 List.[])))))))))))))))) (Syntax.tcons Syntax.tyBool (Syntax.tcons (Syntax.tyInt Syntax.w32) (Syntax.tcons (Syntax.tyArray (Syntax.tyInt Syntax.w8) 5) (Syntax.tcons (Syntax.tyArray (Syntax.tyInt Syntax.w8) 8) (Syntax.tcons (Syntax.tyInt Syntax.w8) (Syntax.tcons (Syntax.tyArray (Syntax.tyInt Syntax.w32) 6) (Syntax.tcons (Syntax.tyInt Syntax.w64) (Syntax.tcons (Syntax.tyInt Syntax.w32) (Syntax.tcons (Syntax.tyArray (Syntax.tyInt Syntax.w8) 11) (Syntax.tcons (Syntax.tyInt Syntax.w64) (Syntax.tcons (Syntax.tyInt Syntax.w64) Syntax.tnil)))))))))))) (Syntax.tcons (Syntax.tyInt Syntax.w64) Syntax.tnil))))) (List._∷_ (8, Rows'.any-gone (Syntax.tyEnum (List._∷_ 111 (List._∷_ 117 (List._∷_ 116 (List._∷_ 99 (List._∷_ 111 (List._∷_ 109 (List._∷_ 101 (List._∷_ 58 (List._∷_ 58 (List._∷_ 79 (List._∷_ 117 (List._∷_ 116 (List._∷_ 99 (List._∷_ 111 (List._∷_ 109 (List._∷_ 101 List.[])))))))))))))))) (Syntax.ttcons Syntax.tnil (Syntax.ttcons Syntax.tnil (Syntax.ttcons (Syntax.tcons (Syntax.tyInt Syntax.w64) (Syntax.tcons (Syntax.tyInt Syntax.w64) Syntax.tnil)) (Syntax.ttcons Syntax.tnil (Syntax.ttcons (Syntax.tcons (Syntax.tyInt Syntax.w16) Syntax.tnil) (Syntax.ttcons Syntax.tnil (Syntax.ttcons (Syntax.tcons (Syntax.tyInt Syntax.w64) Syntax.tnil) (Syntax.ttcons Syntax.tnil (Syntax.ttcons (Syntax.tcons (Syntax.tyInt Syntax.w16) Syntax.tnil) Syntax.ttnil))))))))))) (List._∷_ (9, Rows'.any-gone (Syntax.tyInt Syntax.w64)) (List._∷_ (10, Rows'.any-gone (Syntax.tyStruct (List._∷_ 115 (List._∷_ 113 (List._∷_ 108 (List._∷_ 99 (List._∷_ 97 (List._∷_ 114 (List._∷_ 100 (List._∷_ 58 (List._∷_ 58 (List._∷_ 83 (List._∷_ 113 (List._∷_ 108 (List._∷_ 67 (List._∷_ 97 (List._∷_ 114 (List._∷_ 100 List.[])))))))))))))))) (Syntax.tcons Syntax.tyBool (Syntax.tcons (Syntax.tyInt Syntax.w32) (Syntax.tcons (Syntax.tyArray (Syntax.tyInt Syntax.w8) 5) (Syntax.tcons (Syntax.tyArray (Syntax.tyInt Syntax.w8) 8) (Syntax.tcons (Syntax.tyInt Syntax.w8) (Syntax.tcons (Syntax.tyArray (Syntax.tyInt Syntax.w32) 6) (Syntax.tcons (Syntax.tyInt Syntax.w64) (Syntax.tcons (Syntax.tyInt Syntax.w32) (Syntax.tcons (Syntax.tyArray (Syntax.tyInt Syntax.w8) 11) (Syntax.tcons (Syntax.tyInt Syntax.w64) (Syntax.tcons (Syntax.tyInt Syntax.w64) Syntax.tnil))))))))))))) (List._∷_ (11, Rows'.any-gone (Syntax.tyStruct (List._∷_ 116 (List._∷_ 97 (List._∷_ 98 (List._∷_ 108 (List._∷_ 101 (List._∷_ 95 (List._∷_ 111 (List._∷_ 117 (List._∷_ 116 (List._∷_ 112 (List._∷_ 117 (List._∷_ 116 (List._∷_ 58 (List._∷_ 58 (List._∷_ 114 (List._∷_ 111 (List._∷_ 119 (List._∷_ 115 (List._∷_ 58 (List._∷_ 58 (List._∷_ 87 (List._∷_ 105 (List._∷_ 100 (List._∷_ 116 (List._∷_ 104 (List._∷_ 115 List.[])))))))))))))))))))))))))) (Syntax.tcons (Syntax.tyInt Syntax.w64) (Syntax.tcons (Syntax.tyInt Syntax.w64) (Syntax.tcons (Syntax.tyInt Syntax.w64) (Syntax.tcons (Syntax.tyInt Syntax.w64) Syntax.tnil)))))) (List._∷_ (12, Rows'.any-gone (Syntax.tyInt Syntax.w64)) (List._∷_ (13, Rows'.any-gone (Syntax.tyRef Syntax.erased Syntax.mut (Syntax.tyArray ColumnMetadataRow.named 4096))) (List._∷_ (14, Mut.mslice (ColumnMetadataRow.RT) (Syntax.tyRef Syntax.erased Syntax.mut ColumnMetadataRow.named) 3) (List._∷_ (15, Rows'.any-gone Syntax.tyBool) List.[])))))))))))))))
 
 abbrev pub t9 : List.List Row.Entry
-t9 = List._∷_ (0, Rows'.any-gone (Syntax.tyInt Syntax.w64)) (List._∷_ (1, Mut.mslice (Referent.rtF (Referent.fInt Syntax.w8)) (Syntax.tyRef (Syntax.named 0) Syntax.mut (Syntax.tyInt Syntax.w8)) 0) (List._∷_ (2, Rows'.sc-here (Row.sInt Syntax.w64)) (List._∷_ (3, Rows'.sslice (Referent.rtF (Referent.fInt Syntax.w8)) (Syntax.tyRef (Syntax.named 1) Syntax.imm (Syntax.tyInt Syntax.w8)) 1) (List._∷_ (4, Mut.mslice (Referent.rtF (Referent.fInt Syntax.w8)) (Syntax.tyRef (Syntax.named 2) Syntax.mut (Syntax.tyInt Syntax.w8)) 2) (List._∷_ (5, Rows'.any-gone (ColumnMetadataRow.ty)) (List._∷_ (6, Rows.arr-owed (ColumnMetadataRow.RT) 4096 3) (List._∷_ (7, Rows'.whole (Declared'.row SqldardAnswer.the-type)) (List._∷_ (8, Rows'.any-gone (Syntax.tyEnum (List._∷_ 111 (List._∷_ 117 (List._∷_ 116 (List._∷_ 99 (List._∷_ 111 (List._∷_ 109 (List._∷_ 101 (List._∷_ 58 (List._∷_ 58 (List._∷_ 79 (List._∷_ 117 (List._∷_ 116 (List._∷_ 99 (List._∷_ 111 (List._∷_ 109 (List._∷_ 101 List.[])))))))))))))))) (Syntax.ttcons Syntax.tnil (Syntax.ttcons Syntax.tnil (Syntax.ttcons (Syntax.tcons (Syntax.tyInt Syntax.w64) (Syntax.tcons (Syntax.tyInt Syntax.w64) Syntax.tnil)) (Syntax.ttcons Syntax.tnil (Syntax.ttcons (Syntax.tcons (Syntax.tyInt Syntax.w16) Syntax.tnil) (Syntax.ttcons Syntax.tnil (Syntax.ttcons (Syntax.tcons (Syntax.tyInt Syntax.w64) Syntax.tnil) (Syntax.ttcons Syntax.tnil Syntax.ttnil)))))))))) (List._∷_ (9, Rows'.any-gone (Syntax.tyInt Syntax.w64)) (List._∷_ (10, Rows'.any-gone (Syntax.tyStruct (List._∷_ 115 (List._∷_ 113 (List._∷_ 108 (List._∷_ 99 (List._∷_ 97 (List._∷_ 114 (List._∷_ 100 (List._∷_ 58 (List._∷_ 58 (List._∷_ 83 (List._∷_ 113 (List._∷_ 108 (List._∷_ 67 (List._∷_ 97 (List._∷_ 114 (List._∷_ 100 List.[])))))))))))))))) (Syntax.tcons Syntax.tyBool (Syntax.tcons (Syntax.tyInt Syntax.w32) (Syntax.tcons (Syntax.tyArray (Syntax.tyInt Syntax.w8) 5) (Syntax.tcons (Syntax.tyArray (Syntax.tyInt Syntax.w8) 8) (Syntax.tcons (Syntax.tyInt Syntax.w8) (Syntax.tcons (Syntax.tyArray (Syntax.tyInt Syntax.w32) 6) (Syntax.tcons (Syntax.tyInt Syntax.w64) (Syntax.tcons (Syntax.tyInt Syntax.w32) (Syntax.tcons (Syntax.tyArray (Syntax.tyInt Syntax.w8) 11) (Syntax.tcons (Syntax.tyInt Syntax.w64) (Syntax.tcons (Syntax.tyInt Syntax.w64) Syntax.tnil))))))))))))) (List._∷_ (11, Rows'.any-gone (Syntax.tyStruct (List._∷_ 116 (List._∷_ 97 (List._∷_ 98 (List._∷_ 108 (List._∷_ 101 (List._∷_ 95 (List._∷_ 111 (List._∷_ 117 (List._∷_ 116 (List._∷_ 112 (List._∷_ 117 (List._∷_ 116 (List._∷_ 58 (List._∷_ 58 (List._∷_ 114 (List._∷_ 111 (List._∷_ 119 (List._∷_ 115 (List._∷_ 58 (List._∷_ 58 (List._∷_ 87 (List._∷_ 105 (List._∷_ 100 (List._∷_ 116 (List._∷_ 104 (List._∷_ 115 List.[])))))))))))))))))))))))))) (Syntax.tcons (Syntax.tyInt Syntax.w64) (Syntax.tcons (Syntax.tyInt Syntax.w64) (Syntax.tcons (Syntax.tyInt Syntax.w64) (Syntax.tcons (Syntax.tyInt Syntax.w64) Syntax.tnil)))))) (List._∷_ (12, Rows'.any-gone (Syntax.tyInt Syntax.w64)) (List._∷_ (13, Rows'.any-gone (Syntax.tyRef Syntax.erased Syntax.mut (Syntax.tyArray ColumnMetadataRow.named 4096))) (List._∷_ (14, Mut.msleft (ColumnMetadataRow.RT) (Syntax.tyRef Syntax.erased Syntax.mut ColumnMetadataRow.named)) (List._∷_ (15, Rows'.any-gone Syntax.tyBool) List.[])))))))))))))))
+t9 = List._∷_ (0, Rows'.any-gone (Syntax.tyInt Syntax.w64)) (List._∷_ (1, Mut.mslice (Referent.rtF (Referent.fInt Syntax.w8)) (Syntax.tyRef (Syntax.named 0) Syntax.mut (Syntax.tyInt Syntax.w8)) 0) (List._∷_ (2, Rows'.sc-here (Row.sInt Syntax.w64)) (List._∷_ (3, Rows'.sslice (Referent.rtF (Referent.fInt Syntax.w8)) (Syntax.tyRef (Syntax.named 1) Syntax.imm (Syntax.tyInt Syntax.w8)) 1) (List._∷_ (4, Mut.mslice (Referent.rtF (Referent.fInt Syntax.w8)) (Syntax.tyRef (Syntax.named 2) Syntax.mut (Syntax.tyInt Syntax.w8)) 2) (List._∷_ (5, Rows'.any-gone (ColumnMetadataRow.ty)) (List._∷_ (6, Rows.arr-owed (ColumnMetadataRow.RT) 4096 3) (List._∷_ (7, Rows'.whole (Declared'.row SqldardAnswer.the-type)) (List._∷_ (8, Rows'.any-gone (Syntax.tyEnum (List._∷_ 111 (List._∷_ 117 (List._∷_ 116 (List._∷_ 99 (List._∷_ 111 (List._∷_ 109 (List._∷_ 101 (List._∷_ 58 (List._∷_ 58 (List._∷_ 79 (List._∷_ 117 (List._∷_ 116 (List._∷_ 99 (List._∷_ 111 (List._∷_ 109 (List._∷_ 101 List.[])))))))))))))))) (Syntax.ttcons Syntax.tnil (Syntax.ttcons Syntax.tnil (Syntax.ttcons (Syntax.tcons (Syntax.tyInt Syntax.w64) (Syntax.tcons (Syntax.tyInt Syntax.w64) Syntax.tnil)) (Syntax.ttcons Syntax.tnil (Syntax.ttcons (Syntax.tcons (Syntax.tyInt Syntax.w16) Syntax.tnil) (Syntax.ttcons Syntax.tnil (Syntax.ttcons (Syntax.tcons (Syntax.tyInt Syntax.w64) Syntax.tnil) (Syntax.ttcons Syntax.tnil (Syntax.ttcons (Syntax.tcons (Syntax.tyInt Syntax.w16) Syntax.tnil) Syntax.ttnil))))))))))) (List._∷_ (9, Rows'.any-gone (Syntax.tyInt Syntax.w64)) (List._∷_ (10, Rows'.any-gone (Syntax.tyStruct (List._∷_ 115 (List._∷_ 113 (List._∷_ 108 (List._∷_ 99 (List._∷_ 97 (List._∷_ 114 (List._∷_ 100 (List._∷_ 58 (List._∷_ 58 (List._∷_ 83 (List._∷_ 113 (List._∷_ 108 (List._∷_ 67 (List._∷_ 97 (List._∷_ 114 (List._∷_ 100 List.[])))))))))))))))) (Syntax.tcons Syntax.tyBool (Syntax.tcons (Syntax.tyInt Syntax.w32) (Syntax.tcons (Syntax.tyArray (Syntax.tyInt Syntax.w8) 5) (Syntax.tcons (Syntax.tyArray (Syntax.tyInt Syntax.w8) 8) (Syntax.tcons (Syntax.tyInt Syntax.w8) (Syntax.tcons (Syntax.tyArray (Syntax.tyInt Syntax.w32) 6) (Syntax.tcons (Syntax.tyInt Syntax.w64) (Syntax.tcons (Syntax.tyInt Syntax.w32) (Syntax.tcons (Syntax.tyArray (Syntax.tyInt Syntax.w8) 11) (Syntax.tcons (Syntax.tyInt Syntax.w64) (Syntax.tcons (Syntax.tyInt Syntax.w64) Syntax.tnil))))))))))))) (List._∷_ (11, Rows'.any-gone (Syntax.tyStruct (List._∷_ 116 (List._∷_ 97 (List._∷_ 98 (List._∷_ 108 (List._∷_ 101 (List._∷_ 95 (List._∷_ 111 (List._∷_ 117 (List._∷_ 116 (List._∷_ 112 (List._∷_ 117 (List._∷_ 116 (List._∷_ 58 (List._∷_ 58 (List._∷_ 114 (List._∷_ 111 (List._∷_ 119 (List._∷_ 115 (List._∷_ 58 (List._∷_ 58 (List._∷_ 87 (List._∷_ 105 (List._∷_ 100 (List._∷_ 116 (List._∷_ 104 (List._∷_ 115 List.[])))))))))))))))))))))))))) (Syntax.tcons (Syntax.tyInt Syntax.w64) (Syntax.tcons (Syntax.tyInt Syntax.w64) (Syntax.tcons (Syntax.tyInt Syntax.w64) (Syntax.tcons (Syntax.tyInt Syntax.w64) Syntax.tnil)))))) (List._∷_ (12, Rows'.any-gone (Syntax.tyInt Syntax.w64)) (List._∷_ (13, Rows'.any-gone (Syntax.tyRef Syntax.erased Syntax.mut (Syntax.tyArray ColumnMetadataRow.named 4096))) (List._∷_ (14, Mut.msleft (ColumnMetadataRow.RT) (Syntax.tyRef Syntax.erased Syntax.mut ColumnMetadataRow.named)) (List._∷_ (15, Rows'.any-gone Syntax.tyBool) List.[])))))))))))))))
 
 abbrev pub t10 : List.List Row.Entry
-t10 = List._∷_ (0, Rows'.any-gone (Syntax.tyInt Syntax.w64)) (List._∷_ (1, Mut.mslice (Referent.rtF (Referent.fInt Syntax.w8)) (Syntax.tyRef (Syntax.named 0) Syntax.mut (Syntax.tyInt Syntax.w8)) 0) (List._∷_ (2, Rows'.sc-here (Row.sInt Syntax.w64)) (List._∷_ (3, Rows'.sslice (Referent.rtF (Referent.fInt Syntax.w8)) (Syntax.tyRef (Syntax.named 1) Syntax.imm (Syntax.tyInt Syntax.w8)) 1) (List._∷_ (4, Mut.mslice (Referent.rtF (Referent.fInt Syntax.w8)) (Syntax.tyRef (Syntax.named 2) Syntax.mut (Syntax.tyInt Syntax.w8)) 2) (List._∷_ (5, Rows'.any-gone (ColumnMetadataRow.ty)) (List._∷_ (6, Rows.arrF (ColumnMetadataRow.RT) 4096 0) (List._∷_ (7, Rows'.whole (Declared'.row SqldardAnswer.the-type)) (List._∷_ (8, Rows'.any-gone (Syntax.tyEnum (List._∷_ 111 (List._∷_ 117 (List._∷_ 116 (List._∷_ 99 (List._∷_ 111 (List._∷_ 109 (List._∷_ 101 (List._∷_ 58 (List._∷_ 58 (List._∷_ 79 (List._∷_ 117 (List._∷_ 116 (List._∷_ 99 (List._∷_ 111 (List._∷_ 109 (List._∷_ 101 List.[])))))))))))))))) (Syntax.ttcons Syntax.tnil (Syntax.ttcons Syntax.tnil (Syntax.ttcons (Syntax.tcons (Syntax.tyInt Syntax.w64) (Syntax.tcons (Syntax.tyInt Syntax.w64) Syntax.tnil)) (Syntax.ttcons Syntax.tnil (Syntax.ttcons (Syntax.tcons (Syntax.tyInt Syntax.w16) Syntax.tnil) (Syntax.ttcons Syntax.tnil (Syntax.ttcons (Syntax.tcons (Syntax.tyInt Syntax.w64) Syntax.tnil) (Syntax.ttcons Syntax.tnil Syntax.ttnil)))))))))) (List._∷_ (9, Rows'.any-gone (Syntax.tyInt Syntax.w64)) (List._∷_ (10, Rows'.any-gone (Syntax.tyStruct (List._∷_ 115 (List._∷_ 113 (List._∷_ 108 (List._∷_ 99 (List._∷_ 97 (List._∷_ 114 (List._∷_ 100 (List._∷_ 58 (List._∷_ 58 (List._∷_ 83 (List._∷_ 113 (List._∷_ 108 (List._∷_ 67 (List._∷_ 97 (List._∷_ 114 (List._∷_ 100 List.[])))))))))))))))) (Syntax.tcons Syntax.tyBool (Syntax.tcons (Syntax.tyInt Syntax.w32) (Syntax.tcons (Syntax.tyArray (Syntax.tyInt Syntax.w8) 5) (Syntax.tcons (Syntax.tyArray (Syntax.tyInt Syntax.w8) 8) (Syntax.tcons (Syntax.tyInt Syntax.w8) (Syntax.tcons (Syntax.tyArray (Syntax.tyInt Syntax.w32) 6) (Syntax.tcons (Syntax.tyInt Syntax.w64) (Syntax.tcons (Syntax.tyInt Syntax.w32) (Syntax.tcons (Syntax.tyArray (Syntax.tyInt Syntax.w8) 11) (Syntax.tcons (Syntax.tyInt Syntax.w64) (Syntax.tcons (Syntax.tyInt Syntax.w64) Syntax.tnil))))))))))))) (List._∷_ (11, Rows'.any-gone (Syntax.tyStruct (List._∷_ 116 (List._∷_ 97 (List._∷_ 98 (List._∷_ 108 (List._∷_ 101 (List._∷_ 95 (List._∷_ 111 (List._∷_ 117 (List._∷_ 116 (List._∷_ 112 (List._∷_ 117 (List._∷_ 116 (List._∷_ 58 (List._∷_ 58 (List._∷_ 114 (List._∷_ 111 (List._∷_ 119 (List._∷_ 115 (List._∷_ 58 (List._∷_ 58 (List._∷_ 87 (List._∷_ 105 (List._∷_ 100 (List._∷_ 116 (List._∷_ 104 (List._∷_ 115 List.[])))))))))))))))))))))))))) (Syntax.tcons (Syntax.tyInt Syntax.w64) (Syntax.tcons (Syntax.tyInt Syntax.w64) (Syntax.tcons (Syntax.tyInt Syntax.w64) (Syntax.tcons (Syntax.tyInt Syntax.w64) Syntax.tnil)))))) (List._∷_ (12, Rows'.any-gone (Syntax.tyInt Syntax.w64)) (List._∷_ (13, Rows'.any-gone (Syntax.tyRef Syntax.erased Syntax.mut (Syntax.tyArray ColumnMetadataRow.named 4096))) (List._∷_ (14, Rows'.any-gone (Syntax.tyStruct (List._∷_ 38 (List._∷_ 91 (List._∷_ 93 List.[]))) (Syntax.tcons (Syntax.tyRef Syntax.erased Syntax.mut ColumnMetadataRow.named) (Syntax.tcons (Syntax.tyInt Syntax.w64) Syntax.tnil)))) (List._∷_ (15, Rows'.any-gone Syntax.tyBool) List.[])))))))))))))))
+t10 = List._∷_ (0, Rows'.any-gone (Syntax.tyInt Syntax.w64)) (List._∷_ (1, Mut.mslice (Referent.rtF (Referent.fInt Syntax.w8)) (Syntax.tyRef (Syntax.named 0) Syntax.mut (Syntax.tyInt Syntax.w8)) 0) (List._∷_ (2, Rows'.sc-here (Row.sInt Syntax.w64)) (List._∷_ (3, Rows'.sslice (Referent.rtF (Referent.fInt Syntax.w8)) (Syntax.tyRef (Syntax.named 1) Syntax.imm (Syntax.tyInt Syntax.w8)) 1) (List._∷_ (4, Mut.mslice (Referent.rtF (Referent.fInt Syntax.w8)) (Syntax.tyRef (Syntax.named 2) Syntax.mut (Syntax.tyInt Syntax.w8)) 2) (List._∷_ (5, Rows'.any-gone (ColumnMetadataRow.ty)) (List._∷_ (6, Rows.arrF (ColumnMetadataRow.RT) 4096 0) (List._∷_ (7, Rows'.whole (Declared'.row SqldardAnswer.the-type)) (List._∷_ (8, Rows'.any-gone (Syntax.tyEnum (List._∷_ 111 (List._∷_ 117 (List._∷_ 116 (List._∷_ 99 (List._∷_ 111 (List._∷_ 109 (List._∷_ 101 (List._∷_ 58 (List._∷_ 58 (List._∷_ 79 (List._∷_ 117 (List._∷_ 116 (List._∷_ 99 (List._∷_ 111 (List._∷_ 109 (List._∷_ 101 List.[])))))))))))))))) (Syntax.ttcons Syntax.tnil (Syntax.ttcons Syntax.tnil (Syntax.ttcons (Syntax.tcons (Syntax.tyInt Syntax.w64) (Syntax.tcons (Syntax.tyInt Syntax.w64) Syntax.tnil)) (Syntax.ttcons Syntax.tnil (Syntax.ttcons (Syntax.tcons (Syntax.tyInt Syntax.w16) Syntax.tnil) (Syntax.ttcons Syntax.tnil (Syntax.ttcons (Syntax.tcons (Syntax.tyInt Syntax.w64) Syntax.tnil) (Syntax.ttcons Syntax.tnil (Syntax.ttcons (Syntax.tcons (Syntax.tyInt Syntax.w16) Syntax.tnil) Syntax.ttnil))))))))))) (List._∷_ (9, Rows'.any-gone (Syntax.tyInt Syntax.w64)) (List._∷_ (10, Rows'.any-gone (Syntax.tyStruct (List._∷_ 115 (List._∷_ 113 (List._∷_ 108 (List._∷_ 99 (List._∷_ 97 (List._∷_ 114 (List._∷_ 100 (List._∷_ 58 (List._∷_ 58 (List._∷_ 83 (List._∷_ 113 (List._∷_ 108 (List._∷_ 67 (List._∷_ 97 (List._∷_ 114 (List._∷_ 100 List.[])))))))))))))))) (Syntax.tcons Syntax.tyBool (Syntax.tcons (Syntax.tyInt Syntax.w32) (Syntax.tcons (Syntax.tyArray (Syntax.tyInt Syntax.w8) 5) (Syntax.tcons (Syntax.tyArray (Syntax.tyInt Syntax.w8) 8) (Syntax.tcons (Syntax.tyInt Syntax.w8) (Syntax.tcons (Syntax.tyArray (Syntax.tyInt Syntax.w32) 6) (Syntax.tcons (Syntax.tyInt Syntax.w64) (Syntax.tcons (Syntax.tyInt Syntax.w32) (Syntax.tcons (Syntax.tyArray (Syntax.tyInt Syntax.w8) 11) (Syntax.tcons (Syntax.tyInt Syntax.w64) (Syntax.tcons (Syntax.tyInt Syntax.w64) Syntax.tnil))))))))))))) (List._∷_ (11, Rows'.any-gone (Syntax.tyStruct (List._∷_ 116 (List._∷_ 97 (List._∷_ 98 (List._∷_ 108 (List._∷_ 101 (List._∷_ 95 (List._∷_ 111 (List._∷_ 117 (List._∷_ 116 (List._∷_ 112 (List._∷_ 117 (List._∷_ 116 (List._∷_ 58 (List._∷_ 58 (List._∷_ 114 (List._∷_ 111 (List._∷_ 119 (List._∷_ 115 (List._∷_ 58 (List._∷_ 58 (List._∷_ 87 (List._∷_ 105 (List._∷_ 100 (List._∷_ 116 (List._∷_ 104 (List._∷_ 115 List.[])))))))))))))))))))))))))) (Syntax.tcons (Syntax.tyInt Syntax.w64) (Syntax.tcons (Syntax.tyInt Syntax.w64) (Syntax.tcons (Syntax.tyInt Syntax.w64) (Syntax.tcons (Syntax.tyInt Syntax.w64) Syntax.tnil)))))) (List._∷_ (12, Rows'.any-gone (Syntax.tyInt Syntax.w64)) (List._∷_ (13, Rows'.any-gone (Syntax.tyRef Syntax.erased Syntax.mut (Syntax.tyArray ColumnMetadataRow.named 4096))) (List._∷_ (14, Rows'.any-gone (Syntax.tyStruct (List._∷_ 38 (List._∷_ 91 (List._∷_ 93 List.[]))) (Syntax.tcons (Syntax.tyRef Syntax.erased Syntax.mut ColumnMetadataRow.named) (Syntax.tcons (Syntax.tyInt Syntax.w64) Syntax.tnil)))) (List._∷_ (15, Rows'.any-gone Syntax.tyBool) List.[])))))))))))))))
 
 abbrev pub t11 : List.List Row.Entry
 t11 = List._∷_ (0, Rows'.any-gone (Syntax.tyInt Syntax.w64)) (List._∷_ (1, Mut.mslice (Referent.rtF (Referent.fInt Syntax.w8)) (Syntax.tyRef (Syntax.named 0) Syntax.mut (Syntax.tyInt Syntax.w8)) 0) (List._∷_ (2, Rows'.sc-here (Row.sInt Syntax.w64)) (List._∷_ (3, Rows'.sslice (Referent.rtF (Referent.fInt Syntax.w8)) (Syntax.tyRef (Syntax.named 1) Syntax.imm (Syntax.tyInt Syntax.w8)) 1) (List._∷_ (4, Mut.mslice (Referent.rtF (Referent.fInt Syntax.w8)) (Syntax.tyRef (Syntax.named 2) Syntax.mut (Syntax.tyInt Syntax.w8)) 2) (List._∷_ (5, Rows'.any-gone (ColumnMetadataRow.ty)) (List._∷_ (6, Rows.arrF (ColumnMetadataRow.RT) 4096 0) (List._∷_ (7, Rows'.whole (Declared'.row SqldardAnswer.the-type)) (List._∷_ (8, Rows'.whole (Declared.row Outcome.the-type)) (List._∷_ (9, Rows'.any-gone (Syntax.tyInt Syntax.w64)) (List._∷_ (10, Rows'.any-gone (Syntax.tyStruct (List._∷_ 115 (List._∷_ 113 (List._∷_ 108 (List._∷_ 99 (List._∷_ 97 (List._∷_ 114 (List._∷_ 100 (List._∷_ 58 (List._∷_ 58 (List._∷_ 83 (List._∷_ 113 (List._∷_ 108 (List._∷_ 67 (List._∷_ 97 (List._∷_ 114 (List._∷_ 100 List.[])))))))))))))))) (Syntax.tcons Syntax.tyBool (Syntax.tcons (Syntax.tyInt Syntax.w32) (Syntax.tcons (Syntax.tyArray (Syntax.tyInt Syntax.w8) 5) (Syntax.tcons (Syntax.tyArray (Syntax.tyInt Syntax.w8) 8) (Syntax.tcons (Syntax.tyInt Syntax.w8) (Syntax.tcons (Syntax.tyArray (Syntax.tyInt Syntax.w32) 6) (Syntax.tcons (Syntax.tyInt Syntax.w64) (Syntax.tcons (Syntax.tyInt Syntax.w32) (Syntax.tcons (Syntax.tyArray (Syntax.tyInt Syntax.w8) 11) (Syntax.tcons (Syntax.tyInt Syntax.w64) (Syntax.tcons (Syntax.tyInt Syntax.w64) Syntax.tnil))))))))))))) (List._∷_ (11, Rows'.any-gone (Syntax.tyStruct (List._∷_ 116 (List._∷_ 97 (List._∷_ 98 (List._∷_ 108 (List._∷_ 101 (List._∷_ 95 (List._∷_ 111 (List._∷_ 117 (List._∷_ 116 (List._∷_ 112 (List._∷_ 117 (List._∷_ 116 (List._∷_ 58 (List._∷_ 58 (List._∷_ 114 (List._∷_ 111 (List._∷_ 119 (List._∷_ 115 (List._∷_ 58 (List._∷_ 58 (List._∷_ 87 (List._∷_ 105 (List._∷_ 100 (List._∷_ 116 (List._∷_ 104 (List._∷_ 115 List.[])))))))))))))))))))))))))) (Syntax.tcons (Syntax.tyInt Syntax.w64) (Syntax.tcons (Syntax.tyInt Syntax.w64) (Syntax.tcons (Syntax.tyInt Syntax.w64) (Syntax.tcons (Syntax.tyInt Syntax.w64) Syntax.tnil)))))) (List._∷_ (12, Rows'.any-gone (Syntax.tyInt Syntax.w64)) (List._∷_ (13, Rows'.any-gone (Syntax.tyRef Syntax.erased Syntax.mut (Syntax.tyArray ColumnMetadataRow.named 4096))) (List._∷_ (14, Rows'.any-gone (Syntax.tyStruct (List._∷_ 38 (List._∷_ 91 (List._∷_ 93 List.[]))) (Syntax.tcons (Syntax.tyRef Syntax.erased Syntax.mut ColumnMetadataRow.named) (Syntax.tcons (Syntax.tyInt Syntax.w64) Syntax.tnil)))) (List._∷_ (15, Rows'.any-gone Syntax.tyBool) List.[])))))))))))))))
@@ -351,13 +351,13 @@ abbrev pub t13 : List.List Row.Entry
 t13 = List._∷_ (0, Rows'.any-gone (Syntax.tyInt Syntax.w64)) (List._∷_ (1, Mut.mslice (Referent.rtF (Referent.fInt Syntax.w8)) (Syntax.tyRef (Syntax.named 0) Syntax.mut (Syntax.tyInt Syntax.w8)) 0) (List._∷_ (2, Rows'.sc-here (Row.sInt Syntax.w64)) (List._∷_ (3, Rows'.sslice (Referent.rtF (Referent.fInt Syntax.w8)) (Syntax.tyRef (Syntax.named 1) Syntax.imm (Syntax.tyInt Syntax.w8)) 1) (List._∷_ (4, Mut.mslice (Referent.rtF (Referent.fInt Syntax.w8)) (Syntax.tyRef (Syntax.named 2) Syntax.mut (Syntax.tyInt Syntax.w8)) 2) (List._∷_ (5, Rows'.any-gone (ColumnMetadataRow.ty)) (List._∷_ (6, Rows'.any-gone (Syntax.tyArray (ColumnMetadataRow.ty) 4096)) (List._∷_ (7, Rows'.whole (Declared'.row SqldardAnswer.the-type)) (List._∷_ (8, Rows'.whole (Declared.row Outcome.the-type)) (List._∷_ (9, Rows'.any-gone (Syntax.tyInt Syntax.w64)) (List._∷_ (10, Rows'.any-gone (Syntax.tyStruct (List._∷_ 115 (List._∷_ 113 (List._∷_ 108 (List._∷_ 99 (List._∷_ 97 (List._∷_ 114 (List._∷_ 100 (List._∷_ 58 (List._∷_ 58 (List._∷_ 83 (List._∷_ 113 (List._∷_ 108 (List._∷_ 67 (List._∷_ 97 (List._∷_ 114 (List._∷_ 100 List.[])))))))))))))))) (Syntax.tcons Syntax.tyBool (Syntax.tcons (Syntax.tyInt Syntax.w32) (Syntax.tcons (Syntax.tyArray (Syntax.tyInt Syntax.w8) 5) (Syntax.tcons (Syntax.tyArray (Syntax.tyInt Syntax.w8) 8) (Syntax.tcons (Syntax.tyInt Syntax.w8) (Syntax.tcons (Syntax.tyArray (Syntax.tyInt Syntax.w32) 6) (Syntax.tcons (Syntax.tyInt Syntax.w64) (Syntax.tcons (Syntax.tyInt Syntax.w32) (Syntax.tcons (Syntax.tyArray (Syntax.tyInt Syntax.w8) 11) (Syntax.tcons (Syntax.tyInt Syntax.w64) (Syntax.tcons (Syntax.tyInt Syntax.w64) Syntax.tnil))))))))))))) (List._∷_ (11, Rows'.any-gone (Syntax.tyStruct (List._∷_ 116 (List._∷_ 97 (List._∷_ 98 (List._∷_ 108 (List._∷_ 101 (List._∷_ 95 (List._∷_ 111 (List._∷_ 117 (List._∷_ 116 (List._∷_ 112 (List._∷_ 117 (List._∷_ 116 (List._∷_ 58 (List._∷_ 58 (List._∷_ 114 (List._∷_ 111 (List._∷_ 119 (List._∷_ 115 (List._∷_ 58 (List._∷_ 58 (List._∷_ 87 (List._∷_ 105 (List._∷_ 100 (List._∷_ 116 (List._∷_ 104 (List._∷_ 115 List.[])))))))))))))))))))))))))) (Syntax.tcons (Syntax.tyInt Syntax.w64) (Syntax.tcons (Syntax.tyInt Syntax.w64) (Syntax.tcons (Syntax.tyInt Syntax.w64) (Syntax.tcons (Syntax.tyInt Syntax.w64) Syntax.tnil)))))) (List._∷_ (12, Rows'.any-gone (Syntax.tyInt Syntax.w64)) (List._∷_ (13, Rows'.any-gone (Syntax.tyRef Syntax.erased Syntax.mut (Syntax.tyArray ColumnMetadataRow.named 4096))) (List._∷_ (14, Rows'.any-gone (Syntax.tyStruct (List._∷_ 38 (List._∷_ 91 (List._∷_ 93 List.[]))) (Syntax.tcons (Syntax.tyRef Syntax.erased Syntax.mut ColumnMetadataRow.named) (Syntax.tcons (Syntax.tyInt Syntax.w64) Syntax.tnil)))) (List._∷_ (15, Rows'.sc-here Row.sBool) List.[])))))))))))))))
 
 abbrev pub t14 : List.List Row.Entry
-t14 = List._∷_ (0, Rows'.any-gone (Syntax.tyInt Syntax.w64)) (List._∷_ (1, Mut.mslice (Referent.rtF (Referent.fInt Syntax.w8)) (Syntax.tyRef (Syntax.named 0) Syntax.mut (Syntax.tyInt Syntax.w8)) 0) (List._∷_ (2, Rows'.sc-here (Row.sInt Syntax.w64)) (List._∷_ (3, Rows'.sslice (Referent.rtF (Referent.fInt Syntax.w8)) (Syntax.tyRef (Syntax.named 1) Syntax.imm (Syntax.tyInt Syntax.w8)) 1) (List._∷_ (4, Mut.mslice (Referent.rtF (Referent.fInt Syntax.w8)) (Syntax.tyRef (Syntax.named 2) Syntax.mut (Syntax.tyInt Syntax.w8)) 2) (List._∷_ (5, Rows'.any-gone (ColumnMetadataRow.ty)) (List._∷_ (6, Rows'.any-gone (Syntax.tyArray (ColumnMetadataRow.ty) 4096)) (List._∷_ (7, Rows'.any-gone (Syntax.tyStruct (List._∷_ 115 (List._∷_ 113 (List._∷_ 108 (List._∷_ 100 (List._∷_ 97 (List._∷_ 114 (List._∷_ 100 (List._∷_ 58 (List._∷_ 58 (List._∷_ 83 (List._∷_ 113 (List._∷_ 108 (List._∷_ 100 (List._∷_ 97 (List._∷_ 114 (List._∷_ 100 (List._∷_ 65 (List._∷_ 110 (List._∷_ 115 (List._∷_ 119 (List._∷_ 101 (List._∷_ 114 List.[])))))))))))))))))))))) (Syntax.tcons (Syntax.tyEnum (List._∷_ 111 (List._∷_ 117 (List._∷_ 116 (List._∷_ 99 (List._∷_ 111 (List._∷_ 109 (List._∷_ 101 (List._∷_ 58 (List._∷_ 58 (List._∷_ 79 (List._∷_ 117 (List._∷_ 116 (List._∷_ 99 (List._∷_ 111 (List._∷_ 109 (List._∷_ 101 List.[])))))))))))))))) (Syntax.ttcons Syntax.tnil (Syntax.ttcons Syntax.tnil (Syntax.ttcons (Syntax.tcons (Syntax.tyInt Syntax.w64) (Syntax.tcons (Syntax.tyInt Syntax.w64) Syntax.tnil)) (Syntax.ttcons Syntax.tnil (Syntax.ttcons (Syntax.tcons (Syntax.tyInt Syntax.w16) Syntax.tnil) (Syntax.ttcons Syntax.tnil (Syntax.ttcons (Syntax.tcons (Syntax.tyInt Syntax.w64) Syntax.tnil) (Syntax.ttcons Syntax.tnil Syntax.ttnil))))))))) (Syntax.tcons (Syntax.tyStruct (List._∷_ 115 (List._∷_ 113 (List._∷_ 108 (List._∷_ 99 (List._∷_ 97 (List._∷_ 114 (List._∷_ 100 (List._∷_ 58 (List._∷_ 58 (List._∷_ 83 (List._∷_ 113 (List._∷_ 108 (List._∷_ 67 (List._∷_ 97 (List._∷_ 114 (List._∷_ 100 List.[])))))))))))))))) (Syntax.tcons Syntax.tyBool (Syntax.tcons (Syntax.tyInt Syntax.w32) (Syntax.tcons (Syntax.tyArray (Syntax.tyInt Syntax.w8) 5) (Syntax.tcons (Syntax.tyArray (Syntax.tyInt Syntax.w8) 8) (Syntax.tcons (Syntax.tyInt Syntax.w8) (Syntax.tcons (Syntax.tyArray (Syntax.tyInt Syntax.w32) 6) (Syntax.tcons (Syntax.tyInt Syntax.w64) (Syntax.tcons (Syntax.tyInt Syntax.w32) (Syntax.tcons (Syntax.tyArray (Syntax.tyInt Syntax.w8) 11) (Syntax.tcons (Syntax.tyInt Syntax.w64) (Syntax.tcons (Syntax.tyInt Syntax.w64) Syntax.tnil)))))))))))) (Syntax.tcons (Syntax.tyInt Syntax.w64) Syntax.tnil))))) (List._∷_ (8, Rows'.whole (Declared.row Outcome.the-type)) (List._∷_ (9, Rows'.any-gone (Syntax.tyInt Syntax.w64)) (List._∷_ (10, Rows'.any-gone (Syntax.tyStruct (List._∷_ 115 (List._∷_ 113 (List._∷_ 108 (List._∷_ 99 (List._∷_ 97 (List._∷_ 114 (List._∷_ 100 (List._∷_ 58 (List._∷_ 58 (List._∷_ 83 (List._∷_ 113 (List._∷_ 108 (List._∷_ 67 (List._∷_ 97 (List._∷_ 114 (List._∷_ 100 List.[])))))))))))))))) (Syntax.tcons Syntax.tyBool (Syntax.tcons (Syntax.tyInt Syntax.w32) (Syntax.tcons (Syntax.tyArray (Syntax.tyInt Syntax.w8) 5) (Syntax.tcons (Syntax.tyArray (Syntax.tyInt Syntax.w8) 8) (Syntax.tcons (Syntax.tyInt Syntax.w8) (Syntax.tcons (Syntax.tyArray (Syntax.tyInt Syntax.w32) 6) (Syntax.tcons (Syntax.tyInt Syntax.w64) (Syntax.tcons (Syntax.tyInt Syntax.w32) (Syntax.tcons (Syntax.tyArray (Syntax.tyInt Syntax.w8) 11) (Syntax.tcons (Syntax.tyInt Syntax.w64) (Syntax.tcons (Syntax.tyInt Syntax.w64) Syntax.tnil))))))))))))) (List._∷_ (11, Rows'.any-gone (Syntax.tyStruct (List._∷_ 116 (List._∷_ 97 (List._∷_ 98 (List._∷_ 108 (List._∷_ 101 (List._∷_ 95 (List._∷_ 111 (List._∷_ 117 (List._∷_ 116 (List._∷_ 112 (List._∷_ 117 (List._∷_ 116 (List._∷_ 58 (List._∷_ 58 (List._∷_ 114 (List._∷_ 111 (List._∷_ 119 (List._∷_ 115 (List._∷_ 58 (List._∷_ 58 (List._∷_ 87 (List._∷_ 105 (List._∷_ 100 (List._∷_ 116 (List._∷_ 104 (List._∷_ 115 List.[])))))))))))))))))))))))))) (Syntax.tcons (Syntax.tyInt Syntax.w64) (Syntax.tcons (Syntax.tyInt Syntax.w64) (Syntax.tcons (Syntax.tyInt Syntax.w64) (Syntax.tcons (Syntax.tyInt Syntax.w64) Syntax.tnil)))))) (List._∷_ (12, Rows'.any-gone (Syntax.tyInt Syntax.w64)) (List._∷_ (13, Rows'.any-gone (Syntax.tyRef Syntax.erased Syntax.mut (Syntax.tyArray ColumnMetadataRow.named 4096))) (List._∷_ (14, Rows'.any-gone (Syntax.tyStruct (List._∷_ 38 (List._∷_ 91 (List._∷_ 93 List.[]))) (Syntax.tcons (Syntax.tyRef Syntax.erased Syntax.mut ColumnMetadataRow.named) (Syntax.tcons (Syntax.tyInt Syntax.w64) Syntax.tnil)))) (List._∷_ (15, Rows'.sc-here Row.sBool) List.[])))))))))))))))
+t14 = List._∷_ (0, Rows'.any-gone (Syntax.tyInt Syntax.w64)) (List._∷_ (1, Mut.mslice (Referent.rtF (Referent.fInt Syntax.w8)) (Syntax.tyRef (Syntax.named 0) Syntax.mut (Syntax.tyInt Syntax.w8)) 0) (List._∷_ (2, Rows'.sc-here (Row.sInt Syntax.w64)) (List._∷_ (3, Rows'.sslice (Referent.rtF (Referent.fInt Syntax.w8)) (Syntax.tyRef (Syntax.named 1) Syntax.imm (Syntax.tyInt Syntax.w8)) 1) (List._∷_ (4, Mut.mslice (Referent.rtF (Referent.fInt Syntax.w8)) (Syntax.tyRef (Syntax.named 2) Syntax.mut (Syntax.tyInt Syntax.w8)) 2) (List._∷_ (5, Rows'.any-gone (ColumnMetadataRow.ty)) (List._∷_ (6, Rows'.any-gone (Syntax.tyArray (ColumnMetadataRow.ty) 4096)) (List._∷_ (7, Rows'.any-gone (Syntax.tyStruct (List._∷_ 115 (List._∷_ 113 (List._∷_ 108 (List._∷_ 100 (List._∷_ 97 (List._∷_ 114 (List._∷_ 100 (List._∷_ 58 (List._∷_ 58 (List._∷_ 83 (List._∷_ 113 (List._∷_ 108 (List._∷_ 100 (List._∷_ 97 (List._∷_ 114 (List._∷_ 100 (List._∷_ 65 (List._∷_ 110 (List._∷_ 115 (List._∷_ 119 (List._∷_ 101 (List._∷_ 114 List.[])))))))))))))))))))))) (Syntax.tcons (Syntax.tyEnum (List._∷_ 111 (List._∷_ 117 (List._∷_ 116 (List._∷_ 99 (List._∷_ 111 (List._∷_ 109 (List._∷_ 101 (List._∷_ 58 (List._∷_ 58 (List._∷_ 79 (List._∷_ 117 (List._∷_ 116 (List._∷_ 99 (List._∷_ 111 (List._∷_ 109 (List._∷_ 101 List.[])))))))))))))))) (Syntax.ttcons Syntax.tnil (Syntax.ttcons Syntax.tnil (Syntax.ttcons (Syntax.tcons (Syntax.tyInt Syntax.w64) (Syntax.tcons (Syntax.tyInt Syntax.w64) Syntax.tnil)) (Syntax.ttcons Syntax.tnil (Syntax.ttcons (Syntax.tcons (Syntax.tyInt Syntax.w16) Syntax.tnil) (Syntax.ttcons Syntax.tnil (Syntax.ttcons (Syntax.tcons (Syntax.tyInt Syntax.w64) Syntax.tnil) (Syntax.ttcons Syntax.tnil (Syntax.ttcons (Syntax.tcons (Syntax.tyInt Syntax.w16) Syntax.tnil) Syntax.ttnil)))))))))) (Syntax.tcons (Syntax.tyStruct (List._∷_ 115 (List._∷_ 113 (List._∷_ 108 (List._∷_ 99 (List._∷_ 97 (List._∷_ 114 (List._∷_ 100 (List._∷_ 58 (List._∷_ 58 (List._∷_ 83 (List._∷_ 113 (List._∷_ 108 (List._∷_ 67 (List._∷_ 97 (List._∷_ 114 (List._∷_ 100 List.[])))))))))))))))) (Syntax.tcons Syntax.tyBool (Syntax.tcons (Syntax.tyInt Syntax.w32) (Syntax.tcons (Syntax.tyArray (Syntax.tyInt Syntax.w8) 5) (Syntax.tcons (Syntax.tyArray (Syntax.tyInt Syntax.w8) 8) (Syntax.tcons (Syntax.tyInt Syntax.w8) (Syntax.tcons (Syntax.tyArray (Syntax.tyInt Syntax.w32) 6) (Syntax.tcons (Syntax.tyInt Syntax.w64) (Syntax.tcons (Syntax.tyInt Syntax.w32) (Syntax.tcons (Syntax.tyArray (Syntax.tyInt Syntax.w8) 11) (Syntax.tcons (Syntax.tyInt Syntax.w64) (Syntax.tcons (Syntax.tyInt Syntax.w64) Syntax.tnil)))))))))))) (Syntax.tcons (Syntax.tyInt Syntax.w64) Syntax.tnil))))) (List._∷_ (8, Rows'.whole (Declared.row Outcome.the-type)) (List._∷_ (9, Rows'.any-gone (Syntax.tyInt Syntax.w64)) (List._∷_ (10, Rows'.any-gone (Syntax.tyStruct (List._∷_ 115 (List._∷_ 113 (List._∷_ 108 (List._∷_ 99 (List._∷_ 97 (List._∷_ 114 (List._∷_ 100 (List._∷_ 58 (List._∷_ 58 (List._∷_ 83 (List._∷_ 113 (List._∷_ 108 (List._∷_ 67 (List._∷_ 97 (List._∷_ 114 (List._∷_ 100 List.[])))))))))))))))) (Syntax.tcons Syntax.tyBool (Syntax.tcons (Syntax.tyInt Syntax.w32) (Syntax.tcons (Syntax.tyArray (Syntax.tyInt Syntax.w8) 5) (Syntax.tcons (Syntax.tyArray (Syntax.tyInt Syntax.w8) 8) (Syntax.tcons (Syntax.tyInt Syntax.w8) (Syntax.tcons (Syntax.tyArray (Syntax.tyInt Syntax.w32) 6) (Syntax.tcons (Syntax.tyInt Syntax.w64) (Syntax.tcons (Syntax.tyInt Syntax.w32) (Syntax.tcons (Syntax.tyArray (Syntax.tyInt Syntax.w8) 11) (Syntax.tcons (Syntax.tyInt Syntax.w64) (Syntax.tcons (Syntax.tyInt Syntax.w64) Syntax.tnil))))))))))))) (List._∷_ (11, Rows'.any-gone (Syntax.tyStruct (List._∷_ 116 (List._∷_ 97 (List._∷_ 98 (List._∷_ 108 (List._∷_ 101 (List._∷_ 95 (List._∷_ 111 (List._∷_ 117 (List._∷_ 116 (List._∷_ 112 (List._∷_ 117 (List._∷_ 116 (List._∷_ 58 (List._∷_ 58 (List._∷_ 114 (List._∷_ 111 (List._∷_ 119 (List._∷_ 115 (List._∷_ 58 (List._∷_ 58 (List._∷_ 87 (List._∷_ 105 (List._∷_ 100 (List._∷_ 116 (List._∷_ 104 (List._∷_ 115 List.[])))))))))))))))))))))))))) (Syntax.tcons (Syntax.tyInt Syntax.w64) (Syntax.tcons (Syntax.tyInt Syntax.w64) (Syntax.tcons (Syntax.tyInt Syntax.w64) (Syntax.tcons (Syntax.tyInt Syntax.w64) Syntax.tnil)))))) (List._∷_ (12, Rows'.any-gone (Syntax.tyInt Syntax.w64)) (List._∷_ (13, Rows'.any-gone (Syntax.tyRef Syntax.erased Syntax.mut (Syntax.tyArray ColumnMetadataRow.named 4096))) (List._∷_ (14, Rows'.any-gone (Syntax.tyStruct (List._∷_ 38 (List._∷_ 91 (List._∷_ 93 List.[]))) (Syntax.tcons (Syntax.tyRef Syntax.erased Syntax.mut ColumnMetadataRow.named) (Syntax.tcons (Syntax.tyInt Syntax.w64) Syntax.tnil)))) (List._∷_ (15, Rows'.sc-here Row.sBool) List.[])))))))))))))))
 
 abbrev pub t15 : List.List Row.Entry
-t15 = List._∷_ (0, Rows'.any-gone (Syntax.tyInt Syntax.w64)) (List._∷_ (1, Mut.mslice (Referent.rtF (Referent.fInt Syntax.w8)) (Syntax.tyRef (Syntax.named 0) Syntax.mut (Syntax.tyInt Syntax.w8)) 0) (List._∷_ (2, Rows'.sc-here (Row.sInt Syntax.w64)) (List._∷_ (3, Rows'.sslice (Referent.rtF (Referent.fInt Syntax.w8)) (Syntax.tyRef (Syntax.named 1) Syntax.imm (Syntax.tyInt Syntax.w8)) 1) (List._∷_ (4, Mut.mslice (Referent.rtF (Referent.fInt Syntax.w8)) (Syntax.tyRef (Syntax.named 2) Syntax.mut (Syntax.tyInt Syntax.w8)) 2) (List._∷_ (5, Rows'.any-gone (ColumnMetadataRow.ty)) (List._∷_ (6, Rows'.any-gone (Syntax.tyArray (ColumnMetadataRow.ty) 4096)) (List._∷_ (7, Rows'.any-gone (Syntax.tyStruct (List._∷_ 115 (List._∷_ 113 (List._∷_ 108 (List._∷_ 100 (List._∷_ 97 (List._∷_ 114 (List._∷_ 100 (List._∷_ 58 (List._∷_ 58 (List._∷_ 83 (List._∷_ 113 (List._∷_ 108 (List._∷_ 100 (List._∷_ 97 (List._∷_ 114 (List._∷_ 100 (List._∷_ 65 (List._∷_ 110 (List._∷_ 115 (List._∷_ 119 (List._∷_ 101 (List._∷_ 114 List.[])))))))))))))))))))))) (Syntax.tcons (Syntax.tyEnum (List._∷_ 111 (List._∷_ 117 (List._∷_ 116 (List._∷_ 99 (List._∷_ 111 (List._∷_ 109 (List._∷_ 101 (List._∷_ 58 (List._∷_ 58 (List._∷_ 79 (List._∷_ 117 (List._∷_ 116 (List._∷_ 99 (List._∷_ 111 (List._∷_ 109 (List._∷_ 101 List.[])))))))))))))))) (Syntax.ttcons Syntax.tnil (Syntax.ttcons Syntax.tnil (Syntax.ttcons (Syntax.tcons (Syntax.tyInt Syntax.w64) (Syntax.tcons (Syntax.tyInt Syntax.w64) Syntax.tnil)) (Syntax.ttcons Syntax.tnil (Syntax.ttcons (Syntax.tcons (Syntax.tyInt Syntax.w16) Syntax.tnil) (Syntax.ttcons Syntax.tnil (Syntax.ttcons (Syntax.tcons (Syntax.tyInt Syntax.w64) Syntax.tnil) (Syntax.ttcons Syntax.tnil Syntax.ttnil))))))))) (Syntax.tcons (Syntax.tyStruct (List._∷_ 115 (List._∷_ 113 (List._∷_ 108 (List._∷_ 99 (List._∷_ 97 (List._∷_ 114 (List._∷_ 100 (List._∷_ 58 (List._∷_ 58 (List._∷_ 83 (List._∷_ 113 (List._∷_ 108 (List._∷_ 67 (List._∷_ 97 (List._∷_ 114 (List._∷_ 100 List.[])))))))))))))))) (Syntax.tcons Syntax.tyBool (Syntax.tcons (Syntax.tyInt Syntax.w32) (Syntax.tcons (Syntax.tyArray (Syntax.tyInt Syntax.w8) 5) (Syntax.tcons (Syntax.tyArray (Syntax.tyInt Syntax.w8) 8) (Syntax.tcons (Syntax.tyInt Syntax.w8) (Syntax.tcons (Syntax.tyArray (Syntax.tyInt Syntax.w32) 6) (Syntax.tcons (Syntax.tyInt Syntax.w64) (Syntax.tcons (Syntax.tyInt Syntax.w32) (Syntax.tcons (Syntax.tyArray (Syntax.tyInt Syntax.w8) 11) (Syntax.tcons (Syntax.tyInt Syntax.w64) (Syntax.tcons (Syntax.tyInt Syntax.w64) Syntax.tnil)))))))))))) (Syntax.tcons (Syntax.tyInt Syntax.w64) Syntax.tnil))))) (List._∷_ (8, Rows'.whole (Declared.row Outcome.the-type)) (List._∷_ (9, Rows'.any-gone (Syntax.tyInt Syntax.w64)) (List._∷_ (10, Rows'.any-gone (Syntax.tyStruct (List._∷_ 115 (List._∷_ 113 (List._∷_ 108 (List._∷_ 99 (List._∷_ 97 (List._∷_ 114 (List._∷_ 100 (List._∷_ 58 (List._∷_ 58 (List._∷_ 83 (List._∷_ 113 (List._∷_ 108 (List._∷_ 67 (List._∷_ 97 (List._∷_ 114 (List._∷_ 100 List.[])))))))))))))))) (Syntax.tcons Syntax.tyBool (Syntax.tcons (Syntax.tyInt Syntax.w32) (Syntax.tcons (Syntax.tyArray (Syntax.tyInt Syntax.w8) 5) (Syntax.tcons (Syntax.tyArray (Syntax.tyInt Syntax.w8) 8) (Syntax.tcons (Syntax.tyInt Syntax.w8) (Syntax.tcons (Syntax.tyArray (Syntax.tyInt Syntax.w32) 6) (Syntax.tcons (Syntax.tyInt Syntax.w64) (Syntax.tcons (Syntax.tyInt Syntax.w32) (Syntax.tcons (Syntax.tyArray (Syntax.tyInt Syntax.w8) 11) (Syntax.tcons (Syntax.tyInt Syntax.w64) (Syntax.tcons (Syntax.tyInt Syntax.w64) Syntax.tnil))))))))))))) (List._∷_ (11, Rows'.any-gone (Syntax.tyStruct (List._∷_ 116 (List._∷_ 97 (List._∷_ 98 (List._∷_ 108 (List._∷_ 101 (List._∷_ 95 (List._∷_ 111 (List._∷_ 117 (List._∷_ 116 (List._∷_ 112 (List._∷_ 117 (List._∷_ 116 (List._∷_ 58 (List._∷_ 58 (List._∷_ 114 (List._∷_ 111 (List._∷_ 119 (List._∷_ 115 (List._∷_ 58 (List._∷_ 58 (List._∷_ 87 (List._∷_ 105 (List._∷_ 100 (List._∷_ 116 (List._∷_ 104 (List._∷_ 115 List.[])))))))))))))))))))))))))) (Syntax.tcons (Syntax.tyInt Syntax.w64) (Syntax.tcons (Syntax.tyInt Syntax.w64) (Syntax.tcons (Syntax.tyInt Syntax.w64) (Syntax.tcons (Syntax.tyInt Syntax.w64) Syntax.tnil)))))) (List._∷_ (12, Rows'.any-gone (Syntax.tyInt Syntax.w64)) (List._∷_ (13, Rows'.any-gone (Syntax.tyRef Syntax.erased Syntax.mut (Syntax.tyArray ColumnMetadataRow.named 4096))) (List._∷_ (14, Rows'.any-gone (Syntax.tyStruct (List._∷_ 38 (List._∷_ 91 (List._∷_ 93 List.[]))) (Syntax.tcons (Syntax.tyRef Syntax.erased Syntax.mut ColumnMetadataRow.named) (Syntax.tcons (Syntax.tyInt Syntax.w64) Syntax.tnil)))) (List._∷_ (15, Rows'.any-gone Syntax.tyBool) List.[])))))))))))))))
+t15 = List._∷_ (0, Rows'.any-gone (Syntax.tyInt Syntax.w64)) (List._∷_ (1, Mut.mslice (Referent.rtF (Referent.fInt Syntax.w8)) (Syntax.tyRef (Syntax.named 0) Syntax.mut (Syntax.tyInt Syntax.w8)) 0) (List._∷_ (2, Rows'.sc-here (Row.sInt Syntax.w64)) (List._∷_ (3, Rows'.sslice (Referent.rtF (Referent.fInt Syntax.w8)) (Syntax.tyRef (Syntax.named 1) Syntax.imm (Syntax.tyInt Syntax.w8)) 1) (List._∷_ (4, Mut.mslice (Referent.rtF (Referent.fInt Syntax.w8)) (Syntax.tyRef (Syntax.named 2) Syntax.mut (Syntax.tyInt Syntax.w8)) 2) (List._∷_ (5, Rows'.any-gone (ColumnMetadataRow.ty)) (List._∷_ (6, Rows'.any-gone (Syntax.tyArray (ColumnMetadataRow.ty) 4096)) (List._∷_ (7, Rows'.any-gone (Syntax.tyStruct (List._∷_ 115 (List._∷_ 113 (List._∷_ 108 (List._∷_ 100 (List._∷_ 97 (List._∷_ 114 (List._∷_ 100 (List._∷_ 58 (List._∷_ 58 (List._∷_ 83 (List._∷_ 113 (List._∷_ 108 (List._∷_ 100 (List._∷_ 97 (List._∷_ 114 (List._∷_ 100 (List._∷_ 65 (List._∷_ 110 (List._∷_ 115 (List._∷_ 119 (List._∷_ 101 (List._∷_ 114 List.[])))))))))))))))))))))) (Syntax.tcons (Syntax.tyEnum (List._∷_ 111 (List._∷_ 117 (List._∷_ 116 (List._∷_ 99 (List._∷_ 111 (List._∷_ 109 (List._∷_ 101 (List._∷_ 58 (List._∷_ 58 (List._∷_ 79 (List._∷_ 117 (List._∷_ 116 (List._∷_ 99 (List._∷_ 111 (List._∷_ 109 (List._∷_ 101 List.[])))))))))))))))) (Syntax.ttcons Syntax.tnil (Syntax.ttcons Syntax.tnil (Syntax.ttcons (Syntax.tcons (Syntax.tyInt Syntax.w64) (Syntax.tcons (Syntax.tyInt Syntax.w64) Syntax.tnil)) (Syntax.ttcons Syntax.tnil (Syntax.ttcons (Syntax.tcons (Syntax.tyInt Syntax.w16) Syntax.tnil) (Syntax.ttcons Syntax.tnil (Syntax.ttcons (Syntax.tcons (Syntax.tyInt Syntax.w64) Syntax.tnil) (Syntax.ttcons Syntax.tnil (Syntax.ttcons (Syntax.tcons (Syntax.tyInt Syntax.w16) Syntax.tnil) Syntax.ttnil)))))))))) (Syntax.tcons (Syntax.tyStruct (List._∷_ 115 (List._∷_ 113 (List._∷_ 108 (List._∷_ 99 (List._∷_ 97 (List._∷_ 114 (List._∷_ 100 (List._∷_ 58 (List._∷_ 58 (List._∷_ 83 (List._∷_ 113 (List._∷_ 108 (List._∷_ 67 (List._∷_ 97 (List._∷_ 114 (List._∷_ 100 List.[])))))))))))))))) (Syntax.tcons Syntax.tyBool (Syntax.tcons (Syntax.tyInt Syntax.w32) (Syntax.tcons (Syntax.tyArray (Syntax.tyInt Syntax.w8) 5) (Syntax.tcons (Syntax.tyArray (Syntax.tyInt Syntax.w8) 8) (Syntax.tcons (Syntax.tyInt Syntax.w8) (Syntax.tcons (Syntax.tyArray (Syntax.tyInt Syntax.w32) 6) (Syntax.tcons (Syntax.tyInt Syntax.w64) (Syntax.tcons (Syntax.tyInt Syntax.w32) (Syntax.tcons (Syntax.tyArray (Syntax.tyInt Syntax.w8) 11) (Syntax.tcons (Syntax.tyInt Syntax.w64) (Syntax.tcons (Syntax.tyInt Syntax.w64) Syntax.tnil)))))))))))) (Syntax.tcons (Syntax.tyInt Syntax.w64) Syntax.tnil))))) (List._∷_ (8, Rows'.whole (Declared.row Outcome.the-type)) (List._∷_ (9, Rows'.any-gone (Syntax.tyInt Syntax.w64)) (List._∷_ (10, Rows'.any-gone (Syntax.tyStruct (List._∷_ 115 (List._∷_ 113 (List._∷_ 108 (List._∷_ 99 (List._∷_ 97 (List._∷_ 114 (List._∷_ 100 (List._∷_ 58 (List._∷_ 58 (List._∷_ 83 (List._∷_ 113 (List._∷_ 108 (List._∷_ 67 (List._∷_ 97 (List._∷_ 114 (List._∷_ 100 List.[])))))))))))))))) (Syntax.tcons Syntax.tyBool (Syntax.tcons (Syntax.tyInt Syntax.w32) (Syntax.tcons (Syntax.tyArray (Syntax.tyInt Syntax.w8) 5) (Syntax.tcons (Syntax.tyArray (Syntax.tyInt Syntax.w8) 8) (Syntax.tcons (Syntax.tyInt Syntax.w8) (Syntax.tcons (Syntax.tyArray (Syntax.tyInt Syntax.w32) 6) (Syntax.tcons (Syntax.tyInt Syntax.w64) (Syntax.tcons (Syntax.tyInt Syntax.w32) (Syntax.tcons (Syntax.tyArray (Syntax.tyInt Syntax.w8) 11) (Syntax.tcons (Syntax.tyInt Syntax.w64) (Syntax.tcons (Syntax.tyInt Syntax.w64) Syntax.tnil))))))))))))) (List._∷_ (11, Rows'.any-gone (Syntax.tyStruct (List._∷_ 116 (List._∷_ 97 (List._∷_ 98 (List._∷_ 108 (List._∷_ 101 (List._∷_ 95 (List._∷_ 111 (List._∷_ 117 (List._∷_ 116 (List._∷_ 112 (List._∷_ 117 (List._∷_ 116 (List._∷_ 58 (List._∷_ 58 (List._∷_ 114 (List._∷_ 111 (List._∷_ 119 (List._∷_ 115 (List._∷_ 58 (List._∷_ 58 (List._∷_ 87 (List._∷_ 105 (List._∷_ 100 (List._∷_ 116 (List._∷_ 104 (List._∷_ 115 List.[])))))))))))))))))))))))))) (Syntax.tcons (Syntax.tyInt Syntax.w64) (Syntax.tcons (Syntax.tyInt Syntax.w64) (Syntax.tcons (Syntax.tyInt Syntax.w64) (Syntax.tcons (Syntax.tyInt Syntax.w64) Syntax.tnil)))))) (List._∷_ (12, Rows'.any-gone (Syntax.tyInt Syntax.w64)) (List._∷_ (13, Rows'.any-gone (Syntax.tyRef Syntax.erased Syntax.mut (Syntax.tyArray ColumnMetadataRow.named 4096))) (List._∷_ (14, Rows'.any-gone (Syntax.tyStruct (List._∷_ 38 (List._∷_ 91 (List._∷_ 93 List.[]))) (Syntax.tcons (Syntax.tyRef Syntax.erased Syntax.mut ColumnMetadataRow.named) (Syntax.tcons (Syntax.tyInt Syntax.w64) Syntax.tnil)))) (List._∷_ (15, Rows'.any-gone Syntax.tyBool) List.[])))))))))))))))
 
 abbrev pub t16 : List.List Row.Entry
-t16 = List._∷_ (0, Rows'.any-gone (Syntax.tyInt Syntax.w64)) (List._∷_ (1, Relend.mslice-owed (Referent.rtF (Referent.fInt Syntax.w8)) (Syntax.tyRef (Syntax.named 0) Syntax.mut (Syntax.tyInt Syntax.w8)) 0 4 Row.off) (List._∷_ (2, Rows'.sc-here (Row.sInt Syntax.w64)) (List._∷_ (3, Rows'.sslice (Referent.rtF (Referent.fInt Syntax.w8)) (Syntax.tyRef (Syntax.named 1) Syntax.imm (Syntax.tyInt Syntax.w8)) 1) (List._∷_ (4, Mut.mslice (Referent.rtF (Referent.fInt Syntax.w8)) (Syntax.tyRef (Syntax.named 2) Syntax.mut (Syntax.tyInt Syntax.w8)) 2) (List._∷_ (5, Rows'.any-gone (ColumnMetadataRow.ty)) (List._∷_ (6, Rows'.any-gone (Syntax.tyArray (ColumnMetadataRow.ty) 4096)) (List._∷_ (7, Rows'.any-gone (Syntax.tyStruct (List._∷_ 115 (List._∷_ 113 (List._∷_ 108 (List._∷_ 100 (List._∷_ 97 (List._∷_ 114 (List._∷_ 100 (List._∷_ 58 (List._∷_ 58 (List._∷_ 83 (List._∷_ 113 (List._∷_ 108 (List._∷_ 100 (List._∷_ 97 (List._∷_ 114 (List._∷_ 100 (List._∷_ 65 (List._∷_ 110 (List._∷_ 115 (List._∷_ 119 (List._∷_ 101 (List._∷_ 114 List.[])))))))))))))))))))))) (Syntax.tcons (Syntax.tyEnum (List._∷_ 111 (List._∷_ 117 (List._∷_ 116 (List._∷_ 99 (List._∷_ 111 (List._∷_ 109 (List._∷_ 101 (List._∷_ 58 (List._∷_ 58 (List._∷_ 79 (List._∷_ 117 (List._∷_ 116 (List._∷_ 99 (List._∷_ 111 (List._∷_ 109 (List._∷_ 101 List.[])))))))))))))))) (Syntax.ttcons Syntax.tnil (Syntax.ttcons Syntax.tnil (Syntax.ttcons (Syntax.tcons (Syntax.tyInt Syntax.w64) (Syntax.tcons (Syntax.tyInt Syntax.w64) Syntax.tnil)) (Syntax.ttcons Syntax.tnil (Syntax.ttcons (Syntax.tcons (Syntax.tyInt Syntax.w16) Syntax.tnil) (Syntax.ttcons Syntax.tnil (Syntax.ttcons (Syntax.tcons (Syntax.tyInt Syntax.w64) Syntax.tnil) (Syntax.ttcons Syntax.tnil Syntax.ttnil))))))))) (Syntax.tcons (Syntax.tyStruct (List._∷_ 115 (List._∷_ 113 (List._∷_ 108 (List._∷_ 99 (List._∷_ 97 (List._∷_ 114 (List._∷_ 100 (List._∷_ 58 (List._∷_ 58 (List._∷_ 83 (List._∷_ 113 (List._∷_ 108 (List._∷_ 67 (List._∷_ 97 (List._∷_ 114 (List._∷_ 100 List.[])))))))))))))))) (Syntax.tcons Syntax.tyBool (Syntax.tcons (Syntax.tyInt Syntax.w32) (Syntax.tcons (Syntax.tyArray (Syntax.tyInt Syntax.w8) 5) (Syntax.tcons (Syntax.tyArray (Syntax.tyInt Syntax.w8) 8) (Syntax.tcons (Syntax.tyInt Syntax.w8) (Syntax.tcons (Syntax.tyArray (Syntax.tyInt Syntax.w32) 6) (Syntax.tcons (Syntax.tyInt Syntax.w64) (Syntax.tcons (Syntax.tyInt Syntax.w32) (Syntax.tcons (Syntax.tyArray (Syntax.tyInt Syntax.w8) 11) (Syntax.tcons (Syntax.tyInt Syntax.w64) (Syntax.tcons (Syntax.tyInt Syntax.w64) Syntax.tnil)))))))))))) (Syntax.tcons (Syntax.tyInt Syntax.w64) Syntax.tnil))))) (List._∷_ (8, Rows'.whole (Declared.row Outcome.the-type)) (List._∷_ (9, Rows'.any-gone (Syntax.tyInt Syntax.w64)) (List._∷_ (10, Rows'.any-gone (Syntax.tyStruct (List._∷_ 115 (List._∷_ 113 (List._∷_ 108 (List._∷_ 99 (List._∷_ 97 (List._∷_ 114 (List._∷_ 100 (List._∷_ 58 (List._∷_ 58 (List._∷_ 83 (List._∷_ 113 (List._∷_ 108 (List._∷_ 67 (List._∷_ 97 (List._∷_ 114 (List._∷_ 100 List.[])))))))))))))))) (Syntax.tcons Syntax.tyBool (Syntax.tcons (Syntax.tyInt Syntax.w32) (Syntax.tcons (Syntax.tyArray (Syntax.tyInt Syntax.w8) 5) (Syntax.tcons (Syntax.tyArray (Syntax.tyInt Syntax.w8) 8) (Syntax.tcons (Syntax.tyInt Syntax.w8) (Syntax.tcons (Syntax.tyArray (Syntax.tyInt Syntax.w32) 6) (Syntax.tcons (Syntax.tyInt Syntax.w64) (Syntax.tcons (Syntax.tyInt Syntax.w32) (Syntax.tcons (Syntax.tyArray (Syntax.tyInt Syntax.w8) 11) (Syntax.tcons (Syntax.tyInt Syntax.w64) (Syntax.tcons (Syntax.tyInt Syntax.w64) Syntax.tnil))))))))))))) (List._∷_ (11, Rows'.any-gone (Syntax.tyStruct (List._∷_ 116 (List._∷_ 97 (List._∷_ 98 (List._∷_ 108 (List._∷_ 101 (List._∷_ 95 (List._∷_ 111 (List._∷_ 117 (List._∷_ 116 (List._∷_ 112 (List._∷_ 117 (List._∷_ 116 (List._∷_ 58 (List._∷_ 58 (List._∷_ 114 (List._∷_ 111 (List._∷_ 119 (List._∷_ 115 (List._∷_ 58 (List._∷_ 58 (List._∷_ 87 (List._∷_ 105 (List._∷_ 100 (List._∷_ 116 (List._∷_ 104 (List._∷_ 115 List.[])))))))))))))))))))))))))) (Syntax.tcons (Syntax.tyInt Syntax.w64) (Syntax.tcons (Syntax.tyInt Syntax.w64) (Syntax.tcons (Syntax.tyInt Syntax.w64) (Syntax.tcons (Syntax.tyInt Syntax.w64) Syntax.tnil)))))) (List._∷_ (12, Rows'.any-gone (Syntax.tyInt Syntax.w64)) (List._∷_ (13, Rows'.any-gone (Syntax.tyRef Syntax.erased Syntax.mut (Syntax.tyArray ColumnMetadataRow.named 4096))) (List._∷_ (14, Rows'.any-gone (Syntax.tyStruct (List._∷_ 38 (List._∷_ 91 (List._∷_ 93 List.[]))) (Syntax.tcons (Syntax.tyRef Syntax.erased Syntax.mut ColumnMetadataRow.named) (Syntax.tcons (Syntax.tyInt Syntax.w64) Syntax.tnil)))) (List._∷_ (15, Rows'.any-gone Syntax.tyBool) List.[])))))))))))))))
+t16 = List._∷_ (0, Rows'.any-gone (Syntax.tyInt Syntax.w64)) (List._∷_ (1, Relend.mslice-owed (Referent.rtF (Referent.fInt Syntax.w8)) (Syntax.tyRef (Syntax.named 0) Syntax.mut (Syntax.tyInt Syntax.w8)) 0 4 Row.off) (List._∷_ (2, Rows'.sc-here (Row.sInt Syntax.w64)) (List._∷_ (3, Rows'.sslice (Referent.rtF (Referent.fInt Syntax.w8)) (Syntax.tyRef (Syntax.named 1) Syntax.imm (Syntax.tyInt Syntax.w8)) 1) (List._∷_ (4, Mut.mslice (Referent.rtF (Referent.fInt Syntax.w8)) (Syntax.tyRef (Syntax.named 2) Syntax.mut (Syntax.tyInt Syntax.w8)) 2) (List._∷_ (5, Rows'.any-gone (ColumnMetadataRow.ty)) (List._∷_ (6, Rows'.any-gone (Syntax.tyArray (ColumnMetadataRow.ty) 4096)) (List._∷_ (7, Rows'.any-gone (Syntax.tyStruct (List._∷_ 115 (List._∷_ 113 (List._∷_ 108 (List._∷_ 100 (List._∷_ 97 (List._∷_ 114 (List._∷_ 100 (List._∷_ 58 (List._∷_ 58 (List._∷_ 83 (List._∷_ 113 (List._∷_ 108 (List._∷_ 100 (List._∷_ 97 (List._∷_ 114 (List._∷_ 100 (List._∷_ 65 (List._∷_ 110 (List._∷_ 115 (List._∷_ 119 (List._∷_ 101 (List._∷_ 114 List.[])))))))))))))))))))))) (Syntax.tcons (Syntax.tyEnum (List._∷_ 111 (List._∷_ 117 (List._∷_ 116 (List._∷_ 99 (List._∷_ 111 (List._∷_ 109 (List._∷_ 101 (List._∷_ 58 (List._∷_ 58 (List._∷_ 79 (List._∷_ 117 (List._∷_ 116 (List._∷_ 99 (List._∷_ 111 (List._∷_ 109 (List._∷_ 101 List.[])))))))))))))))) (Syntax.ttcons Syntax.tnil (Syntax.ttcons Syntax.tnil (Syntax.ttcons (Syntax.tcons (Syntax.tyInt Syntax.w64) (Syntax.tcons (Syntax.tyInt Syntax.w64) Syntax.tnil)) (Syntax.ttcons Syntax.tnil (Syntax.ttcons (Syntax.tcons (Syntax.tyInt Syntax.w16) Syntax.tnil) (Syntax.ttcons Syntax.tnil (Syntax.ttcons (Syntax.tcons (Syntax.tyInt Syntax.w64) Syntax.tnil) (Syntax.ttcons Syntax.tnil (Syntax.ttcons (Syntax.tcons (Syntax.tyInt Syntax.w16) Syntax.tnil) Syntax.ttnil)))))))))) (Syntax.tcons (Syntax.tyStruct (List._∷_ 115 (List._∷_ 113 (List._∷_ 108 (List._∷_ 99 (List._∷_ 97 (List._∷_ 114 (List._∷_ 100 (List._∷_ 58 (List._∷_ 58 (List._∷_ 83 (List._∷_ 113 (List._∷_ 108 (List._∷_ 67 (List._∷_ 97 (List._∷_ 114 (List._∷_ 100 List.[])))))))))))))))) (Syntax.tcons Syntax.tyBool (Syntax.tcons (Syntax.tyInt Syntax.w32) (Syntax.tcons (Syntax.tyArray (Syntax.tyInt Syntax.w8) 5) (Syntax.tcons (Syntax.tyArray (Syntax.tyInt Syntax.w8) 8) (Syntax.tcons (Syntax.tyInt Syntax.w8) (Syntax.tcons (Syntax.tyArray (Syntax.tyInt Syntax.w32) 6) (Syntax.tcons (Syntax.tyInt Syntax.w64) (Syntax.tcons (Syntax.tyInt Syntax.w32) (Syntax.tcons (Syntax.tyArray (Syntax.tyInt Syntax.w8) 11) (Syntax.tcons (Syntax.tyInt Syntax.w64) (Syntax.tcons (Syntax.tyInt Syntax.w64) Syntax.tnil)))))))))))) (Syntax.tcons (Syntax.tyInt Syntax.w64) Syntax.tnil))))) (List._∷_ (8, Rows'.whole (Declared.row Outcome.the-type)) (List._∷_ (9, Rows'.any-gone (Syntax.tyInt Syntax.w64)) (List._∷_ (10, Rows'.any-gone (Syntax.tyStruct (List._∷_ 115 (List._∷_ 113 (List._∷_ 108 (List._∷_ 99 (List._∷_ 97 (List._∷_ 114 (List._∷_ 100 (List._∷_ 58 (List._∷_ 58 (List._∷_ 83 (List._∷_ 113 (List._∷_ 108 (List._∷_ 67 (List._∷_ 97 (List._∷_ 114 (List._∷_ 100 List.[])))))))))))))))) (Syntax.tcons Syntax.tyBool (Syntax.tcons (Syntax.tyInt Syntax.w32) (Syntax.tcons (Syntax.tyArray (Syntax.tyInt Syntax.w8) 5) (Syntax.tcons (Syntax.tyArray (Syntax.tyInt Syntax.w8) 8) (Syntax.tcons (Syntax.tyInt Syntax.w8) (Syntax.tcons (Syntax.tyArray (Syntax.tyInt Syntax.w32) 6) (Syntax.tcons (Syntax.tyInt Syntax.w64) (Syntax.tcons (Syntax.tyInt Syntax.w32) (Syntax.tcons (Syntax.tyArray (Syntax.tyInt Syntax.w8) 11) (Syntax.tcons (Syntax.tyInt Syntax.w64) (Syntax.tcons (Syntax.tyInt Syntax.w64) Syntax.tnil))))))))))))) (List._∷_ (11, Rows'.any-gone (Syntax.tyStruct (List._∷_ 116 (List._∷_ 97 (List._∷_ 98 (List._∷_ 108 (List._∷_ 101 (List._∷_ 95 (List._∷_ 111 (List._∷_ 117 (List._∷_ 116 (List._∷_ 112 (List._∷_ 117 (List._∷_ 116 (List._∷_ 58 (List._∷_ 58 (List._∷_ 114 (List._∷_ 111 (List._∷_ 119 (List._∷_ 115 (List._∷_ 58 (List._∷_ 58 (List._∷_ 87 (List._∷_ 105 (List._∷_ 100 (List._∷_ 116 (List._∷_ 104 (List._∷_ 115 List.[])))))))))))))))))))))))))) (Syntax.tcons (Syntax.tyInt Syntax.w64) (Syntax.tcons (Syntax.tyInt Syntax.w64) (Syntax.tcons (Syntax.tyInt Syntax.w64) (Syntax.tcons (Syntax.tyInt Syntax.w64) Syntax.tnil)))))) (List._∷_ (12, Rows'.any-gone (Syntax.tyInt Syntax.w64)) (List._∷_ (13, Rows'.any-gone (Syntax.tyRef Syntax.erased Syntax.mut (Syntax.tyArray ColumnMetadataRow.named 4096))) (List._∷_ (14, Rows'.any-gone (Syntax.tyStruct (List._∷_ 38 (List._∷_ 91 (List._∷_ 93 List.[]))) (Syntax.tcons (Syntax.tyRef Syntax.erased Syntax.mut ColumnMetadataRow.named) (Syntax.tcons (Syntax.tyInt Syntax.w64) Syntax.tnil)))) (List._∷_ (15, Rows'.any-gone Syntax.tyBool) List.[])))))))))))))))
 
 abbrev pub t17 : List.List Row.Entry
 t17 = List._∷_ (16, Relend.msptr (Referent.rtF (Referent.fInt Syntax.w8)) (Syntax.tyRef Syntax.erased Syntax.mut (Syntax.tyInt Syntax.w8)) 4) (List._∷_ (17, Rows'.any-gone (Syntax.tyStruct (List._∷_ 38 (List._∷_ 91 (List._∷_ 93 List.[]))) (Syntax.tcons (Syntax.tyRef Syntax.erased Syntax.mut (Syntax.tyInt Syntax.w8)) (Syntax.tcons (Syntax.tyInt Syntax.w64) Syntax.tnil)))) (List._∷_ (18, Rows'.any-gone (Syntax.tyRef Syntax.erased Syntax.imm (Syntax.tyArray ColumnMetadataRow.named 4096))) (List._∷_ (19, Rows'.any-gone (Syntax.tyStruct (List._∷_ 38 (List._∷_ 91 (List._∷_ 93 List.[]))) (Syntax.tcons (Syntax.tyRef Syntax.erased Syntax.imm ColumnMetadataRow.named) (Syntax.tcons (Syntax.tyInt Syntax.w64) Syntax.tnil)))) (List._∷_ (20, Rows'.any-gone (Syntax.tyRef Syntax.erased Syntax.mut (Syntax.tyInt Syntax.w8))) (List._∷_ (21, Rows'.any-gone (Syntax.tyStruct (List._∷_ 38 (List._∷_ 91 (List._∷_ 93 List.[]))) (Syntax.tcons (Syntax.tyRef Syntax.erased Syntax.mut (Syntax.tyInt Syntax.w8)) (Syntax.tcons (Syntax.tyInt Syntax.w64) Syntax.tnil)))) (List._∷_ (22, Rows'.any-gone (Syntax.tyRef Syntax.erased Syntax.mut (Syntax.tyInt Syntax.w8))) (List._∷_ (23, Rows'.any-gone (Syntax.tyStruct (List._∷_ 38 (List._∷_ 91 (List._∷_ 93 List.[]))) (Syntax.tcons (Syntax.tyRef Syntax.erased Syntax.mut (Syntax.tyInt Syntax.w8)) (Syntax.tcons (Syntax.tyInt Syntax.w64) Syntax.tnil)))) (List._∷_ (24, Rows'.any-gone (Syntax.tyRef Syntax.erased Syntax.mut (Syntax.tyInt Syntax.w8))) (List._∷_ (25, Rows'.any-gone (Syntax.tyStruct (List._∷_ 38 (List._∷_ 91 (List._∷_ 93 List.[]))) (Syntax.tcons (Syntax.tyRef Syntax.erased Syntax.mut (Syntax.tyInt Syntax.w8)) (Syntax.tcons (Syntax.tyInt Syntax.w64) Syntax.tnil)))) (List._∷_ (26, Rows'.any-gone (Syntax.tyRef Syntax.erased Syntax.imm (Syntax.tyArray ColumnMetadataRow.named 4096))) (List._∷_ (27, Rows'.any-gone (Syntax.tyStruct (List._∷_ 38 (List._∷_ 91 (List._∷_ 93 List.[]))) (Syntax.tcons (Syntax.tyRef Syntax.erased Syntax.imm ColumnMetadataRow.named) (Syntax.tcons (Syntax.tyInt Syntax.w64) Syntax.tnil)))) List.[])))))))))))
@@ -366,31 +366,31 @@ abbrev pub t18 : List.List Row.Entry
 t18 = List._∷_ (16, Rows'.any-gone (Syntax.tyRef Syntax.erased Syntax.mut (Syntax.tyInt Syntax.w8))) (List._∷_ (17, Mut.mslice (Referent.rtF (Referent.fInt Syntax.w8)) (Syntax.tyRef Syntax.erased Syntax.mut (Syntax.tyInt Syntax.w8)) 4) (List._∷_ (18, Rows'.any-gone (Syntax.tyRef Syntax.erased Syntax.imm (Syntax.tyArray ColumnMetadataRow.named 4096))) (List._∷_ (19, Rows'.any-gone (Syntax.tyStruct (List._∷_ 38 (List._∷_ 91 (List._∷_ 93 List.[]))) (Syntax.tcons (Syntax.tyRef Syntax.erased Syntax.imm ColumnMetadataRow.named) (Syntax.tcons (Syntax.tyInt Syntax.w64) Syntax.tnil)))) (List._∷_ (20, Rows'.any-gone (Syntax.tyRef Syntax.erased Syntax.mut (Syntax.tyInt Syntax.w8))) (List._∷_ (21, Rows'.any-gone (Syntax.tyStruct (List._∷_ 38 (List._∷_ 91 (List._∷_ 93 List.[]))) (Syntax.tcons (Syntax.tyRef Syntax.erased Syntax.mut (Syntax.tyInt Syntax.w8)) (Syntax.tcons (Syntax.tyInt Syntax.w64) Syntax.tnil)))) (List._∷_ (22, Rows'.any-gone (Syntax.tyRef Syntax.erased Syntax.mut (Syntax.tyInt Syntax.w8))) (List._∷_ (23, Rows'.any-gone (Syntax.tyStruct (List._∷_ 38 (List._∷_ 91 (List._∷_ 93 List.[]))) (Syntax.tcons (Syntax.tyRef Syntax.erased Syntax.mut (Syntax.tyInt Syntax.w8)) (Syntax.tcons (Syntax.tyInt Syntax.w64) Syntax.tnil)))) (List._∷_ (24, Rows'.any-gone (Syntax.tyRef Syntax.erased Syntax.mut (Syntax.tyInt Syntax.w8))) (List._∷_ (25, Rows'.any-gone (Syntax.tyStruct (List._∷_ 38 (List._∷_ 91 (List._∷_ 93 List.[]))) (Syntax.tcons (Syntax.tyRef Syntax.erased Syntax.mut (Syntax.tyInt Syntax.w8)) (Syntax.tcons (Syntax.tyInt Syntax.w64) Syntax.tnil)))) (List._∷_ (26, Rows'.any-gone (Syntax.tyRef Syntax.erased Syntax.imm (Syntax.tyArray ColumnMetadataRow.named 4096))) (List._∷_ (27, Rows'.any-gone (Syntax.tyStruct (List._∷_ 38 (List._∷_ 91 (List._∷_ 93 List.[]))) (Syntax.tcons (Syntax.tyRef Syntax.erased Syntax.imm ColumnMetadataRow.named) (Syntax.tcons (Syntax.tyInt Syntax.w64) Syntax.tnil)))) List.[])))))))))))
 
 abbrev pub t19 : List.List Row.Entry
-t19 = List._∷_ (0, Rows'.sc-here (Row.sInt Syntax.w64)) (List._∷_ (1, Relend.mslice-owed (Referent.rtF (Referent.fInt Syntax.w8)) (Syntax.tyRef (Syntax.named 0) Syntax.mut (Syntax.tyInt Syntax.w8)) 0 4 Row.off) (List._∷_ (2, Rows'.sc-here (Row.sInt Syntax.w64)) (List._∷_ (3, Rows'.sslice (Referent.rtF (Referent.fInt Syntax.w8)) (Syntax.tyRef (Syntax.named 1) Syntax.imm (Syntax.tyInt Syntax.w8)) 1) (List._∷_ (4, Mut.mslice (Referent.rtF (Referent.fInt Syntax.w8)) (Syntax.tyRef (Syntax.named 2) Syntax.mut (Syntax.tyInt Syntax.w8)) 2) (List._∷_ (5, Rows'.any-gone (ColumnMetadataRow.ty)) (List._∷_ (6, Rows'.any-gone (Syntax.tyArray (ColumnMetadataRow.ty) 4096)) (List._∷_ (7, Rows'.any-gone (Syntax.tyStruct (List._∷_ 115 (List._∷_ 113 (List._∷_ 108 (List._∷_ 100 (List._∷_ 97 (List._∷_ 114 (List._∷_ 100 (List._∷_ 58 (List._∷_ 58 (List._∷_ 83 (List._∷_ 113 (List._∷_ 108 (List._∷_ 100 (List._∷_ 97 (List._∷_ 114 (List._∷_ 100 (List._∷_ 65 (List._∷_ 110 (List._∷_ 115 (List._∷_ 119 (List._∷_ 101 (List._∷_ 114 List.[])))))))))))))))))))))) (Syntax.tcons (Syntax.tyEnum (List._∷_ 111 (List._∷_ 117 (List._∷_ 116 (List._∷_ 99 (List._∷_ 111 (List._∷_ 109 (List._∷_ 101 (List._∷_ 58 (List._∷_ 58 (List._∷_ 79 (List._∷_ 117 (List._∷_ 116 (List._∷_ 99 (List._∷_ 111 (List._∷_ 109 (List._∷_ 101 List.[])))))))))))))))) (Syntax.ttcons Syntax.tnil (Syntax.ttcons Syntax.tnil (Syntax.ttcons (Syntax.tcons (Syntax.tyInt Syntax.w64) (Syntax.tcons (Syntax.tyInt Syntax.w64) Syntax.tnil)) (Syntax.ttcons Syntax.tnil (Syntax.ttcons (Syntax.tcons (Syntax.tyInt Syntax.w16) Syntax.tnil) (Syntax.ttcons Syntax.tnil (Syntax.ttcons (Syntax.tcons (Syntax.tyInt Syntax.w64) Syntax.tnil) (Syntax.ttcons Syntax.tnil Syntax.ttnil))))))))) (Syntax.tcons (Syntax.tyStruct (List._∷_ 115 (List._∷_ 113 (List._∷_ 108 (List._∷_ 99 (List._∷_ 97 (List._∷_ 114 (List._∷_ 100 (List._∷_ 58 (List._∷_ 58 (List._∷_ 83 (List._∷_ 113 (List._∷_ 108 (List._∷_ 67 (List._∷_ 97 (List._∷_ 114 (List._∷_ 100 List.[])))))))))))))))) (Syntax.tcons Syntax.tyBool (Syntax.tcons (Syntax.tyInt Syntax.w32) (Syntax.tcons (Syntax.tyArray (Syntax.tyInt Syntax.w8) 5) (Syntax.tcons (Syntax.tyArray (Syntax.tyInt Syntax.w8) 8) (Syntax.tcons (Syntax.tyInt Syntax.w8) (Syntax.tcons (Syntax.tyArray (Syntax.tyInt Syntax.w32) 6) (Syntax.tcons (Syntax.tyInt Syntax.w64) (Syntax.tcons (Syntax.tyInt Syntax.w32) (Syntax.tcons (Syntax.tyArray (Syntax.tyInt Syntax.w8) 11) (Syntax.tcons (Syntax.tyInt Syntax.w64) (Syntax.tcons (Syntax.tyInt Syntax.w64) Syntax.tnil)))))))))))) (Syntax.tcons (Syntax.tyInt Syntax.w64) Syntax.tnil))))) (List._∷_ (8, Rows'.whole (Declared.row Outcome.the-type)) (List._∷_ (9, Rows'.any-gone (Syntax.tyInt Syntax.w64)) (List._∷_ (10, Rows'.any-gone (Syntax.tyStruct (List._∷_ 115 (List._∷_ 113 (List._∷_ 108 (List._∷_ 99 (List._∷_ 97 (List._∷_ 114 (List._∷_ 100 (List._∷_ 58 (List._∷_ 58 (List._∷_ 83 (List._∷_ 113 (List._∷_ 108 (List._∷_ 67 (List._∷_ 97 (List._∷_ 114 (List._∷_ 100 List.[])))))))))))))))) (Syntax.tcons Syntax.tyBool (Syntax.tcons (Syntax.tyInt Syntax.w32) (Syntax.tcons (Syntax.tyArray (Syntax.tyInt Syntax.w8) 5) (Syntax.tcons (Syntax.tyArray (Syntax.tyInt Syntax.w8) 8) (Syntax.tcons (Syntax.tyInt Syntax.w8) (Syntax.tcons (Syntax.tyArray (Syntax.tyInt Syntax.w32) 6) (Syntax.tcons (Syntax.tyInt Syntax.w64) (Syntax.tcons (Syntax.tyInt Syntax.w32) (Syntax.tcons (Syntax.tyArray (Syntax.tyInt Syntax.w8) 11) (Syntax.tcons (Syntax.tyInt Syntax.w64) (Syntax.tcons (Syntax.tyInt Syntax.w64) Syntax.tnil))))))))))))) (List._∷_ (11, Rows'.any-gone (Syntax.tyStruct (List._∷_ 116 (List._∷_ 97 (List._∷_ 98 (List._∷_ 108 (List._∷_ 101 (List._∷_ 95 (List._∷_ 111 (List._∷_ 117 (List._∷_ 116 (List._∷_ 112 (List._∷_ 117 (List._∷_ 116 (List._∷_ 58 (List._∷_ 58 (List._∷_ 114 (List._∷_ 111 (List._∷_ 119 (List._∷_ 115 (List._∷_ 58 (List._∷_ 58 (List._∷_ 87 (List._∷_ 105 (List._∷_ 100 (List._∷_ 116 (List._∷_ 104 (List._∷_ 115 List.[])))))))))))))))))))))))))) (Syntax.tcons (Syntax.tyInt Syntax.w64) (Syntax.tcons (Syntax.tyInt Syntax.w64) (Syntax.tcons (Syntax.tyInt Syntax.w64) (Syntax.tcons (Syntax.tyInt Syntax.w64) Syntax.tnil)))))) (List._∷_ (12, Rows'.any-gone (Syntax.tyInt Syntax.w64)) (List._∷_ (13, Rows'.any-gone (Syntax.tyRef Syntax.erased Syntax.mut (Syntax.tyArray ColumnMetadataRow.named 4096))) (List._∷_ (14, Rows'.any-gone (Syntax.tyStruct (List._∷_ 38 (List._∷_ 91 (List._∷_ 93 List.[]))) (Syntax.tcons (Syntax.tyRef Syntax.erased Syntax.mut ColumnMetadataRow.named) (Syntax.tcons (Syntax.tyInt Syntax.w64) Syntax.tnil)))) (List._∷_ (15, Rows'.any-gone Syntax.tyBool) List.[])))))))))))))))
+t19 = List._∷_ (0, Rows'.sc-here (Row.sInt Syntax.w64)) (List._∷_ (1, Relend.mslice-owed (Referent.rtF (Referent.fInt Syntax.w8)) (Syntax.tyRef (Syntax.named 0) Syntax.mut (Syntax.tyInt Syntax.w8)) 0 4 Row.off) (List._∷_ (2, Rows'.sc-here (Row.sInt Syntax.w64)) (List._∷_ (3, Rows'.sslice (Referent.rtF (Referent.fInt Syntax.w8)) (Syntax.tyRef (Syntax.named 1) Syntax.imm (Syntax.tyInt Syntax.w8)) 1) (List._∷_ (4, Mut.mslice (Referent.rtF (Referent.fInt Syntax.w8)) (Syntax.tyRef (Syntax.named 2) Syntax.mut (Syntax.tyInt Syntax.w8)) 2) (List._∷_ (5, Rows'.any-gone (ColumnMetadataRow.ty)) (List._∷_ (6, Rows'.any-gone (Syntax.tyArray (ColumnMetadataRow.ty) 4096)) (List._∷_ (7, Rows'.any-gone (Syntax.tyStruct (List._∷_ 115 (List._∷_ 113 (List._∷_ 108 (List._∷_ 100 (List._∷_ 97 (List._∷_ 114 (List._∷_ 100 (List._∷_ 58 (List._∷_ 58 (List._∷_ 83 (List._∷_ 113 (List._∷_ 108 (List._∷_ 100 (List._∷_ 97 (List._∷_ 114 (List._∷_ 100 (List._∷_ 65 (List._∷_ 110 (List._∷_ 115 (List._∷_ 119 (List._∷_ 101 (List._∷_ 114 List.[])))))))))))))))))))))) (Syntax.tcons (Syntax.tyEnum (List._∷_ 111 (List._∷_ 117 (List._∷_ 116 (List._∷_ 99 (List._∷_ 111 (List._∷_ 109 (List._∷_ 101 (List._∷_ 58 (List._∷_ 58 (List._∷_ 79 (List._∷_ 117 (List._∷_ 116 (List._∷_ 99 (List._∷_ 111 (List._∷_ 109 (List._∷_ 101 List.[])))))))))))))))) (Syntax.ttcons Syntax.tnil (Syntax.ttcons Syntax.tnil (Syntax.ttcons (Syntax.tcons (Syntax.tyInt Syntax.w64) (Syntax.tcons (Syntax.tyInt Syntax.w64) Syntax.tnil)) (Syntax.ttcons Syntax.tnil (Syntax.ttcons (Syntax.tcons (Syntax.tyInt Syntax.w16) Syntax.tnil) (Syntax.ttcons Syntax.tnil (Syntax.ttcons (Syntax.tcons (Syntax.tyInt Syntax.w64) Syntax.tnil) (Syntax.ttcons Syntax.tnil (Syntax.ttcons (Syntax.tcons (Syntax.tyInt Syntax.w16) Syntax.tnil) Syntax.ttnil)))))))))) (Syntax.tcons (Syntax.tyStruct (List._∷_ 115 (List._∷_ 113 (List._∷_ 108 (List._∷_ 99 (List._∷_ 97 (List._∷_ 114 (List._∷_ 100 (List._∷_ 58 (List._∷_ 58 (List._∷_ 83 (List._∷_ 113 (List._∷_ 108 (List._∷_ 67 (List._∷_ 97 (List._∷_ 114 (List._∷_ 100 List.[])))))))))))))))) (Syntax.tcons Syntax.tyBool (Syntax.tcons (Syntax.tyInt Syntax.w32) (Syntax.tcons (Syntax.tyArray (Syntax.tyInt Syntax.w8) 5) (Syntax.tcons (Syntax.tyArray (Syntax.tyInt Syntax.w8) 8) (Syntax.tcons (Syntax.tyInt Syntax.w8) (Syntax.tcons (Syntax.tyArray (Syntax.tyInt Syntax.w32) 6) (Syntax.tcons (Syntax.tyInt Syntax.w64) (Syntax.tcons (Syntax.tyInt Syntax.w32) (Syntax.tcons (Syntax.tyArray (Syntax.tyInt Syntax.w8) 11) (Syntax.tcons (Syntax.tyInt Syntax.w64) (Syntax.tcons (Syntax.tyInt Syntax.w64) Syntax.tnil)))))))))))) (Syntax.tcons (Syntax.tyInt Syntax.w64) Syntax.tnil))))) (List._∷_ (8, Rows'.whole (Declared.row Outcome.the-type)) (List._∷_ (9, Rows'.any-gone (Syntax.tyInt Syntax.w64)) (List._∷_ (10, Rows'.any-gone (Syntax.tyStruct (List._∷_ 115 (List._∷_ 113 (List._∷_ 108 (List._∷_ 99 (List._∷_ 97 (List._∷_ 114 (List._∷_ 100 (List._∷_ 58 (List._∷_ 58 (List._∷_ 83 (List._∷_ 113 (List._∷_ 108 (List._∷_ 67 (List._∷_ 97 (List._∷_ 114 (List._∷_ 100 List.[])))))))))))))))) (Syntax.tcons Syntax.tyBool (Syntax.tcons (Syntax.tyInt Syntax.w32) (Syntax.tcons (Syntax.tyArray (Syntax.tyInt Syntax.w8) 5) (Syntax.tcons (Syntax.tyArray (Syntax.tyInt Syntax.w8) 8) (Syntax.tcons (Syntax.tyInt Syntax.w8) (Syntax.tcons (Syntax.tyArray (Syntax.tyInt Syntax.w32) 6) (Syntax.tcons (Syntax.tyInt Syntax.w64) (Syntax.tcons (Syntax.tyInt Syntax.w32) (Syntax.tcons (Syntax.tyArray (Syntax.tyInt Syntax.w8) 11) (Syntax.tcons (Syntax.tyInt Syntax.w64) (Syntax.tcons (Syntax.tyInt Syntax.w64) Syntax.tnil))))))))))))) (List._∷_ (11, Rows'.any-gone (Syntax.tyStruct (List._∷_ 116 (List._∷_ 97 (List._∷_ 98 (List._∷_ 108 (List._∷_ 101 (List._∷_ 95 (List._∷_ 111 (List._∷_ 117 (List._∷_ 116 (List._∷_ 112 (List._∷_ 117 (List._∷_ 116 (List._∷_ 58 (List._∷_ 58 (List._∷_ 114 (List._∷_ 111 (List._∷_ 119 (List._∷_ 115 (List._∷_ 58 (List._∷_ 58 (List._∷_ 87 (List._∷_ 105 (List._∷_ 100 (List._∷_ 116 (List._∷_ 104 (List._∷_ 115 List.[])))))))))))))))))))))))))) (Syntax.tcons (Syntax.tyInt Syntax.w64) (Syntax.tcons (Syntax.tyInt Syntax.w64) (Syntax.tcons (Syntax.tyInt Syntax.w64) (Syntax.tcons (Syntax.tyInt Syntax.w64) Syntax.tnil)))))) (List._∷_ (12, Rows'.any-gone (Syntax.tyInt Syntax.w64)) (List._∷_ (13, Rows'.any-gone (Syntax.tyRef Syntax.erased Syntax.mut (Syntax.tyArray ColumnMetadataRow.named 4096))) (List._∷_ (14, Rows'.any-gone (Syntax.tyStruct (List._∷_ 38 (List._∷_ 91 (List._∷_ 93 List.[]))) (Syntax.tcons (Syntax.tyRef Syntax.erased Syntax.mut ColumnMetadataRow.named) (Syntax.tcons (Syntax.tyInt Syntax.w64) Syntax.tnil)))) (List._∷_ (15, Rows'.any-gone Syntax.tyBool) List.[])))))))))))))))
 
 abbrev pub t20 : List.List Row.Entry
 t20 = List._∷_ (16, Rows'.any-gone (Syntax.tyRef Syntax.erased Syntax.mut (Syntax.tyInt Syntax.w8))) (List._∷_ (17, Mut.msleft (Referent.rtF (Referent.fInt Syntax.w8)) (Syntax.tyRef Syntax.erased Syntax.mut (Syntax.tyInt Syntax.w8))) (List._∷_ (18, Rows'.any-gone (Syntax.tyRef Syntax.erased Syntax.imm (Syntax.tyArray ColumnMetadataRow.named 4096))) (List._∷_ (19, Rows'.any-gone (Syntax.tyStruct (List._∷_ 38 (List._∷_ 91 (List._∷_ 93 List.[]))) (Syntax.tcons (Syntax.tyRef Syntax.erased Syntax.imm ColumnMetadataRow.named) (Syntax.tcons (Syntax.tyInt Syntax.w64) Syntax.tnil)))) (List._∷_ (20, Rows'.any-gone (Syntax.tyRef Syntax.erased Syntax.mut (Syntax.tyInt Syntax.w8))) (List._∷_ (21, Rows'.any-gone (Syntax.tyStruct (List._∷_ 38 (List._∷_ 91 (List._∷_ 93 List.[]))) (Syntax.tcons (Syntax.tyRef Syntax.erased Syntax.mut (Syntax.tyInt Syntax.w8)) (Syntax.tcons (Syntax.tyInt Syntax.w64) Syntax.tnil)))) (List._∷_ (22, Rows'.any-gone (Syntax.tyRef Syntax.erased Syntax.mut (Syntax.tyInt Syntax.w8))) (List._∷_ (23, Rows'.any-gone (Syntax.tyStruct (List._∷_ 38 (List._∷_ 91 (List._∷_ 93 List.[]))) (Syntax.tcons (Syntax.tyRef Syntax.erased Syntax.mut (Syntax.tyInt Syntax.w8)) (Syntax.tcons (Syntax.tyInt Syntax.w64) Syntax.tnil)))) (List._∷_ (24, Rows'.any-gone (Syntax.tyRef Syntax.erased Syntax.mut (Syntax.tyInt Syntax.w8))) (List._∷_ (25, Rows'.any-gone (Syntax.tyStruct (List._∷_ 38 (List._∷_ 91 (List._∷_ 93 List.[]))) (Syntax.tcons (Syntax.tyRef Syntax.erased Syntax.mut (Syntax.tyInt Syntax.w8)) (Syntax.tcons (Syntax.tyInt Syntax.w64) Syntax.tnil)))) (List._∷_ (26, Rows'.any-gone (Syntax.tyRef Syntax.erased Syntax.imm (Syntax.tyArray ColumnMetadataRow.named 4096))) (List._∷_ (27, Rows'.any-gone (Syntax.tyStruct (List._∷_ 38 (List._∷_ 91 (List._∷_ 93 List.[]))) (Syntax.tcons (Syntax.tyRef Syntax.erased Syntax.imm ColumnMetadataRow.named) (Syntax.tcons (Syntax.tyInt Syntax.w64) Syntax.tnil)))) List.[])))))))))))
 
 abbrev pub t21 : List.List Row.Entry
-t21 = List._∷_ (0, Rows'.sc-here (Row.sInt Syntax.w64)) (List._∷_ (1, Relend.mslice-owed (Referent.rtF (Referent.fInt Syntax.w8)) (Syntax.tyRef (Syntax.named 0) Syntax.mut (Syntax.tyInt Syntax.w8)) 0 4 Row.off) (List._∷_ (2, Rows'.sc-here (Row.sInt Syntax.w64)) (List._∷_ (3, Rows'.sslice (Referent.rtF (Referent.fInt Syntax.w8)) (Syntax.tyRef (Syntax.named 1) Syntax.imm (Syntax.tyInt Syntax.w8)) 1) (List._∷_ (4, Mut.mslice (Referent.rtF (Referent.fInt Syntax.w8)) (Syntax.tyRef (Syntax.named 2) Syntax.mut (Syntax.tyInt Syntax.w8)) 2) (List._∷_ (5, Rows'.any-gone (ColumnMetadataRow.ty)) (List._∷_ (6, Rows'.any-gone (Syntax.tyArray (ColumnMetadataRow.ty) 4096)) (List._∷_ (7, Rows'.any-gone (Syntax.tyStruct (List._∷_ 115 (List._∷_ 113 (List._∷_ 108 (List._∷_ 100 (List._∷_ 97 (List._∷_ 114 (List._∷_ 100 (List._∷_ 58 (List._∷_ 58 (List._∷_ 83 (List._∷_ 113 (List._∷_ 108 (List._∷_ 100 (List._∷_ 97 (List._∷_ 114 (List._∷_ 100 (List._∷_ 65 (List._∷_ 110 (List._∷_ 115 (List._∷_ 119 (List._∷_ 101 (List._∷_ 114 List.[])))))))))))))))))))))) (Syntax.tcons (Syntax.tyEnum (List._∷_ 111 (List._∷_ 117 (List._∷_ 116 (List._∷_ 99 (List._∷_ 111 (List._∷_ 109 (List._∷_ 101 (List._∷_ 58 (List._∷_ 58 (List._∷_ 79 (List._∷_ 117 (List._∷_ 116 (List._∷_ 99 (List._∷_ 111 (List._∷_ 109 (List._∷_ 101 List.[])))))))))))))))) (Syntax.ttcons Syntax.tnil (Syntax.ttcons Syntax.tnil (Syntax.ttcons (Syntax.tcons (Syntax.tyInt Syntax.w64) (Syntax.tcons (Syntax.tyInt Syntax.w64) Syntax.tnil)) (Syntax.ttcons Syntax.tnil (Syntax.ttcons (Syntax.tcons (Syntax.tyInt Syntax.w16) Syntax.tnil) (Syntax.ttcons Syntax.tnil (Syntax.ttcons (Syntax.tcons (Syntax.tyInt Syntax.w64) Syntax.tnil) (Syntax.ttcons Syntax.tnil Syntax.ttnil))))))))) (Syntax.tcons (Syntax.tyStruct (List._∷_ 115 (List._∷_ 113 (List._∷_ 108 (List._∷_ 99 (List._∷_ 97 (List._∷_ 114 (List._∷_ 100 (List._∷_ 58 (List._∷_ 58 (List._∷_ 83 (List._∷_ 113 (List._∷_ 108 (List._∷_ 67 (List._∷_ 97 (List._∷_ 114 (List._∷_ 100 List.[])))))))))))))))) (Syntax.tcons Syntax.tyBool (Syntax.tcons (Syntax.tyInt Syntax.w32) (Syntax.tcons (Syntax.tyArray (Syntax.tyInt Syntax.w8) 5) (Syntax.tcons (Syntax.tyArray (Syntax.tyInt Syntax.w8) 8) (Syntax.tcons (Syntax.tyInt Syntax.w8) (Syntax.tcons (Syntax.tyArray (Syntax.tyInt Syntax.w32) 6) (Syntax.tcons (Syntax.tyInt Syntax.w64) (Syntax.tcons (Syntax.tyInt Syntax.w32) (Syntax.tcons (Syntax.tyArray (Syntax.tyInt Syntax.w8) 11) (Syntax.tcons (Syntax.tyInt Syntax.w64) (Syntax.tcons (Syntax.tyInt Syntax.w64) Syntax.tnil)))))))))))) (Syntax.tcons (Syntax.tyInt Syntax.w64) Syntax.tnil))))) (List._∷_ (8, Rows'.any-gone (Syntax.tyEnum (List._∷_ 111 (List._∷_ 117 (List._∷_ 116 (List._∷_ 99 (List._∷_ 111 (List._∷_ 109 (List._∷_ 101 (List._∷_ 58 (List._∷_ 58 (List._∷_ 79 (List._∷_ 117 (List._∷_ 116 (List._∷_ 99 (List._∷_ 111 (List._∷_ 109 (List._∷_ 101 List.[])))))))))))))))) (Syntax.ttcons Syntax.tnil (Syntax.ttcons Syntax.tnil (Syntax.ttcons (Syntax.tcons (Syntax.tyInt Syntax.w64) (Syntax.tcons (Syntax.tyInt Syntax.w64) Syntax.tnil)) (Syntax.ttcons Syntax.tnil (Syntax.ttcons (Syntax.tcons (Syntax.tyInt Syntax.w16) Syntax.tnil) (Syntax.ttcons Syntax.tnil (Syntax.ttcons (Syntax.tcons (Syntax.tyInt Syntax.w64) Syntax.tnil) (Syntax.ttcons Syntax.tnil Syntax.ttnil)))))))))) (List._∷_ (9, Rows'.any-gone (Syntax.tyInt Syntax.w64)) (List._∷_ (10, Rows'.any-gone (Syntax.tyStruct (List._∷_ 115 (List._∷_ 113 (List._∷_ 108 (List._∷_ 99 (List._∷_ 97 (List._∷_ 114 (List._∷_ 100 (List._∷_ 58 (List._∷_ 58 (List._∷_ 83 (List._∷_ 113 (List._∷_ 108 (List._∷_ 67 (List._∷_ 97 (List._∷_ 114 (List._∷_ 100 List.[])))))))))))))))) (Syntax.tcons Syntax.tyBool (Syntax.tcons (Syntax.tyInt Syntax.w32) (Syntax.tcons (Syntax.tyArray (Syntax.tyInt Syntax.w8) 5) (Syntax.tcons (Syntax.tyArray (Syntax.tyInt Syntax.w8) 8) (Syntax.tcons (Syntax.tyInt Syntax.w8) (Syntax.tcons (Syntax.tyArray (Syntax.tyInt Syntax.w32) 6) (Syntax.tcons (Syntax.tyInt Syntax.w64) (Syntax.tcons (Syntax.tyInt Syntax.w32) (Syntax.tcons (Syntax.tyArray (Syntax.tyInt Syntax.w8) 11) (Syntax.tcons (Syntax.tyInt Syntax.w64) (Syntax.tcons (Syntax.tyInt Syntax.w64) Syntax.tnil))))))))))))) (List._∷_ (11, Rows'.any-gone (Syntax.tyStruct (List._∷_ 116 (List._∷_ 97 (List._∷_ 98 (List._∷_ 108 (List._∷_ 101 (List._∷_ 95 (List._∷_ 111 (List._∷_ 117 (List._∷_ 116 (List._∷_ 112 (List._∷_ 117 (List._∷_ 116 (List._∷_ 58 (List._∷_ 58 (List._∷_ 114 (List._∷_ 111 (List._∷_ 119 (List._∷_ 115 (List._∷_ 58 (List._∷_ 58 (List._∷_ 87 (List._∷_ 105 (List._∷_ 100 (List._∷_ 116 (List._∷_ 104 (List._∷_ 115 List.[])))))))))))))))))))))))))) (Syntax.tcons (Syntax.tyInt Syntax.w64) (Syntax.tcons (Syntax.tyInt Syntax.w64) (Syntax.tcons (Syntax.tyInt Syntax.w64) (Syntax.tcons (Syntax.tyInt Syntax.w64) Syntax.tnil)))))) (List._∷_ (12, Rows'.any-gone (Syntax.tyInt Syntax.w64)) (List._∷_ (13, Rows'.any-gone (Syntax.tyRef Syntax.erased Syntax.mut (Syntax.tyArray ColumnMetadataRow.named 4096))) (List._∷_ (14, Rows'.any-gone (Syntax.tyStruct (List._∷_ 38 (List._∷_ 91 (List._∷_ 93 List.[]))) (Syntax.tcons (Syntax.tyRef Syntax.erased Syntax.mut ColumnMetadataRow.named) (Syntax.tcons (Syntax.tyInt Syntax.w64) Syntax.tnil)))) (List._∷_ (15, Rows'.any-gone Syntax.tyBool) List.[])))))))))))))))
+t21 = List._∷_ (0, Rows'.sc-here (Row.sInt Syntax.w64)) (List._∷_ (1, Relend.mslice-owed (Referent.rtF (Referent.fInt Syntax.w8)) (Syntax.tyRef (Syntax.named 0) Syntax.mut (Syntax.tyInt Syntax.w8)) 0 4 Row.off) (List._∷_ (2, Rows'.sc-here (Row.sInt Syntax.w64)) (List._∷_ (3, Rows'.sslice (Referent.rtF (Referent.fInt Syntax.w8)) (Syntax.tyRef (Syntax.named 1) Syntax.imm (Syntax.tyInt Syntax.w8)) 1) (List._∷_ (4, Mut.mslice (Referent.rtF (Referent.fInt Syntax.w8)) (Syntax.tyRef (Syntax.named 2) Syntax.mut (Syntax.tyInt Syntax.w8)) 2) (List._∷_ (5, Rows'.any-gone (ColumnMetadataRow.ty)) (List._∷_ (6, Rows'.any-gone (Syntax.tyArray (ColumnMetadataRow.ty) 4096)) (List._∷_ (7, Rows'.any-gone (Syntax.tyStruct (List._∷_ 115 (List._∷_ 113 (List._∷_ 108 (List._∷_ 100 (List._∷_ 97 (List._∷_ 114 (List._∷_ 100 (List._∷_ 58 (List._∷_ 58 (List._∷_ 83 (List._∷_ 113 (List._∷_ 108 (List._∷_ 100 (List._∷_ 97 (List._∷_ 114 (List._∷_ 100 (List._∷_ 65 (List._∷_ 110 (List._∷_ 115 (List._∷_ 119 (List._∷_ 101 (List._∷_ 114 List.[])))))))))))))))))))))) (Syntax.tcons (Syntax.tyEnum (List._∷_ 111 (List._∷_ 117 (List._∷_ 116 (List._∷_ 99 (List._∷_ 111 (List._∷_ 109 (List._∷_ 101 (List._∷_ 58 (List._∷_ 58 (List._∷_ 79 (List._∷_ 117 (List._∷_ 116 (List._∷_ 99 (List._∷_ 111 (List._∷_ 109 (List._∷_ 101 List.[])))))))))))))))) (Syntax.ttcons Syntax.tnil (Syntax.ttcons Syntax.tnil (Syntax.ttcons (Syntax.tcons (Syntax.tyInt Syntax.w64) (Syntax.tcons (Syntax.tyInt Syntax.w64) Syntax.tnil)) (Syntax.ttcons Syntax.tnil (Syntax.ttcons (Syntax.tcons (Syntax.tyInt Syntax.w16) Syntax.tnil) (Syntax.ttcons Syntax.tnil (Syntax.ttcons (Syntax.tcons (Syntax.tyInt Syntax.w64) Syntax.tnil) (Syntax.ttcons Syntax.tnil (Syntax.ttcons (Syntax.tcons (Syntax.tyInt Syntax.w16) Syntax.tnil) Syntax.ttnil)))))))))) (Syntax.tcons (Syntax.tyStruct (List._∷_ 115 (List._∷_ 113 (List._∷_ 108 (List._∷_ 99 (List._∷_ 97 (List._∷_ 114 (List._∷_ 100 (List._∷_ 58 (List._∷_ 58 (List._∷_ 83 (List._∷_ 113 (List._∷_ 108 (List._∷_ 67 (List._∷_ 97 (List._∷_ 114 (List._∷_ 100 List.[])))))))))))))))) (Syntax.tcons Syntax.tyBool (Syntax.tcons (Syntax.tyInt Syntax.w32) (Syntax.tcons (Syntax.tyArray (Syntax.tyInt Syntax.w8) 5) (Syntax.tcons (Syntax.tyArray (Syntax.tyInt Syntax.w8) 8) (Syntax.tcons (Syntax.tyInt Syntax.w8) (Syntax.tcons (Syntax.tyArray (Syntax.tyInt Syntax.w32) 6) (Syntax.tcons (Syntax.tyInt Syntax.w64) (Syntax.tcons (Syntax.tyInt Syntax.w32) (Syntax.tcons (Syntax.tyArray (Syntax.tyInt Syntax.w8) 11) (Syntax.tcons (Syntax.tyInt Syntax.w64) (Syntax.tcons (Syntax.tyInt Syntax.w64) Syntax.tnil)))))))))))) (Syntax.tcons (Syntax.tyInt Syntax.w64) Syntax.tnil))))) (List._∷_ (8, Rows'.any-gone (Syntax.tyEnum (List._∷_ 111 (List._∷_ 117 (List._∷_ 116 (List._∷_ 99 (List._∷_ 111 (List._∷_ 109 (List._∷_ 101 (List._∷_ 58 (List._∷_ 58 (List._∷_ 79 (List._∷_ 117 (List._∷_ 116 (List._∷_ 99 (List._∷_ 111 (List._∷_ 109 (List._∷_ 101 List.[])))))))))))))))) (Syntax.ttcons Syntax.tnil (Syntax.ttcons Syntax.tnil (Syntax.ttcons (Syntax.tcons (Syntax.tyInt Syntax.w64) (Syntax.tcons (Syntax.tyInt Syntax.w64) Syntax.tnil)) (Syntax.ttcons Syntax.tnil (Syntax.ttcons (Syntax.tcons (Syntax.tyInt Syntax.w16) Syntax.tnil) (Syntax.ttcons Syntax.tnil (Syntax.ttcons (Syntax.tcons (Syntax.tyInt Syntax.w64) Syntax.tnil) (Syntax.ttcons Syntax.tnil (Syntax.ttcons (Syntax.tcons (Syntax.tyInt Syntax.w16) Syntax.tnil) Syntax.ttnil))))))))))) (List._∷_ (9, Rows'.any-gone (Syntax.tyInt Syntax.w64)) (List._∷_ (10, Rows'.any-gone (Syntax.tyStruct (List._∷_ 115 (List._∷_ 113 (List._∷_ 108 (List._∷_ 99 (List._∷_ 97 (List._∷_ 114 (List._∷_ 100 (List._∷_ 58 (List._∷_ 58 (List._∷_ 83 (List._∷_ 113 (List._∷_ 108 (List._∷_ 67 (List._∷_ 97 (List._∷_ 114 (List._∷_ 100 List.[])))))))))))))))) (Syntax.tcons Syntax.tyBool (Syntax.tcons (Syntax.tyInt Syntax.w32) (Syntax.tcons (Syntax.tyArray (Syntax.tyInt Syntax.w8) 5) (Syntax.tcons (Syntax.tyArray (Syntax.tyInt Syntax.w8) 8) (Syntax.tcons (Syntax.tyInt Syntax.w8) (Syntax.tcons (Syntax.tyArray (Syntax.tyInt Syntax.w32) 6) (Syntax.tcons (Syntax.tyInt Syntax.w64) (Syntax.tcons (Syntax.tyInt Syntax.w32) (Syntax.tcons (Syntax.tyArray (Syntax.tyInt Syntax.w8) 11) (Syntax.tcons (Syntax.tyInt Syntax.w64) (Syntax.tcons (Syntax.tyInt Syntax.w64) Syntax.tnil))))))))))))) (List._∷_ (11, Rows'.any-gone (Syntax.tyStruct (List._∷_ 116 (List._∷_ 97 (List._∷_ 98 (List._∷_ 108 (List._∷_ 101 (List._∷_ 95 (List._∷_ 111 (List._∷_ 117 (List._∷_ 116 (List._∷_ 112 (List._∷_ 117 (List._∷_ 116 (List._∷_ 58 (List._∷_ 58 (List._∷_ 114 (List._∷_ 111 (List._∷_ 119 (List._∷_ 115 (List._∷_ 58 (List._∷_ 58 (List._∷_ 87 (List._∷_ 105 (List._∷_ 100 (List._∷_ 116 (List._∷_ 104 (List._∷_ 115 List.[])))))))))))))))))))))))))) (Syntax.tcons (Syntax.tyInt Syntax.w64) (Syntax.tcons (Syntax.tyInt Syntax.w64) (Syntax.tcons (Syntax.tyInt Syntax.w64) (Syntax.tcons (Syntax.tyInt Syntax.w64) Syntax.tnil)))))) (List._∷_ (12, Rows'.any-gone (Syntax.tyInt Syntax.w64)) (List._∷_ (13, Rows'.any-gone (Syntax.tyRef Syntax.erased Syntax.mut (Syntax.tyArray ColumnMetadataRow.named 4096))) (List._∷_ (14, Rows'.any-gone (Syntax.tyStruct (List._∷_ 38 (List._∷_ 91 (List._∷_ 93 List.[]))) (Syntax.tcons (Syntax.tyRef Syntax.erased Syntax.mut ColumnMetadataRow.named) (Syntax.tcons (Syntax.tyInt Syntax.w64) Syntax.tnil)))) (List._∷_ (15, Rows'.any-gone Syntax.tyBool) List.[])))))))))))))))
 
 abbrev pub t22 : List.List Row.Entry
-t22 = List._∷_ (0, Rows'.sc-here (Row.sInt Syntax.w64)) (List._∷_ (1, Mut.mslice (Referent.rtF (Referent.fInt Syntax.w8)) (Syntax.tyRef (Syntax.named 0) Syntax.mut (Syntax.tyInt Syntax.w8)) 0) (List._∷_ (2, Rows'.sc-here (Row.sInt Syntax.w64)) (List._∷_ (3, Rows'.sslice (Referent.rtF (Referent.fInt Syntax.w8)) (Syntax.tyRef (Syntax.named 1) Syntax.imm (Syntax.tyInt Syntax.w8)) 1) (List._∷_ (4, Mut.mslice (Referent.rtF (Referent.fInt Syntax.w8)) (Syntax.tyRef (Syntax.named 2) Syntax.mut (Syntax.tyInt Syntax.w8)) 2) (List._∷_ (5, Rows'.any-gone (ColumnMetadataRow.ty)) (List._∷_ (6, Rows'.any-gone (Syntax.tyArray (ColumnMetadataRow.ty) 4096)) (List._∷_ (7, Rows'.any-gone (Syntax.tyStruct (List._∷_ 115 (List._∷_ 113 (List._∷_ 108 (List._∷_ 100 (List._∷_ 97 (List._∷_ 114 (List._∷_ 100 (List._∷_ 58 (List._∷_ 58 (List._∷_ 83 (List._∷_ 113 (List._∷_ 108 (List._∷_ 100 (List._∷_ 97 (List._∷_ 114 (List._∷_ 100 (List._∷_ 65 (List._∷_ 110 (List._∷_ 115 (List._∷_ 119 (List._∷_ 101 (List._∷_ 114 List.[])))))))))))))))))))))) (Syntax.tcons (Syntax.tyEnum (List._∷_ 111 (List._∷_ 117 (List._∷_ 116 (List._∷_ 99 (List._∷_ 111 (List._∷_ 109 (List._∷_ 101 (List._∷_ 58 (List._∷_ 58 (List._∷_ 79 (List._∷_ 117 (List._∷_ 116 (List._∷_ 99 (List._∷_ 111 (List._∷_ 109 (List._∷_ 101 List.[])))))))))))))))) (Syntax.ttcons Syntax.tnil (Syntax.ttcons Syntax.tnil (Syntax.ttcons (Syntax.tcons (Syntax.tyInt Syntax.w64) (Syntax.tcons (Syntax.tyInt Syntax.w64) Syntax.tnil)) (Syntax.ttcons Syntax.tnil (Syntax.ttcons (Syntax.tcons (Syntax.tyInt Syntax.w16) Syntax.tnil) (Syntax.ttcons Syntax.tnil (Syntax.ttcons (Syntax.tcons (Syntax.tyInt Syntax.w64) Syntax.tnil) (Syntax.ttcons Syntax.tnil Syntax.ttnil))))))))) (Syntax.tcons (Syntax.tyStruct (List._∷_ 115 (List._∷_ 113 (List._∷_ 108 (List._∷_ 99 (List._∷_ 97 (List._∷_ 114 (List._∷_ 100 (List._∷_ 58 (List._∷_ 58 (List._∷_ 83 (List._∷_ 113 (List._∷_ 108 (List._∷_ 67 (List._∷_ 97 (List._∷_ 114 (List._∷_ 100 List.[])))))))))))))))) (Syntax.tcons Syntax.tyBool (Syntax.tcons (Syntax.tyInt Syntax.w32) (Syntax.tcons (Syntax.tyArray (Syntax.tyInt Syntax.w8) 5) (Syntax.tcons (Syntax.tyArray (Syntax.tyInt Syntax.w8) 8) (Syntax.tcons (Syntax.tyInt Syntax.w8) (Syntax.tcons (Syntax.tyArray (Syntax.tyInt Syntax.w32) 6) (Syntax.tcons (Syntax.tyInt Syntax.w64) (Syntax.tcons (Syntax.tyInt Syntax.w32) (Syntax.tcons (Syntax.tyArray (Syntax.tyInt Syntax.w8) 11) (Syntax.tcons (Syntax.tyInt Syntax.w64) (Syntax.tcons (Syntax.tyInt Syntax.w64) Syntax.tnil)))))))))))) (Syntax.tcons (Syntax.tyInt Syntax.w64) Syntax.tnil))))) (List._∷_ (8, Rows'.any-gone (Syntax.tyEnum (List._∷_ 111 (List._∷_ 117 (List._∷_ 116 (List._∷_ 99 (List._∷_ 111 (List._∷_ 109 (List._∷_ 101 (List._∷_ 58 (List._∷_ 58 (List._∷_ 79 (List._∷_ 117 (List._∷_ 116 (List._∷_ 99 (List._∷_ 111 (List._∷_ 109 (List._∷_ 101 List.[])))))))))))))))) (Syntax.ttcons Syntax.tnil (Syntax.ttcons Syntax.tnil (Syntax.ttcons (Syntax.tcons (Syntax.tyInt Syntax.w64) (Syntax.tcons (Syntax.tyInt Syntax.w64) Syntax.tnil)) (Syntax.ttcons Syntax.tnil (Syntax.ttcons (Syntax.tcons (Syntax.tyInt Syntax.w16) Syntax.tnil) (Syntax.ttcons Syntax.tnil (Syntax.ttcons (Syntax.tcons (Syntax.tyInt Syntax.w64) Syntax.tnil) (Syntax.ttcons Syntax.tnil Syntax.ttnil)))))))))) (List._∷_ (9, Rows'.any-gone (Syntax.tyInt Syntax.w64)) (List._∷_ (10, Rows'.any-gone (Syntax.tyStruct (List._∷_ 115 (List._∷_ 113 (List._∷_ 108 (List._∷_ 99 (List._∷_ 97 (List._∷_ 114 (List._∷_ 100 (List._∷_ 58 (List._∷_ 58 (List._∷_ 83 (List._∷_ 113 (List._∷_ 108 (List._∷_ 67 (List._∷_ 97 (List._∷_ 114 (List._∷_ 100 List.[])))))))))))))))) (Syntax.tcons Syntax.tyBool (Syntax.tcons (Syntax.tyInt Syntax.w32) (Syntax.tcons (Syntax.tyArray (Syntax.tyInt Syntax.w8) 5) (Syntax.tcons (Syntax.tyArray (Syntax.tyInt Syntax.w8) 8) (Syntax.tcons (Syntax.tyInt Syntax.w8) (Syntax.tcons (Syntax.tyArray (Syntax.tyInt Syntax.w32) 6) (Syntax.tcons (Syntax.tyInt Syntax.w64) (Syntax.tcons (Syntax.tyInt Syntax.w32) (Syntax.tcons (Syntax.tyArray (Syntax.tyInt Syntax.w8) 11) (Syntax.tcons (Syntax.tyInt Syntax.w64) (Syntax.tcons (Syntax.tyInt Syntax.w64) Syntax.tnil))))))))))))) (List._∷_ (11, Rows'.any-gone (Syntax.tyStruct (List._∷_ 116 (List._∷_ 97 (List._∷_ 98 (List._∷_ 108 (List._∷_ 101 (List._∷_ 95 (List._∷_ 111 (List._∷_ 117 (List._∷_ 116 (List._∷_ 112 (List._∷_ 117 (List._∷_ 116 (List._∷_ 58 (List._∷_ 58 (List._∷_ 114 (List._∷_ 111 (List._∷_ 119 (List._∷_ 115 (List._∷_ 58 (List._∷_ 58 (List._∷_ 87 (List._∷_ 105 (List._∷_ 100 (List._∷_ 116 (List._∷_ 104 (List._∷_ 115 List.[])))))))))))))))))))))))))) (Syntax.tcons (Syntax.tyInt Syntax.w64) (Syntax.tcons (Syntax.tyInt Syntax.w64) (Syntax.tcons (Syntax.tyInt Syntax.w64) (Syntax.tcons (Syntax.tyInt Syntax.w64) Syntax.tnil)))))) (List._∷_ (12, Rows'.any-gone (Syntax.tyInt Syntax.w64)) (List._∷_ (13, Rows'.any-gone (Syntax.tyRef Syntax.erased Syntax.mut (Syntax.tyArray ColumnMetadataRow.named 4096))) (List._∷_ (14, Rows'.any-gone (Syntax.tyStruct (List._∷_ 38 (List._∷_ 91 (List._∷_ 93 List.[]))) (Syntax.tcons (Syntax.tyRef Syntax.erased Syntax.mut ColumnMetadataRow.named) (Syntax.tcons (Syntax.tyInt Syntax.w64) Syntax.tnil)))) (List._∷_ (15, Rows'.any-gone Syntax.tyBool) List.[])))))))))))))))
+t22 = List._∷_ (0, Rows'.sc-here (Row.sInt Syntax.w64)) (List._∷_ (1, Mut.mslice (Referent.rtF (Referent.fInt Syntax.w8)) (Syntax.tyRef (Syntax.named 0) Syntax.mut (Syntax.tyInt Syntax.w8)) 0) (List._∷_ (2, Rows'.sc-here (Row.sInt Syntax.w64)) (List._∷_ (3, Rows'.sslice (Referent.rtF (Referent.fInt Syntax.w8)) (Syntax.tyRef (Syntax.named 1) Syntax.imm (Syntax.tyInt Syntax.w8)) 1) (List._∷_ (4, Mut.mslice (Referent.rtF (Referent.fInt Syntax.w8)) (Syntax.tyRef (Syntax.named 2) Syntax.mut (Syntax.tyInt Syntax.w8)) 2) (List._∷_ (5, Rows'.any-gone (ColumnMetadataRow.ty)) (List._∷_ (6, Rows'.any-gone (Syntax.tyArray (ColumnMetadataRow.ty) 4096)) (List._∷_ (7, Rows'.any-gone (Syntax.tyStruct (List._∷_ 115 (List._∷_ 113 (List._∷_ 108 (List._∷_ 100 (List._∷_ 97 (List._∷_ 114 (List._∷_ 100 (List._∷_ 58 (List._∷_ 58 (List._∷_ 83 (List._∷_ 113 (List._∷_ 108 (List._∷_ 100 (List._∷_ 97 (List._∷_ 114 (List._∷_ 100 (List._∷_ 65 (List._∷_ 110 (List._∷_ 115 (List._∷_ 119 (List._∷_ 101 (List._∷_ 114 List.[])))))))))))))))))))))) (Syntax.tcons (Syntax.tyEnum (List._∷_ 111 (List._∷_ 117 (List._∷_ 116 (List._∷_ 99 (List._∷_ 111 (List._∷_ 109 (List._∷_ 101 (List._∷_ 58 (List._∷_ 58 (List._∷_ 79 (List._∷_ 117 (List._∷_ 116 (List._∷_ 99 (List._∷_ 111 (List._∷_ 109 (List._∷_ 101 List.[])))))))))))))))) (Syntax.ttcons Syntax.tnil (Syntax.ttcons Syntax.tnil (Syntax.ttcons (Syntax.tcons (Syntax.tyInt Syntax.w64) (Syntax.tcons (Syntax.tyInt Syntax.w64) Syntax.tnil)) (Syntax.ttcons Syntax.tnil (Syntax.ttcons (Syntax.tcons (Syntax.tyInt Syntax.w16) Syntax.tnil) (Syntax.ttcons Syntax.tnil (Syntax.ttcons (Syntax.tcons (Syntax.tyInt Syntax.w64) Syntax.tnil) (Syntax.ttcons Syntax.tnil (Syntax.ttcons (Syntax.tcons (Syntax.tyInt Syntax.w16) Syntax.tnil) Syntax.ttnil)))))))))) (Syntax.tcons (Syntax.tyStruct (List._∷_ 115 (List._∷_ 113 (List._∷_ 108 (List._∷_ 99 (List._∷_ 97 (List._∷_ 114 (List._∷_ 100 (List._∷_ 58 (List._∷_ 58 (List._∷_ 83 (List._∷_ 113 (List._∷_ 108 (List._∷_ 67 (List._∷_ 97 (List._∷_ 114 (List._∷_ 100 List.[])))))))))))))))) (Syntax.tcons Syntax.tyBool (Syntax.tcons (Syntax.tyInt Syntax.w32) (Syntax.tcons (Syntax.tyArray (Syntax.tyInt Syntax.w8) 5) (Syntax.tcons (Syntax.tyArray (Syntax.tyInt Syntax.w8) 8) (Syntax.tcons (Syntax.tyInt Syntax.w8) (Syntax.tcons (Syntax.tyArray (Syntax.tyInt Syntax.w32) 6) (Syntax.tcons (Syntax.tyInt Syntax.w64) (Syntax.tcons (Syntax.tyInt Syntax.w32) (Syntax.tcons (Syntax.tyArray (Syntax.tyInt Syntax.w8) 11) (Syntax.tcons (Syntax.tyInt Syntax.w64) (Syntax.tcons (Syntax.tyInt Syntax.w64) Syntax.tnil)))))))))))) (Syntax.tcons (Syntax.tyInt Syntax.w64) Syntax.tnil))))) (List._∷_ (8, Rows'.any-gone (Syntax.tyEnum (List._∷_ 111 (List._∷_ 117 (List._∷_ 116 (List._∷_ 99 (List._∷_ 111 (List._∷_ 109 (List._∷_ 101 (List._∷_ 58 (List._∷_ 58 (List._∷_ 79 (List._∷_ 117 (List._∷_ 116 (List._∷_ 99 (List._∷_ 111 (List._∷_ 109 (List._∷_ 101 List.[])))))))))))))))) (Syntax.ttcons Syntax.tnil (Syntax.ttcons Syntax.tnil (Syntax.ttcons (Syntax.tcons (Syntax.tyInt Syntax.w64) (Syntax.tcons (Syntax.tyInt Syntax.w64) Syntax.tnil)) (Syntax.ttcons Syntax.tnil (Syntax.ttcons (Syntax.tcons (Syntax.tyInt Syntax.w16) Syntax.tnil) (Syntax.ttcons Syntax.tnil (Syntax.ttcons (Syntax.tcons (Syntax.tyInt Syntax.w64) Syntax.tnil) (Syntax.ttcons Syntax.tnil (Syntax.ttcons (Syntax.tcons (Syntax.tyInt Syntax.w16) Syntax.tnil) Syntax.ttnil))))))))))) (List._∷_ (9, Rows'.any-gone (Syntax.tyInt Syntax.w64)) (List._∷_ (10, Rows'.any-gone (Syntax.tyStruct (List._∷_ 115 (List._∷_ 113 (List._∷_ 108 (List._∷_ 99 (List._∷_ 97 (List._∷_ 114 (List._∷_ 100 (List._∷_ 58 (List._∷_ 58 (List._∷_ 83 (List._∷_ 113 (List._∷_ 108 (List._∷_ 67 (List._∷_ 97 (List._∷_ 114 (List._∷_ 100 List.[])))))))))))))))) (Syntax.tcons Syntax.tyBool (Syntax.tcons (Syntax.tyInt Syntax.w32) (Syntax.tcons (Syntax.tyArray (Syntax.tyInt Syntax.w8) 5) (Syntax.tcons (Syntax.tyArray (Syntax.tyInt Syntax.w8) 8) (Syntax.tcons (Syntax.tyInt Syntax.w8) (Syntax.tcons (Syntax.tyArray (Syntax.tyInt Syntax.w32) 6) (Syntax.tcons (Syntax.tyInt Syntax.w64) (Syntax.tcons (Syntax.tyInt Syntax.w32) (Syntax.tcons (Syntax.tyArray (Syntax.tyInt Syntax.w8) 11) (Syntax.tcons (Syntax.tyInt Syntax.w64) (Syntax.tcons (Syntax.tyInt Syntax.w64) Syntax.tnil))))))))))))) (List._∷_ (11, Rows'.any-gone (Syntax.tyStruct (List._∷_ 116 (List._∷_ 97 (List._∷_ 98 (List._∷_ 108 (List._∷_ 101 (List._∷_ 95 (List._∷_ 111 (List._∷_ 117 (List._∷_ 116 (List._∷_ 112 (List._∷_ 117 (List._∷_ 116 (List._∷_ 58 (List._∷_ 58 (List._∷_ 114 (List._∷_ 111 (List._∷_ 119 (List._∷_ 115 (List._∷_ 58 (List._∷_ 58 (List._∷_ 87 (List._∷_ 105 (List._∷_ 100 (List._∷_ 116 (List._∷_ 104 (List._∷_ 115 List.[])))))))))))))))))))))))))) (Syntax.tcons (Syntax.tyInt Syntax.w64) (Syntax.tcons (Syntax.tyInt Syntax.w64) (Syntax.tcons (Syntax.tyInt Syntax.w64) (Syntax.tcons (Syntax.tyInt Syntax.w64) Syntax.tnil)))))) (List._∷_ (12, Rows'.any-gone (Syntax.tyInt Syntax.w64)) (List._∷_ (13, Rows'.any-gone (Syntax.tyRef Syntax.erased Syntax.mut (Syntax.tyArray ColumnMetadataRow.named 4096))) (List._∷_ (14, Rows'.any-gone (Syntax.tyStruct (List._∷_ 38 (List._∷_ 91 (List._∷_ 93 List.[]))) (Syntax.tcons (Syntax.tyRef Syntax.erased Syntax.mut ColumnMetadataRow.named) (Syntax.tcons (Syntax.tyInt Syntax.w64) Syntax.tnil)))) (List._∷_ (15, Rows'.any-gone Syntax.tyBool) List.[])))))))))))))))
 
 abbrev pub t23 : List.List Row.Entry
-t23 = List._∷_ (0, Rows'.any-gone (Syntax.tyInt Syntax.w64)) (List._∷_ (1, Mut.mslice (Referent.rtF (Referent.fInt Syntax.w8)) (Syntax.tyRef (Syntax.named 0) Syntax.mut (Syntax.tyInt Syntax.w8)) 0) (List._∷_ (2, Rows'.sc-here (Row.sInt Syntax.w64)) (List._∷_ (3, Rows'.sslice (Referent.rtF (Referent.fInt Syntax.w8)) (Syntax.tyRef (Syntax.named 1) Syntax.imm (Syntax.tyInt Syntax.w8)) 1) (List._∷_ (4, Mut.mslice (Referent.rtF (Referent.fInt Syntax.w8)) (Syntax.tyRef (Syntax.named 2) Syntax.mut (Syntax.tyInt Syntax.w8)) 2) (List._∷_ (5, Rows'.any-gone (ColumnMetadataRow.ty)) (List._∷_ (6, Rows.arrF (ColumnMetadataRow.RT) 4096 0) (List._∷_ (7, Rows'.whole (Declared'.row SqldardAnswer.the-type)) (List._∷_ (8, Rows'.any-gone (Syntax.tyEnum (List._∷_ 111 (List._∷_ 117 (List._∷_ 116 (List._∷_ 99 (List._∷_ 111 (List._∷_ 109 (List._∷_ 101 (List._∷_ 58 (List._∷_ 58 (List._∷_ 79 (List._∷_ 117 (List._∷_ 116 (List._∷_ 99 (List._∷_ 111 (List._∷_ 109 (List._∷_ 101 List.[])))))))))))))))) (Syntax.ttcons Syntax.tnil (Syntax.ttcons Syntax.tnil (Syntax.ttcons (Syntax.tcons (Syntax.tyInt Syntax.w64) (Syntax.tcons (Syntax.tyInt Syntax.w64) Syntax.tnil)) (Syntax.ttcons Syntax.tnil (Syntax.ttcons (Syntax.tcons (Syntax.tyInt Syntax.w16) Syntax.tnil) (Syntax.ttcons Syntax.tnil (Syntax.ttcons (Syntax.tcons (Syntax.tyInt Syntax.w64) Syntax.tnil) (Syntax.ttcons Syntax.tnil Syntax.ttnil)))))))))) (List._∷_ (9, Rows'.any-gone (Syntax.tyInt Syntax.w64)) (List._∷_ (10, Rows'.any-gone (Syntax.tyStruct (List._∷_ 115 (List._∷_ 113 (List._∷_ 108 (List._∷_ 99 (List._∷_ 97 (List._∷_ 114 (List._∷_ 100 (List._∷_ 58 (List._∷_ 58 (List._∷_ 83 (List._∷_ 113 (List._∷_ 108 (List._∷_ 67 (List._∷_ 97 (List._∷_ 114 (List._∷_ 100 List.[])))))))))))))))) (Syntax.tcons Syntax.tyBool (Syntax.tcons (Syntax.tyInt Syntax.w32) (Syntax.tcons (Syntax.tyArray (Syntax.tyInt Syntax.w8) 5) (Syntax.tcons (Syntax.tyArray (Syntax.tyInt Syntax.w8) 8) (Syntax.tcons (Syntax.tyInt Syntax.w8) (Syntax.tcons (Syntax.tyArray (Syntax.tyInt Syntax.w32) 6) (Syntax.tcons (Syntax.tyInt Syntax.w64) (Syntax.tcons (Syntax.tyInt Syntax.w32) (Syntax.tcons (Syntax.tyArray (Syntax.tyInt Syntax.w8) 11) (Syntax.tcons (Syntax.tyInt Syntax.w64) (Syntax.tcons (Syntax.tyInt Syntax.w64) Syntax.tnil))))))))))))) (List._∷_ (11, Rows'.any-gone (Syntax.tyStruct (List._∷_ 116 (List._∷_ 97 (List._∷_ 98 (List._∷_ 108 (List._∷_ 101 (List._∷_ 95 (List._∷_ 111 (List._∷_ 117 (List._∷_ 116 (List._∷_ 112 (List._∷_ 117 (List._∷_ 116 (List._∷_ 58 (List._∷_ 58 (List._∷_ 114 (List._∷_ 111 (List._∷_ 119 (List._∷_ 115 (List._∷_ 58 (List._∷_ 58 (List._∷_ 87 (List._∷_ 105 (List._∷_ 100 (List._∷_ 116 (List._∷_ 104 (List._∷_ 115 List.[])))))))))))))))))))))))))) (Syntax.tcons (Syntax.tyInt Syntax.w64) (Syntax.tcons (Syntax.tyInt Syntax.w64) (Syntax.tcons (Syntax.tyInt Syntax.w64) (Syntax.tcons (Syntax.tyInt Syntax.w64) Syntax.tnil)))))) (List._∷_ (12, Rows'.any-gone (Syntax.tyInt Syntax.w64)) (List._∷_ (13, Rows'.any-gone (Syntax.tyRef Syntax.erased Syntax.mut (Syntax.tyArray ColumnMetadataRow.named 4096))) (List._∷_ (14, Rows'.any-gone (Syntax.tyStruct (List._∷_ 38 (List._∷_ 91 (List._∷_ 93 List.[]))) (Syntax.tcons (Syntax.tyRef Syntax.erased Syntax.mut ColumnMetadataRow.named) (Syntax.tcons (Syntax.tyInt Syntax.w64) Syntax.tnil)))) (List._∷_ (15, Rows'.sc-here Row.sBool) List.[])))))))))))))))
+t23 = List._∷_ (0, Rows'.any-gone (Syntax.tyInt Syntax.w64)) (List._∷_ (1, Mut.mslice (Referent.rtF (Referent.fInt Syntax.w8)) (Syntax.tyRef (Syntax.named 0) Syntax.mut (Syntax.tyInt Syntax.w8)) 0) (List._∷_ (2, Rows'.sc-here (Row.sInt Syntax.w64)) (List._∷_ (3, Rows'.sslice (Referent.rtF (Referent.fInt Syntax.w8)) (Syntax.tyRef (Syntax.named 1) Syntax.imm (Syntax.tyInt Syntax.w8)) 1) (List._∷_ (4, Mut.mslice (Referent.rtF (Referent.fInt Syntax.w8)) (Syntax.tyRef (Syntax.named 2) Syntax.mut (Syntax.tyInt Syntax.w8)) 2) (List._∷_ (5, Rows'.any-gone (ColumnMetadataRow.ty)) (List._∷_ (6, Rows.arrF (ColumnMetadataRow.RT) 4096 0) (List._∷_ (7, Rows'.whole (Declared'.row SqldardAnswer.the-type)) (List._∷_ (8, Rows'.any-gone (Syntax.tyEnum (List._∷_ 111 (List._∷_ 117 (List._∷_ 116 (List._∷_ 99 (List._∷_ 111 (List._∷_ 109 (List._∷_ 101 (List._∷_ 58 (List._∷_ 58 (List._∷_ 79 (List._∷_ 117 (List._∷_ 116 (List._∷_ 99 (List._∷_ 111 (List._∷_ 109 (List._∷_ 101 List.[])))))))))))))))) (Syntax.ttcons Syntax.tnil (Syntax.ttcons Syntax.tnil (Syntax.ttcons (Syntax.tcons (Syntax.tyInt Syntax.w64) (Syntax.tcons (Syntax.tyInt Syntax.w64) Syntax.tnil)) (Syntax.ttcons Syntax.tnil (Syntax.ttcons (Syntax.tcons (Syntax.tyInt Syntax.w16) Syntax.tnil) (Syntax.ttcons Syntax.tnil (Syntax.ttcons (Syntax.tcons (Syntax.tyInt Syntax.w64) Syntax.tnil) (Syntax.ttcons Syntax.tnil (Syntax.ttcons (Syntax.tcons (Syntax.tyInt Syntax.w16) Syntax.tnil) Syntax.ttnil))))))))))) (List._∷_ (9, Rows'.any-gone (Syntax.tyInt Syntax.w64)) (List._∷_ (10, Rows'.any-gone (Syntax.tyStruct (List._∷_ 115 (List._∷_ 113 (List._∷_ 108 (List._∷_ 99 (List._∷_ 97 (List._∷_ 114 (List._∷_ 100 (List._∷_ 58 (List._∷_ 58 (List._∷_ 83 (List._∷_ 113 (List._∷_ 108 (List._∷_ 67 (List._∷_ 97 (List._∷_ 114 (List._∷_ 100 List.[])))))))))))))))) (Syntax.tcons Syntax.tyBool (Syntax.tcons (Syntax.tyInt Syntax.w32) (Syntax.tcons (Syntax.tyArray (Syntax.tyInt Syntax.w8) 5) (Syntax.tcons (Syntax.tyArray (Syntax.tyInt Syntax.w8) 8) (Syntax.tcons (Syntax.tyInt Syntax.w8) (Syntax.tcons (Syntax.tyArray (Syntax.tyInt Syntax.w32) 6) (Syntax.tcons (Syntax.tyInt Syntax.w64) (Syntax.tcons (Syntax.tyInt Syntax.w32) (Syntax.tcons (Syntax.tyArray (Syntax.tyInt Syntax.w8) 11) (Syntax.tcons (Syntax.tyInt Syntax.w64) (Syntax.tcons (Syntax.tyInt Syntax.w64) Syntax.tnil))))))))))))) (List._∷_ (11, Rows'.any-gone (Syntax.tyStruct (List._∷_ 116 (List._∷_ 97 (List._∷_ 98 (List._∷_ 108 (List._∷_ 101 (List._∷_ 95 (List._∷_ 111 (List._∷_ 117 (List._∷_ 116 (List._∷_ 112 (List._∷_ 117 (List._∷_ 116 (List._∷_ 58 (List._∷_ 58 (List._∷_ 114 (List._∷_ 111 (List._∷_ 119 (List._∷_ 115 (List._∷_ 58 (List._∷_ 58 (List._∷_ 87 (List._∷_ 105 (List._∷_ 100 (List._∷_ 116 (List._∷_ 104 (List._∷_ 115 List.[])))))))))))))))))))))))))) (Syntax.tcons (Syntax.tyInt Syntax.w64) (Syntax.tcons (Syntax.tyInt Syntax.w64) (Syntax.tcons (Syntax.tyInt Syntax.w64) (Syntax.tcons (Syntax.tyInt Syntax.w64) Syntax.tnil)))))) (List._∷_ (12, Rows'.any-gone (Syntax.tyInt Syntax.w64)) (List._∷_ (13, Rows'.any-gone (Syntax.tyRef Syntax.erased Syntax.mut (Syntax.tyArray ColumnMetadataRow.named 4096))) (List._∷_ (14, Rows'.any-gone (Syntax.tyStruct (List._∷_ 38 (List._∷_ 91 (List._∷_ 93 List.[]))) (Syntax.tcons (Syntax.tyRef Syntax.erased Syntax.mut ColumnMetadataRow.named) (Syntax.tcons (Syntax.tyInt Syntax.w64) Syntax.tnil)))) (List._∷_ (15, Rows'.sc-here Row.sBool) List.[])))))))))))))))
 
 abbrev pub t24 : List.List Row.Entry
-t24 = List._∷_ (0, Rows'.any-gone (Syntax.tyInt Syntax.w64)) (List._∷_ (1, Mut.mslice (Referent.rtF (Referent.fInt Syntax.w8)) (Syntax.tyRef (Syntax.named 0) Syntax.mut (Syntax.tyInt Syntax.w8)) 0) (List._∷_ (2, Rows'.sc-here (Row.sInt Syntax.w64)) (List._∷_ (3, Rows'.sslice (Referent.rtF (Referent.fInt Syntax.w8)) (Syntax.tyRef (Syntax.named 1) Syntax.imm (Syntax.tyInt Syntax.w8)) 1) (List._∷_ (4, Mut.mslice (Referent.rtF (Referent.fInt Syntax.w8)) (Syntax.tyRef (Syntax.named 2) Syntax.mut (Syntax.tyInt Syntax.w8)) 2) (List._∷_ (5, Rows'.any-gone (ColumnMetadataRow.ty)) (List._∷_ (6, Rows.arrF (ColumnMetadataRow.RT) 4096 0) (List._∷_ (7, Rows'.whole (Declared'.row SqldardAnswer.the-type)) (List._∷_ (8, Rows'.any-gone (Syntax.tyEnum (List._∷_ 111 (List._∷_ 117 (List._∷_ 116 (List._∷_ 99 (List._∷_ 111 (List._∷_ 109 (List._∷_ 101 (List._∷_ 58 (List._∷_ 58 (List._∷_ 79 (List._∷_ 117 (List._∷_ 116 (List._∷_ 99 (List._∷_ 111 (List._∷_ 109 (List._∷_ 101 List.[])))))))))))))))) (Syntax.ttcons Syntax.tnil (Syntax.ttcons Syntax.tnil (Syntax.ttcons (Syntax.tcons (Syntax.tyInt Syntax.w64) (Syntax.tcons (Syntax.tyInt Syntax.w64) Syntax.tnil)) (Syntax.ttcons Syntax.tnil (Syntax.ttcons (Syntax.tcons (Syntax.tyInt Syntax.w16) Syntax.tnil) (Syntax.ttcons Syntax.tnil (Syntax.ttcons (Syntax.tcons (Syntax.tyInt Syntax.w64) Syntax.tnil) (Syntax.ttcons Syntax.tnil Syntax.ttnil)))))))))) (List._∷_ (9, Rows'.sc-here (Row.sInt Syntax.w64)) (List._∷_ (10, Rows'.any-gone (Syntax.tyStruct (List._∷_ 115 (List._∷_ 113 (List._∷_ 108 (List._∷_ 99 (List._∷_ 97 (List._∷_ 114 (List._∷_ 100 (List._∷_ 58 (List._∷_ 58 (List._∷_ 83 (List._∷_ 113 (List._∷_ 108 (List._∷_ 67 (List._∷_ 97 (List._∷_ 114 (List._∷_ 100 List.[])))))))))))))))) (Syntax.tcons Syntax.tyBool (Syntax.tcons (Syntax.tyInt Syntax.w32) (Syntax.tcons (Syntax.tyArray (Syntax.tyInt Syntax.w8) 5) (Syntax.tcons (Syntax.tyArray (Syntax.tyInt Syntax.w8) 8) (Syntax.tcons (Syntax.tyInt Syntax.w8) (Syntax.tcons (Syntax.tyArray (Syntax.tyInt Syntax.w32) 6) (Syntax.tcons (Syntax.tyInt Syntax.w64) (Syntax.tcons (Syntax.tyInt Syntax.w32) (Syntax.tcons (Syntax.tyArray (Syntax.tyInt Syntax.w8) 11) (Syntax.tcons (Syntax.tyInt Syntax.w64) (Syntax.tcons (Syntax.tyInt Syntax.w64) Syntax.tnil))))))))))))) (List._∷_ (11, Rows'.any-gone (Syntax.tyStruct (List._∷_ 116 (List._∷_ 97 (List._∷_ 98 (List._∷_ 108 (List._∷_ 101 (List._∷_ 95 (List._∷_ 111 (List._∷_ 117 (List._∷_ 116 (List._∷_ 112 (List._∷_ 117 (List._∷_ 116 (List._∷_ 58 (List._∷_ 58 (List._∷_ 114 (List._∷_ 111 (List._∷_ 119 (List._∷_ 115 (List._∷_ 58 (List._∷_ 58 (List._∷_ 87 (List._∷_ 105 (List._∷_ 100 (List._∷_ 116 (List._∷_ 104 (List._∷_ 115 List.[])))))))))))))))))))))))))) (Syntax.tcons (Syntax.tyInt Syntax.w64) (Syntax.tcons (Syntax.tyInt Syntax.w64) (Syntax.tcons (Syntax.tyInt Syntax.w64) (Syntax.tcons (Syntax.tyInt Syntax.w64) Syntax.tnil)))))) (List._∷_ (12, Rows'.any-gone (Syntax.tyInt Syntax.w64)) (List._∷_ (13, Rows'.any-gone (Syntax.tyRef Syntax.erased Syntax.mut (Syntax.tyArray ColumnMetadataRow.named 4096))) (List._∷_ (14, Rows'.any-gone (Syntax.tyStruct (List._∷_ 38 (List._∷_ 91 (List._∷_ 93 List.[]))) (Syntax.tcons (Syntax.tyRef Syntax.erased Syntax.mut ColumnMetadataRow.named) (Syntax.tcons (Syntax.tyInt Syntax.w64) Syntax.tnil)))) (List._∷_ (15, Rows'.any-gone Syntax.tyBool) List.[])))))))))))))))
+t24 = List._∷_ (0, Rows'.any-gone (Syntax.tyInt Syntax.w64)) (List._∷_ (1, Mut.mslice (Referent.rtF (Referent.fInt Syntax.w8)) (Syntax.tyRef (Syntax.named 0) Syntax.mut (Syntax.tyInt Syntax.w8)) 0) (List._∷_ (2, Rows'.sc-here (Row.sInt Syntax.w64)) (List._∷_ (3, Rows'.sslice (Referent.rtF (Referent.fInt Syntax.w8)) (Syntax.tyRef (Syntax.named 1) Syntax.imm (Syntax.tyInt Syntax.w8)) 1) (List._∷_ (4, Mut.mslice (Referent.rtF (Referent.fInt Syntax.w8)) (Syntax.tyRef (Syntax.named 2) Syntax.mut (Syntax.tyInt Syntax.w8)) 2) (List._∷_ (5, Rows'.any-gone (ColumnMetadataRow.ty)) (List._∷_ (6, Rows.arrF (ColumnMetadataRow.RT) 4096 0) (List._∷_ (7, Rows'.whole (Declared'.row SqldardAnswer.the-type)) (List._∷_ (8, Rows'.any-gone (Syntax.tyEnum (List._∷_ 111 (List._∷_ 117 (List._∷_ 116 (List._∷_ 99 (List._∷_ 111 (List._∷_ 109 (List._∷_ 101 (List._∷_ 58 (List._∷_ 58 (List._∷_ 79 (List._∷_ 117 (List._∷_ 116 (List._∷_ 99 (List._∷_ 111 (List._∷_ 109 (List._∷_ 101 List.[])))))))))))))))) (Syntax.ttcons Syntax.tnil (Syntax.ttcons Syntax.tnil (Syntax.ttcons (Syntax.tcons (Syntax.tyInt Syntax.w64) (Syntax.tcons (Syntax.tyInt Syntax.w64) Syntax.tnil)) (Syntax.ttcons Syntax.tnil (Syntax.ttcons (Syntax.tcons (Syntax.tyInt Syntax.w16) Syntax.tnil) (Syntax.ttcons Syntax.tnil (Syntax.ttcons (Syntax.tcons (Syntax.tyInt Syntax.w64) Syntax.tnil) (Syntax.ttcons Syntax.tnil (Syntax.ttcons (Syntax.tcons (Syntax.tyInt Syntax.w16) Syntax.tnil) Syntax.ttnil))))))))))) (List._∷_ (9, Rows'.sc-here (Row.sInt Syntax.w64)) (List._∷_ (10, Rows'.any-gone (Syntax.tyStruct (List._∷_ 115 (List._∷_ 113 (List._∷_ 108 (List._∷_ 99 (List._∷_ 97 (List._∷_ 114 (List._∷_ 100 (List._∷_ 58 (List._∷_ 58 (List._∷_ 83 (List._∷_ 113 (List._∷_ 108 (List._∷_ 67 (List._∷_ 97 (List._∷_ 114 (List._∷_ 100 List.[])))))))))))))))) (Syntax.tcons Syntax.tyBool (Syntax.tcons (Syntax.tyInt Syntax.w32) (Syntax.tcons (Syntax.tyArray (Syntax.tyInt Syntax.w8) 5) (Syntax.tcons (Syntax.tyArray (Syntax.tyInt Syntax.w8) 8) (Syntax.tcons (Syntax.tyInt Syntax.w8) (Syntax.tcons (Syntax.tyArray (Syntax.tyInt Syntax.w32) 6) (Syntax.tcons (Syntax.tyInt Syntax.w64) (Syntax.tcons (Syntax.tyInt Syntax.w32) (Syntax.tcons (Syntax.tyArray (Syntax.tyInt Syntax.w8) 11) (Syntax.tcons (Syntax.tyInt Syntax.w64) (Syntax.tcons (Syntax.tyInt Syntax.w64) Syntax.tnil))))))))))))) (List._∷_ (11, Rows'.any-gone (Syntax.tyStruct (List._∷_ 116 (List._∷_ 97 (List._∷_ 98 (List._∷_ 108 (List._∷_ 101 (List._∷_ 95 (List._∷_ 111 (List._∷_ 117 (List._∷_ 116 (List._∷_ 112 (List._∷_ 117 (List._∷_ 116 (List._∷_ 58 (List._∷_ 58 (List._∷_ 114 (List._∷_ 111 (List._∷_ 119 (List._∷_ 115 (List._∷_ 58 (List._∷_ 58 (List._∷_ 87 (List._∷_ 105 (List._∷_ 100 (List._∷_ 116 (List._∷_ 104 (List._∷_ 115 List.[])))))))))))))))))))))))))) (Syntax.tcons (Syntax.tyInt Syntax.w64) (Syntax.tcons (Syntax.tyInt Syntax.w64) (Syntax.tcons (Syntax.tyInt Syntax.w64) (Syntax.tcons (Syntax.tyInt Syntax.w64) Syntax.tnil)))))) (List._∷_ (12, Rows'.any-gone (Syntax.tyInt Syntax.w64)) (List._∷_ (13, Rows'.any-gone (Syntax.tyRef Syntax.erased Syntax.mut (Syntax.tyArray ColumnMetadataRow.named 4096))) (List._∷_ (14, Rows'.any-gone (Syntax.tyStruct (List._∷_ 38 (List._∷_ 91 (List._∷_ 93 List.[]))) (Syntax.tcons (Syntax.tyRef Syntax.erased Syntax.mut ColumnMetadataRow.named) (Syntax.tcons (Syntax.tyInt Syntax.w64) Syntax.tnil)))) (List._∷_ (15, Rows'.any-gone Syntax.tyBool) List.[])))))))))))))))
 
 abbrev pub t25 : List.List Row.Entry
-t25 = List._∷_ (0, Rows'.any-gone (Syntax.tyInt Syntax.w64)) (List._∷_ (1, Mut.mslice (Referent.rtF (Referent.fInt Syntax.w8)) (Syntax.tyRef (Syntax.named 0) Syntax.mut (Syntax.tyInt Syntax.w8)) 0) (List._∷_ (2, Rows'.sc-here (Row.sInt Syntax.w64)) (List._∷_ (3, Rows'.sslice (Referent.rtF (Referent.fInt Syntax.w8)) (Syntax.tyRef (Syntax.named 1) Syntax.imm (Syntax.tyInt Syntax.w8)) 1) (List._∷_ (4, Mut.mslice (Referent.rtF (Referent.fInt Syntax.w8)) (Syntax.tyRef (Syntax.named 2) Syntax.mut (Syntax.tyInt Syntax.w8)) 2) (List._∷_ (5, Rows'.any-gone (ColumnMetadataRow.ty)) (List._∷_ (6, Rows.arrF (ColumnMetadataRow.RT) 4096 0) (List._∷_ (7, Rows'.whole (Declared'.row SqldardAnswer.the-type)) (List._∷_ (8, Rows'.any-gone (Syntax.tyEnum (List._∷_ 111 (List._∷_ 117 (List._∷_ 116 (List._∷_ 99 (List._∷_ 111 (List._∷_ 109 (List._∷_ 101 (List._∷_ 58 (List._∷_ 58 (List._∷_ 79 (List._∷_ 117 (List._∷_ 116 (List._∷_ 99 (List._∷_ 111 (List._∷_ 109 (List._∷_ 101 List.[])))))))))))))))) (Syntax.ttcons Syntax.tnil (Syntax.ttcons Syntax.tnil (Syntax.ttcons (Syntax.tcons (Syntax.tyInt Syntax.w64) (Syntax.tcons (Syntax.tyInt Syntax.w64) Syntax.tnil)) (Syntax.ttcons Syntax.tnil (Syntax.ttcons (Syntax.tcons (Syntax.tyInt Syntax.w16) Syntax.tnil) (Syntax.ttcons Syntax.tnil (Syntax.ttcons (Syntax.tcons (Syntax.tyInt Syntax.w64) Syntax.tnil) (Syntax.ttcons Syntax.tnil Syntax.ttnil)))))))))) (List._∷_ (9, Rows'.sc-here (Row.sInt Syntax.w64)) (List._∷_ (10, Rows'.whole (Declared'.row SqlCard.the-type)) (List._∷_ (11, Rows'.any-gone (Syntax.tyStruct (List._∷_ 116 (List._∷_ 97 (List._∷_ 98 (List._∷_ 108 (List._∷_ 101 (List._∷_ 95 (List._∷_ 111 (List._∷_ 117 (List._∷_ 116 (List._∷_ 112 (List._∷_ 117 (List._∷_ 116 (List._∷_ 58 (List._∷_ 58 (List._∷_ 114 (List._∷_ 111 (List._∷_ 119 (List._∷_ 115 (List._∷_ 58 (List._∷_ 58 (List._∷_ 87 (List._∷_ 105 (List._∷_ 100 (List._∷_ 116 (List._∷_ 104 (List._∷_ 115 List.[])))))))))))))))))))))))))) (Syntax.tcons (Syntax.tyInt Syntax.w64) (Syntax.tcons (Syntax.tyInt Syntax.w64) (Syntax.tcons (Syntax.tyInt Syntax.w64) (Syntax.tcons (Syntax.tyInt Syntax.w64) Syntax.tnil)))))) (List._∷_ (12, Rows'.any-gone (Syntax.tyInt Syntax.w64)) (List._∷_ (13, Rows'.any-gone (Syntax.tyRef Syntax.erased Syntax.mut (Syntax.tyArray ColumnMetadataRow.named 4096))) (List._∷_ (14, Rows'.any-gone (Syntax.tyStruct (List._∷_ 38 (List._∷_ 91 (List._∷_ 93 List.[]))) (Syntax.tcons (Syntax.tyRef Syntax.erased Syntax.mut ColumnMetadataRow.named) (Syntax.tcons (Syntax.tyInt Syntax.w64) Syntax.tnil)))) (List._∷_ (15, Rows'.any-gone Syntax.tyBool) List.[])))))))))))))))
+t25 = List._∷_ (0, Rows'.any-gone (Syntax.tyInt Syntax.w64)) (List._∷_ (1, Mut.mslice (Referent.rtF (Referent.fInt Syntax.w8)) (Syntax.tyRef (Syntax.named 0) Syntax.mut (Syntax.tyInt Syntax.w8)) 0) (List._∷_ (2, Rows'.sc-here (Row.sInt Syntax.w64)) (List._∷_ (3, Rows'.sslice (Referent.rtF (Referent.fInt Syntax.w8)) (Syntax.tyRef (Syntax.named 1) Syntax.imm (Syntax.tyInt Syntax.w8)) 1) (List._∷_ (4, Mut.mslice (Referent.rtF (Referent.fInt Syntax.w8)) (Syntax.tyRef (Syntax.named 2) Syntax.mut (Syntax.tyInt Syntax.w8)) 2) (List._∷_ (5, Rows'.any-gone (ColumnMetadataRow.ty)) (List._∷_ (6, Rows.arrF (ColumnMetadataRow.RT) 4096 0) (List._∷_ (7, Rows'.whole (Declared'.row SqldardAnswer.the-type)) (List._∷_ (8, Rows'.any-gone (Syntax.tyEnum (List._∷_ 111 (List._∷_ 117 (List._∷_ 116 (List._∷_ 99 (List._∷_ 111 (List._∷_ 109 (List._∷_ 101 (List._∷_ 58 (List._∷_ 58 (List._∷_ 79 (List._∷_ 117 (List._∷_ 116 (List._∷_ 99 (List._∷_ 111 (List._∷_ 109 (List._∷_ 101 List.[])))))))))))))))) (Syntax.ttcons Syntax.tnil (Syntax.ttcons Syntax.tnil (Syntax.ttcons (Syntax.tcons (Syntax.tyInt Syntax.w64) (Syntax.tcons (Syntax.tyInt Syntax.w64) Syntax.tnil)) (Syntax.ttcons Syntax.tnil (Syntax.ttcons (Syntax.tcons (Syntax.tyInt Syntax.w16) Syntax.tnil) (Syntax.ttcons Syntax.tnil (Syntax.ttcons (Syntax.tcons (Syntax.tyInt Syntax.w64) Syntax.tnil) (Syntax.ttcons Syntax.tnil (Syntax.ttcons (Syntax.tcons (Syntax.tyInt Syntax.w16) Syntax.tnil) Syntax.ttnil))))))))))) (List._∷_ (9, Rows'.sc-here (Row.sInt Syntax.w64)) (List._∷_ (10, Rows'.whole (Declared'.row SqlCard.the-type)) (List._∷_ (11, Rows'.any-gone (Syntax.tyStruct (List._∷_ 116 (List._∷_ 97 (List._∷_ 98 (List._∷_ 108 (List._∷_ 101 (List._∷_ 95 (List._∷_ 111 (List._∷_ 117 (List._∷_ 116 (List._∷_ 112 (List._∷_ 117 (List._∷_ 116 (List._∷_ 58 (List._∷_ 58 (List._∷_ 114 (List._∷_ 111 (List._∷_ 119 (List._∷_ 115 (List._∷_ 58 (List._∷_ 58 (List._∷_ 87 (List._∷_ 105 (List._∷_ 100 (List._∷_ 116 (List._∷_ 104 (List._∷_ 115 List.[])))))))))))))))))))))))))) (Syntax.tcons (Syntax.tyInt Syntax.w64) (Syntax.tcons (Syntax.tyInt Syntax.w64) (Syntax.tcons (Syntax.tyInt Syntax.w64) (Syntax.tcons (Syntax.tyInt Syntax.w64) Syntax.tnil)))))) (List._∷_ (12, Rows'.any-gone (Syntax.tyInt Syntax.w64)) (List._∷_ (13, Rows'.any-gone (Syntax.tyRef Syntax.erased Syntax.mut (Syntax.tyArray ColumnMetadataRow.named 4096))) (List._∷_ (14, Rows'.any-gone (Syntax.tyStruct (List._∷_ 38 (List._∷_ 91 (List._∷_ 93 List.[]))) (Syntax.tcons (Syntax.tyRef Syntax.erased Syntax.mut ColumnMetadataRow.named) (Syntax.tcons (Syntax.tyInt Syntax.w64) Syntax.tnil)))) (List._∷_ (15, Rows'.any-gone Syntax.tyBool) List.[])))))))))))))))
 
 abbrev pub t26 : List.List Row.Entry
-t26 = List._∷_ (0, Rows'.any-gone (Syntax.tyInt Syntax.w64)) (List._∷_ (1, Mut.mslice (Referent.rtF (Referent.fInt Syntax.w8)) (Syntax.tyRef (Syntax.named 0) Syntax.mut (Syntax.tyInt Syntax.w8)) 0) (List._∷_ (2, Rows'.sc-here (Row.sInt Syntax.w64)) (List._∷_ (3, Rows'.sslice (Referent.rtF (Referent.fInt Syntax.w8)) (Syntax.tyRef (Syntax.named 1) Syntax.imm (Syntax.tyInt Syntax.w8)) 1) (List._∷_ (4, Mut.mslice (Referent.rtF (Referent.fInt Syntax.w8)) (Syntax.tyRef (Syntax.named 2) Syntax.mut (Syntax.tyInt Syntax.w8)) 2) (List._∷_ (5, Rows'.any-gone (ColumnMetadataRow.ty)) (List._∷_ (6, Rows.arrF (ColumnMetadataRow.RT) 4096 0) (List._∷_ (7, Rows'.any-gone (Syntax.tyStruct (List._∷_ 115 (List._∷_ 113 (List._∷_ 108 (List._∷_ 100 (List._∷_ 97 (List._∷_ 114 (List._∷_ 100 (List._∷_ 58 (List._∷_ 58 (List._∷_ 83 (List._∷_ 113 (List._∷_ 108 (List._∷_ 100 (List._∷_ 97 (List._∷_ 114 (List._∷_ 100 (List._∷_ 65 (List._∷_ 110 (List._∷_ 115 (List._∷_ 119 (List._∷_ 101 (List._∷_ 114 List.[])))))))))))))))))))))) (Syntax.tcons (Syntax.tyEnum (List._∷_ 111 (List._∷_ 117 (List._∷_ 116 (List._∷_ 99 (List._∷_ 111 (List._∷_ 109 (List._∷_ 101 (List._∷_ 58 (List._∷_ 58 (List._∷_ 79 (List._∷_ 117 (List._∷_ 116 (List._∷_ 99 (List._∷_ 111 (List._∷_ 109 (List._∷_ 101 List.[])))))))))))))))) (Syntax.ttcons Syntax.tnil (Syntax.ttcons Syntax.tnil (Syntax.ttcons (Syntax.tcons (Syntax.tyInt Syntax.w64) (Syntax.tcons (Syntax.tyInt Syntax.w64) Syntax.tnil)) (Syntax.ttcons Syntax.tnil (Syntax.ttcons (Syntax.tcons (Syntax.tyInt Syntax.w16) Syntax.tnil) (Syntax.ttcons Syntax.tnil (Syntax.ttcons (Syntax.tcons (Syntax.tyInt Syntax.w64) Syntax.tnil) (Syntax.ttcons Syntax.tnil Syntax.ttnil))))))))) (Syntax.tcons (Syntax.tyStruct (List._∷_ 115 (List._∷_ 113 (List._∷_ 108 (List._∷_ 99 (List._∷_ 97 (List._∷_ 114 (List._∷_ 100 (List._∷_ 58 (List._∷_ 58 (List._∷_ 83 (List._∷_ 113 (List._∷_ 108 (List._∷_ 67 (List._∷_ 97 (List._∷_ 114 (List._∷_ 100 List.[])))))))))))))))) (Syntax.tcons Syntax.tyBool (Syntax.tcons (Syntax.tyInt Syntax.w32) (Syntax.tcons (Syntax.tyArray (Syntax.tyInt Syntax.w8) 5) (Syntax.tcons (Syntax.tyArray (Syntax.tyInt Syntax.w8) 8) (Syntax.tcons (Syntax.tyInt Syntax.w8) (Syntax.tcons (Syntax.tyArray (Syntax.tyInt Syntax.w32) 6) (Syntax.tcons (Syntax.tyInt Syntax.w64) (Syntax.tcons (Syntax.tyInt Syntax.w32) (Syntax.tcons (Syntax.tyArray (Syntax.tyInt Syntax.w8) 11) (Syntax.tcons (Syntax.tyInt Syntax.w64) (Syntax.tcons (Syntax.tyInt Syntax.w64) Syntax.tnil)))))))))))) (Syntax.tcons (Syntax.tyInt Syntax.w64) Syntax.tnil))))) (List._∷_ (8, Rows'.any-gone (Syntax.tyEnum (List._∷_ 111 (List._∷_ 117 (List._∷_ 116 (List._∷_ 99 (List._∷_ 111 (List._∷_ 109 (List._∷_ 101 (List._∷_ 58 (List._∷_ 58 (List._∷_ 79 (List._∷_ 117 (List._∷_ 116 (List._∷_ 99 (List._∷_ 111 (List._∷_ 109 (List._∷_ 101 List.[])))))))))))))))) (Syntax.ttcons Syntax.tnil (Syntax.ttcons Syntax.tnil (Syntax.ttcons (Syntax.tcons (Syntax.tyInt Syntax.w64) (Syntax.tcons (Syntax.tyInt Syntax.w64) Syntax.tnil)) (Syntax.ttcons Syntax.tnil (Syntax.ttcons (Syntax.tcons (Syntax.tyInt Syntax.w16) Syntax.tnil) (Syntax.ttcons Syntax.tnil (Syntax.ttcons (Syntax.tcons (Syntax.tyInt Syntax.w64) Syntax.tnil) (Syntax.ttcons Syntax.tnil Syntax.ttnil)))))))))) (List._∷_ (9, Rows'.sc-here (Row.sInt Syntax.w64)) (List._∷_ (10, Rows'.whole (Declared'.row SqlCard.the-type)) (List._∷_ (11, Rows'.any-gone (Syntax.tyStruct (List._∷_ 116 (List._∷_ 97 (List._∷_ 98 (List._∷_ 108 (List._∷_ 101 (List._∷_ 95 (List._∷_ 111 (List._∷_ 117 (List._∷_ 116 (List._∷_ 112 (List._∷_ 117 (List._∷_ 116 (List._∷_ 58 (List._∷_ 58 (List._∷_ 114 (List._∷_ 111 (List._∷_ 119 (List._∷_ 115 (List._∷_ 58 (List._∷_ 58 (List._∷_ 87 (List._∷_ 105 (List._∷_ 100 (List._∷_ 116 (List._∷_ 104 (List._∷_ 115 List.[])))))))))))))))))))))))))) (Syntax.tcons (Syntax.tyInt Syntax.w64) (Syntax.tcons (Syntax.tyInt Syntax.w64) (Syntax.tcons (Syntax.tyInt Syntax.w64) (Syntax.tcons (Syntax.tyInt Syntax.w64) Syntax.tnil)))))) (List._∷_ (12, Rows'.any-gone (Syntax.tyInt Syntax.w64)) (List._∷_ (13, Rows'.any-gone (Syntax.tyRef Syntax.erased Syntax.mut (Syntax.tyArray ColumnMetadataRow.named 4096))) (List._∷_ (14, Rows'.any-gone (Syntax.tyStruct (List._∷_ 38 (List._∷_ 91 (List._∷_ 93 List.[]))) (Syntax.tcons (Syntax.tyRef Syntax.erased Syntax.mut ColumnMetadataRow.named) (Syntax.tcons (Syntax.tyInt Syntax.w64) Syntax.tnil)))) (List._∷_ (15, Rows'.any-gone Syntax.tyBool) List.[])))))))))))))))
+t26 = List._∷_ (0, Rows'.any-gone (Syntax.tyInt Syntax.w64)) (List._∷_ (1, Mut.mslice (Referent.rtF (Referent.fInt Syntax.w8)) (Syntax.tyRef (Syntax.named 0) Syntax.mut (Syntax.tyInt Syntax.w8)) 0) (List._∷_ (2, Rows'.sc-here (Row.sInt Syntax.w64)) (List._∷_ (3, Rows'.sslice (Referent.rtF (Referent.fInt Syntax.w8)) (Syntax.tyRef (Syntax.named 1) Syntax.imm (Syntax.tyInt Syntax.w8)) 1) (List._∷_ (4, Mut.mslice (Referent.rtF (Referent.fInt Syntax.w8)) (Syntax.tyRef (Syntax.named 2) Syntax.mut (Syntax.tyInt Syntax.w8)) 2) (List._∷_ (5, Rows'.any-gone (ColumnMetadataRow.ty)) (List._∷_ (6, Rows.arrF (ColumnMetadataRow.RT) 4096 0) (List._∷_ (7, Rows'.any-gone (Syntax.tyStruct (List._∷_ 115 (List._∷_ 113 (List._∷_ 108 (List._∷_ 100 (List._∷_ 97 (List._∷_ 114 (List._∷_ 100 (List._∷_ 58 (List._∷_ 58 (List._∷_ 83 (List._∷_ 113 (List._∷_ 108 (List._∷_ 100 (List._∷_ 97 (List._∷_ 114 (List._∷_ 100 (List._∷_ 65 (List._∷_ 110 (List._∷_ 115 (List._∷_ 119 (List._∷_ 101 (List._∷_ 114 List.[])))))))))))))))))))))) (Syntax.tcons (Syntax.tyEnum (List._∷_ 111 (List._∷_ 117 (List._∷_ 116 (List._∷_ 99 (List._∷_ 111 (List._∷_ 109 (List._∷_ 101 (List._∷_ 58 (List._∷_ 58 (List._∷_ 79 (List._∷_ 117 (List._∷_ 116 (List._∷_ 99 (List._∷_ 111 (List._∷_ 109 (List._∷_ 101 List.[])))))))))))))))) (Syntax.ttcons Syntax.tnil (Syntax.ttcons Syntax.tnil (Syntax.ttcons (Syntax.tcons (Syntax.tyInt Syntax.w64) (Syntax.tcons (Syntax.tyInt Syntax.w64) Syntax.tnil)) (Syntax.ttcons Syntax.tnil (Syntax.ttcons (Syntax.tcons (Syntax.tyInt Syntax.w16) Syntax.tnil) (Syntax.ttcons Syntax.tnil (Syntax.ttcons (Syntax.tcons (Syntax.tyInt Syntax.w64) Syntax.tnil) (Syntax.ttcons Syntax.tnil (Syntax.ttcons (Syntax.tcons (Syntax.tyInt Syntax.w16) Syntax.tnil) Syntax.ttnil)))))))))) (Syntax.tcons (Syntax.tyStruct (List._∷_ 115 (List._∷_ 113 (List._∷_ 108 (List._∷_ 99 (List._∷_ 97 (List._∷_ 114 (List._∷_ 100 (List._∷_ 58 (List._∷_ 58 (List._∷_ 83 (List._∷_ 113 (List._∷_ 108 (List._∷_ 67 (List._∷_ 97 (List._∷_ 114 (List._∷_ 100 List.[])))))))))))))))) (Syntax.tcons Syntax.tyBool (Syntax.tcons (Syntax.tyInt Syntax.w32) (Syntax.tcons (Syntax.tyArray (Syntax.tyInt Syntax.w8) 5) (Syntax.tcons (Syntax.tyArray (Syntax.tyInt Syntax.w8) 8) (Syntax.tcons (Syntax.tyInt Syntax.w8) (Syntax.tcons (Syntax.tyArray (Syntax.tyInt Syntax.w32) 6) (Syntax.tcons (Syntax.tyInt Syntax.w64) (Syntax.tcons (Syntax.tyInt Syntax.w32) (Syntax.tcons (Syntax.tyArray (Syntax.tyInt Syntax.w8) 11) (Syntax.tcons (Syntax.tyInt Syntax.w64) (Syntax.tcons (Syntax.tyInt Syntax.w64) Syntax.tnil)))))))))))) (Syntax.tcons (Syntax.tyInt Syntax.w64) Syntax.tnil))))) (List._∷_ (8, Rows'.any-gone (Syntax.tyEnum (List._∷_ 111 (List._∷_ 117 (List._∷_ 116 (List._∷_ 99 (List._∷_ 111 (List._∷_ 109 (List._∷_ 101 (List._∷_ 58 (List._∷_ 58 (List._∷_ 79 (List._∷_ 117 (List._∷_ 116 (List._∷_ 99 (List._∷_ 111 (List._∷_ 109 (List._∷_ 101 List.[])))))))))))))))) (Syntax.ttcons Syntax.tnil (Syntax.ttcons Syntax.tnil (Syntax.ttcons (Syntax.tcons (Syntax.tyInt Syntax.w64) (Syntax.tcons (Syntax.tyInt Syntax.w64) Syntax.tnil)) (Syntax.ttcons Syntax.tnil (Syntax.ttcons (Syntax.tcons (Syntax.tyInt Syntax.w16) Syntax.tnil) (Syntax.ttcons Syntax.tnil (Syntax.ttcons (Syntax.tcons (Syntax.tyInt Syntax.w64) Syntax.tnil) (Syntax.ttcons Syntax.tnil (Syntax.ttcons (Syntax.tcons (Syntax.tyInt Syntax.w16) Syntax.tnil) Syntax.ttnil))))))))))) (List._∷_ (9, Rows'.sc-here (Row.sInt Syntax.w64)) (List._∷_ (10, Rows'.whole (Declared'.row SqlCard.the-type)) (List._∷_ (11, Rows'.any-gone (Syntax.tyStruct (List._∷_ 116 (List._∷_ 97 (List._∷_ 98 (List._∷_ 108 (List._∷_ 101 (List._∷_ 95 (List._∷_ 111 (List._∷_ 117 (List._∷_ 116 (List._∷_ 112 (List._∷_ 117 (List._∷_ 116 (List._∷_ 58 (List._∷_ 58 (List._∷_ 114 (List._∷_ 111 (List._∷_ 119 (List._∷_ 115 (List._∷_ 58 (List._∷_ 58 (List._∷_ 87 (List._∷_ 105 (List._∷_ 100 (List._∷_ 116 (List._∷_ 104 (List._∷_ 115 List.[])))))))))))))))))))))))))) (Syntax.tcons (Syntax.tyInt Syntax.w64) (Syntax.tcons (Syntax.tyInt Syntax.w64) (Syntax.tcons (Syntax.tyInt Syntax.w64) (Syntax.tcons (Syntax.tyInt Syntax.w64) Syntax.tnil)))))) (List._∷_ (12, Rows'.any-gone (Syntax.tyInt Syntax.w64)) (List._∷_ (13, Rows'.any-gone (Syntax.tyRef Syntax.erased Syntax.mut (Syntax.tyArray ColumnMetadataRow.named 4096))) (List._∷_ (14, Rows'.any-gone (Syntax.tyStruct (List._∷_ 38 (List._∷_ 91 (List._∷_ 93 List.[]))) (Syntax.tcons (Syntax.tyRef Syntax.erased Syntax.mut ColumnMetadataRow.named) (Syntax.tcons (Syntax.tyInt Syntax.w64) Syntax.tnil)))) (List._∷_ (15, Rows'.any-gone Syntax.tyBool) List.[])))))))))))))))
 
 abbrev pub t27 : List.List Row.Entry
-t27 = List._∷_ (0, Rows'.any-gone (Syntax.tyInt Syntax.w64)) (List._∷_ (1, Mut.mslice (Referent.rtF (Referent.fInt Syntax.w8)) (Syntax.tyRef (Syntax.named 0) Syntax.mut (Syntax.tyInt Syntax.w8)) 0) (List._∷_ (2, Rows'.sc-here (Row.sInt Syntax.w64)) (List._∷_ (3, Rows'.sslice (Referent.rtF (Referent.fInt Syntax.w8)) (Syntax.tyRef (Syntax.named 1) Syntax.imm (Syntax.tyInt Syntax.w8)) 1) (List._∷_ (4, Mut.mslice (Referent.rtF (Referent.fInt Syntax.w8)) (Syntax.tyRef (Syntax.named 2) Syntax.mut (Syntax.tyInt Syntax.w8)) 2) (List._∷_ (5, Rows'.any-gone (ColumnMetadataRow.ty)) (List._∷_ (6, Rows.arr-shrP (ColumnMetadataRow.RT) 4096 5) (List._∷_ (7, Rows'.any-gone (Syntax.tyStruct (List._∷_ 115 (List._∷_ 113 (List._∷_ 108 (List._∷_ 100 (List._∷_ 97 (List._∷_ 114 (List._∷_ 100 (List._∷_ 58 (List._∷_ 58 (List._∷_ 83 (List._∷_ 113 (List._∷_ 108 (List._∷_ 100 (List._∷_ 97 (List._∷_ 114 (List._∷_ 100 (List._∷_ 65 (List._∷_ 110 (List._∷_ 115 (List._∷_ 119 (List._∷_ 101 (List._∷_ 114 List.[])))))))))))))))))))))) (Syntax.tcons (Syntax.tyEnum (List._∷_ 111 (List._∷_ 117 (List._∷_ 116 (List._∷_ 99 (List._∷_ 111 (List._∷_ 109 (List._∷_ 101 (List._∷_ 58 (List._∷_ 58 (List._∷_ 79 (List._∷_ 117 (List._∷_ 116 (List._∷_ 99 (List._∷_ 111 (List._∷_ 109 (List._∷_ 101 List.[])))))))))))))))) (Syntax.ttcons Syntax.tnil (Syntax.ttcons Syntax.tnil (Syntax.ttcons (Syntax.tcons (Syntax.tyInt Syntax.w64) (Syntax.tcons (Syntax.tyInt Syntax.w64) Syntax.tnil)) (Syntax.ttcons Syntax.tnil (Syntax.ttcons (Syntax.tcons (Syntax.tyInt Syntax.w16) Syntax.tnil) (Syntax.ttcons Syntax.tnil (Syntax.ttcons (Syntax.tcons (Syntax.tyInt Syntax.w64) Syntax.tnil) (Syntax.ttcons Syntax.tnil Syntax.ttnil))))))))) (Syntax.tcons (Syntax.tyStruct (List._∷_ 115 (List._∷_ 113 (List._∷_ 108 (List._∷_ 99 (List._∷_ 97 (List._∷_ 114 (List._∷_ 100 (List._∷_ 58 (List._∷_ 58 (List._∷_ 83 (List._∷_ 113 (List._∷_ 108 (List._∷_ 67 (List._∷_ 97 (List._∷_ 114 (List._∷_ 100 List.[])))))))))))))))) (Syntax.tcons Syntax.tyBool (Syntax.tcons (Syntax.tyInt Syntax.w32) (Syntax.tcons (Syntax.tyArray (Syntax.tyInt Syntax.w8) 5) (Syntax.tcons (Syntax.tyArray (Syntax.tyInt Syntax.w8) 8) (Syntax.tcons (Syntax.tyInt Syntax.w8) (Syntax.tcons (Syntax.tyArray (Syntax.tyInt Syntax.w32) 6) (Syntax.tcons (Syntax.tyInt Syntax.w64) (Syntax.tcons (Syntax.tyInt Syntax.w32) (Syntax.tcons (Syntax.tyArray (Syntax.tyInt Syntax.w8) 11) (Syntax.tcons (Syntax.tyInt Syntax.w64) (Syntax.tcons (Syntax.tyInt Syntax.w64) Syntax.tnil)))))))))))) (Syntax.tcons (Syntax.tyInt Syntax.w64) Syntax.tnil))))) (List._∷_ (8, Rows'.any-gone (Syntax.tyEnum (List._∷_ 111 (List._∷_ 117 (List._∷_ 116 (List._∷_ 99 (List._∷_ 111 (List._∷_ 109 (List._∷_ 101 (List._∷_ 58 (List._∷_ 58 (List._∷_ 79 (List._∷_ 117 (List._∷_ 116 (List._∷_ 99 (List._∷_ 111 (List._∷_ 109 (List._∷_ 101 List.[])))))))))))))))) (Syntax.ttcons Syntax.tnil (Syntax.ttcons Syntax.tnil (Syntax.ttcons (Syntax.tcons (Syntax.tyInt Syntax.w64) (Syntax.tcons (Syntax.tyInt Syntax.w64) Syntax.tnil)) (Syntax.ttcons Syntax.tnil (Syntax.ttcons (Syntax.tcons (Syntax.tyInt Syntax.w16) Syntax.tnil) (Syntax.ttcons Syntax.tnil (Syntax.ttcons (Syntax.tcons (Syntax.tyInt Syntax.w64) Syntax.tnil) (Syntax.ttcons Syntax.tnil Syntax.ttnil)))))))))) (List._∷_ (9, Rows'.sc-here (Row.sInt Syntax.w64)) (List._∷_ (10, Rows'.whole (Declared'.row SqlCard.the-type)) (List._∷_ (11, Rows'.any-gone (Syntax.tyStruct (List._∷_ 116 (List._∷_ 97 (List._∷_ 98 (List._∷_ 108 (List._∷_ 101 (List._∷_ 95 (List._∷_ 111 (List._∷_ 117 (List._∷_ 116 (List._∷_ 112 (List._∷_ 117 (List._∷_ 116 (List._∷_ 58 (List._∷_ 58 (List._∷_ 114 (List._∷_ 111 (List._∷_ 119 (List._∷_ 115 (List._∷_ 58 (List._∷_ 58 (List._∷_ 87 (List._∷_ 105 (List._∷_ 100 (List._∷_ 116 (List._∷_ 104 (List._∷_ 115 List.[])))))))))))))))))))))))))) (Syntax.tcons (Syntax.tyInt Syntax.w64) (Syntax.tcons (Syntax.tyInt Syntax.w64) (Syntax.tcons (Syntax.tyInt Syntax.w64) (Syntax.tcons (Syntax.tyInt Syntax.w64) Syntax.tnil)))))) (List._∷_ (12, Rows'.any-gone (Syntax.tyInt Syntax.w64)) (List._∷_ (13, Rows'.any-gone (Syntax.tyRef Syntax.erased Syntax.mut (Syntax.tyArray ColumnMetadataRow.named 4096))) (List._∷_ (14, Rows'.any-gone (Syntax.tyStruct (List._∷_ 38 (List._∷_ 91 (List._∷_ 93 List.[]))) (Syntax.tcons (Syntax.tyRef Syntax.erased Syntax.mut ColumnMetadataRow.named) (Syntax.tcons (Syntax.tyInt Syntax.w64) Syntax.tnil)))) (List._∷_ (15, Rows'.any-gone Syntax.tyBool) List.[])))))))))))))))
+t27 = List._∷_ (0, Rows'.any-gone (Syntax.tyInt Syntax.w64)) (List._∷_ (1, Mut.mslice (Referent.rtF (Referent.fInt Syntax.w8)) (Syntax.tyRef (Syntax.named 0) Syntax.mut (Syntax.tyInt Syntax.w8)) 0) (List._∷_ (2, Rows'.sc-here (Row.sInt Syntax.w64)) (List._∷_ (3, Rows'.sslice (Referent.rtF (Referent.fInt Syntax.w8)) (Syntax.tyRef (Syntax.named 1) Syntax.imm (Syntax.tyInt Syntax.w8)) 1) (List._∷_ (4, Mut.mslice (Referent.rtF (Referent.fInt Syntax.w8)) (Syntax.tyRef (Syntax.named 2) Syntax.mut (Syntax.tyInt Syntax.w8)) 2) (List._∷_ (5, Rows'.any-gone (ColumnMetadataRow.ty)) (List._∷_ (6, Rows.arr-shrP (ColumnMetadataRow.RT) 4096 5) (List._∷_ (7, Rows'.any-gone (Syntax.tyStruct (List._∷_ 115 (List._∷_ 113 (List._∷_ 108 (List._∷_ 100 (List._∷_ 97 (List._∷_ 114 (List._∷_ 100 (List._∷_ 58 (List._∷_ 58 (List._∷_ 83 (List._∷_ 113 (List._∷_ 108 (List._∷_ 100 (List._∷_ 97 (List._∷_ 114 (List._∷_ 100 (List._∷_ 65 (List._∷_ 110 (List._∷_ 115 (List._∷_ 119 (List._∷_ 101 (List._∷_ 114 List.[])))))))))))))))))))))) (Syntax.tcons (Syntax.tyEnum (List._∷_ 111 (List._∷_ 117 (List._∷_ 116 (List._∷_ 99 (List._∷_ 111 (List._∷_ 109 (List._∷_ 101 (List._∷_ 58 (List._∷_ 58 (List._∷_ 79 (List._∷_ 117 (List._∷_ 116 (List._∷_ 99 (List._∷_ 111 (List._∷_ 109 (List._∷_ 101 List.[])))))))))))))))) (Syntax.ttcons Syntax.tnil (Syntax.ttcons Syntax.tnil (Syntax.ttcons (Syntax.tcons (Syntax.tyInt Syntax.w64) (Syntax.tcons (Syntax.tyInt Syntax.w64) Syntax.tnil)) (Syntax.ttcons Syntax.tnil (Syntax.ttcons (Syntax.tcons (Syntax.tyInt Syntax.w16) Syntax.tnil) (Syntax.ttcons Syntax.tnil (Syntax.ttcons (Syntax.tcons (Syntax.tyInt Syntax.w64) Syntax.tnil) (Syntax.ttcons Syntax.tnil (Syntax.ttcons (Syntax.tcons (Syntax.tyInt Syntax.w16) Syntax.tnil) Syntax.ttnil)))))))))) (Syntax.tcons (Syntax.tyStruct (List._∷_ 115 (List._∷_ 113 (List._∷_ 108 (List._∷_ 99 (List._∷_ 97 (List._∷_ 114 (List._∷_ 100 (List._∷_ 58 (List._∷_ 58 (List._∷_ 83 (List._∷_ 113 (List._∷_ 108 (List._∷_ 67 (List._∷_ 97 (List._∷_ 114 (List._∷_ 100 List.[])))))))))))))))) (Syntax.tcons Syntax.tyBool (Syntax.tcons (Syntax.tyInt Syntax.w32) (Syntax.tcons (Syntax.tyArray (Syntax.tyInt Syntax.w8) 5) (Syntax.tcons (Syntax.tyArray (Syntax.tyInt Syntax.w8) 8) (Syntax.tcons (Syntax.tyInt Syntax.w8) (Syntax.tcons (Syntax.tyArray (Syntax.tyInt Syntax.w32) 6) (Syntax.tcons (Syntax.tyInt Syntax.w64) (Syntax.tcons (Syntax.tyInt Syntax.w32) (Syntax.tcons (Syntax.tyArray (Syntax.tyInt Syntax.w8) 11) (Syntax.tcons (Syntax.tyInt Syntax.w64) (Syntax.tcons (Syntax.tyInt Syntax.w64) Syntax.tnil)))))))))))) (Syntax.tcons (Syntax.tyInt Syntax.w64) Syntax.tnil))))) (List._∷_ (8, Rows'.any-gone (Syntax.tyEnum (List._∷_ 111 (List._∷_ 117 (List._∷_ 116 (List._∷_ 99 (List._∷_ 111 (List._∷_ 109 (List._∷_ 101 (List._∷_ 58 (List._∷_ 58 (List._∷_ 79 (List._∷_ 117 (List._∷_ 116 (List._∷_ 99 (List._∷_ 111 (List._∷_ 109 (List._∷_ 101 List.[])))))))))))))))) (Syntax.ttcons Syntax.tnil (Syntax.ttcons Syntax.tnil (Syntax.ttcons (Syntax.tcons (Syntax.tyInt Syntax.w64) (Syntax.tcons (Syntax.tyInt Syntax.w64) Syntax.tnil)) (Syntax.ttcons Syntax.tnil (Syntax.ttcons (Syntax.tcons (Syntax.tyInt Syntax.w16) Syntax.tnil) (Syntax.ttcons Syntax.tnil (Syntax.ttcons (Syntax.tcons (Syntax.tyInt Syntax.w64) Syntax.tnil) (Syntax.ttcons Syntax.tnil (Syntax.ttcons (Syntax.tcons (Syntax.tyInt Syntax.w16) Syntax.tnil) Syntax.ttnil))))))))))) (List._∷_ (9, Rows'.sc-here (Row.sInt Syntax.w64)) (List._∷_ (10, Rows'.whole (Declared'.row SqlCard.the-type)) (List._∷_ (11, Rows'.any-gone (Syntax.tyStruct (List._∷_ 116 (List._∷_ 97 (List._∷_ 98 (List._∷_ 108 (List._∷_ 101 (List._∷_ 95 (List._∷_ 111 (List._∷_ 117 (List._∷_ 116 (List._∷_ 112 (List._∷_ 117 (List._∷_ 116 (List._∷_ 58 (List._∷_ 58 (List._∷_ 114 (List._∷_ 111 (List._∷_ 119 (List._∷_ 115 (List._∷_ 58 (List._∷_ 58 (List._∷_ 87 (List._∷_ 105 (List._∷_ 100 (List._∷_ 116 (List._∷_ 104 (List._∷_ 115 List.[])))))))))))))))))))))))))) (Syntax.tcons (Syntax.tyInt Syntax.w64) (Syntax.tcons (Syntax.tyInt Syntax.w64) (Syntax.tcons (Syntax.tyInt Syntax.w64) (Syntax.tcons (Syntax.tyInt Syntax.w64) Syntax.tnil)))))) (List._∷_ (12, Rows'.any-gone (Syntax.tyInt Syntax.w64)) (List._∷_ (13, Rows'.any-gone (Syntax.tyRef Syntax.erased Syntax.mut (Syntax.tyArray ColumnMetadataRow.named 4096))) (List._∷_ (14, Rows'.any-gone (Syntax.tyStruct (List._∷_ 38 (List._∷_ 91 (List._∷_ 93 List.[]))) (Syntax.tcons (Syntax.tyRef Syntax.erased Syntax.mut ColumnMetadataRow.named) (Syntax.tcons (Syntax.tyInt Syntax.w64) Syntax.tnil)))) (List._∷_ (15, Rows'.any-gone Syntax.tyBool) List.[])))))))))))))))
 
 abbrev pub t28 : List.List Row.Entry
 t28 = List._∷_ (16, Rows'.any-gone (Syntax.tyRef Syntax.erased Syntax.mut (Syntax.tyInt Syntax.w8))) (List._∷_ (17, Rows'.any-gone (Syntax.tyStruct (List._∷_ 38 (List._∷_ 91 (List._∷_ 93 List.[]))) (Syntax.tcons (Syntax.tyRef Syntax.erased Syntax.mut (Syntax.tyInt Syntax.w8)) (Syntax.tcons (Syntax.tyInt Syntax.w64) Syntax.tnil)))) (List._∷_ (18, Relend.ssptr (ColumnMetadataRow.RT) (Syntax.tyRef Syntax.erased Syntax.imm (Syntax.tyArray ColumnMetadataRow.named 4096)) 5) (List._∷_ (19, Rows'.any-gone (Syntax.tyStruct (List._∷_ 38 (List._∷_ 91 (List._∷_ 93 List.[]))) (Syntax.tcons (Syntax.tyRef Syntax.erased Syntax.imm ColumnMetadataRow.named) (Syntax.tcons (Syntax.tyInt Syntax.w64) Syntax.tnil)))) (List._∷_ (20, Rows'.any-gone (Syntax.tyRef Syntax.erased Syntax.mut (Syntax.tyInt Syntax.w8))) (List._∷_ (21, Rows'.any-gone (Syntax.tyStruct (List._∷_ 38 (List._∷_ 91 (List._∷_ 93 List.[]))) (Syntax.tcons (Syntax.tyRef Syntax.erased Syntax.mut (Syntax.tyInt Syntax.w8)) (Syntax.tcons (Syntax.tyInt Syntax.w64) Syntax.tnil)))) (List._∷_ (22, Rows'.any-gone (Syntax.tyRef Syntax.erased Syntax.mut (Syntax.tyInt Syntax.w8))) (List._∷_ (23, Rows'.any-gone (Syntax.tyStruct (List._∷_ 38 (List._∷_ 91 (List._∷_ 93 List.[]))) (Syntax.tcons (Syntax.tyRef Syntax.erased Syntax.mut (Syntax.tyInt Syntax.w8)) (Syntax.tcons (Syntax.tyInt Syntax.w64) Syntax.tnil)))) (List._∷_ (24, Rows'.any-gone (Syntax.tyRef Syntax.erased Syntax.mut (Syntax.tyInt Syntax.w8))) (List._∷_ (25, Rows'.any-gone (Syntax.tyStruct (List._∷_ 38 (List._∷_ 91 (List._∷_ 93 List.[]))) (Syntax.tcons (Syntax.tyRef Syntax.erased Syntax.mut (Syntax.tyInt Syntax.w8)) (Syntax.tcons (Syntax.tyInt Syntax.w64) Syntax.tnil)))) (List._∷_ (26, Rows'.any-gone (Syntax.tyRef Syntax.erased Syntax.imm (Syntax.tyArray ColumnMetadataRow.named 4096))) (List._∷_ (27, Rows'.any-gone (Syntax.tyStruct (List._∷_ 38 (List._∷_ 91 (List._∷_ 93 List.[]))) (Syntax.tcons (Syntax.tyRef Syntax.erased Syntax.imm ColumnMetadataRow.named) (Syntax.tcons (Syntax.tyInt Syntax.w64) Syntax.tnil)))) List.[])))))))))))
@@ -399,13 +399,13 @@ abbrev pub t29 : List.List Row.Entry
 t29 = List._∷_ (16, Rows'.any-gone (Syntax.tyRef Syntax.erased Syntax.mut (Syntax.tyInt Syntax.w8))) (List._∷_ (17, Rows'.any-gone (Syntax.tyStruct (List._∷_ 38 (List._∷_ 91 (List._∷_ 93 List.[]))) (Syntax.tcons (Syntax.tyRef Syntax.erased Syntax.mut (Syntax.tyInt Syntax.w8)) (Syntax.tcons (Syntax.tyInt Syntax.w64) Syntax.tnil)))) (List._∷_ (18, Rows'.any-gone (Syntax.tyRef Syntax.erased Syntax.imm (Syntax.tyArray ColumnMetadataRow.named 4096))) (List._∷_ (19, Rows'.sslice (ColumnMetadataRow.RT) (Syntax.tyRef Syntax.erased Syntax.imm ColumnMetadataRow.named) 5) (List._∷_ (20, Rows'.any-gone (Syntax.tyRef Syntax.erased Syntax.mut (Syntax.tyInt Syntax.w8))) (List._∷_ (21, Rows'.any-gone (Syntax.tyStruct (List._∷_ 38 (List._∷_ 91 (List._∷_ 93 List.[]))) (Syntax.tcons (Syntax.tyRef Syntax.erased Syntax.mut (Syntax.tyInt Syntax.w8)) (Syntax.tcons (Syntax.tyInt Syntax.w64) Syntax.tnil)))) (List._∷_ (22, Rows'.any-gone (Syntax.tyRef Syntax.erased Syntax.mut (Syntax.tyInt Syntax.w8))) (List._∷_ (23, Rows'.any-gone (Syntax.tyStruct (List._∷_ 38 (List._∷_ 91 (List._∷_ 93 List.[]))) (Syntax.tcons (Syntax.tyRef Syntax.erased Syntax.mut (Syntax.tyInt Syntax.w8)) (Syntax.tcons (Syntax.tyInt Syntax.w64) Syntax.tnil)))) (List._∷_ (24, Rows'.any-gone (Syntax.tyRef Syntax.erased Syntax.mut (Syntax.tyInt Syntax.w8))) (List._∷_ (25, Rows'.any-gone (Syntax.tyStruct (List._∷_ 38 (List._∷_ 91 (List._∷_ 93 List.[]))) (Syntax.tcons (Syntax.tyRef Syntax.erased Syntax.mut (Syntax.tyInt Syntax.w8)) (Syntax.tcons (Syntax.tyInt Syntax.w64) Syntax.tnil)))) (List._∷_ (26, Rows'.any-gone (Syntax.tyRef Syntax.erased Syntax.imm (Syntax.tyArray ColumnMetadataRow.named 4096))) (List._∷_ (27, Rows'.any-gone (Syntax.tyStruct (List._∷_ 38 (List._∷_ 91 (List._∷_ 93 List.[]))) (Syntax.tcons (Syntax.tyRef Syntax.erased Syntax.imm ColumnMetadataRow.named) (Syntax.tcons (Syntax.tyInt Syntax.w64) Syntax.tnil)))) List.[])))))))))))
 
 abbrev pub t30 : List.List Row.Entry
-t30 = List._∷_ (0, Rows'.any-gone (Syntax.tyInt Syntax.w64)) (List._∷_ (1, Mut.mslice (Referent.rtF (Referent.fInt Syntax.w8)) (Syntax.tyRef (Syntax.named 0) Syntax.mut (Syntax.tyInt Syntax.w8)) 0) (List._∷_ (2, Rows'.sc-here (Row.sInt Syntax.w64)) (List._∷_ (3, Rows'.sslice (Referent.rtF (Referent.fInt Syntax.w8)) (Syntax.tyRef (Syntax.named 1) Syntax.imm (Syntax.tyInt Syntax.w8)) 1) (List._∷_ (4, Mut.mslice (Referent.rtF (Referent.fInt Syntax.w8)) (Syntax.tyRef (Syntax.named 2) Syntax.mut (Syntax.tyInt Syntax.w8)) 2) (List._∷_ (5, Rows'.any-gone (ColumnMetadataRow.ty)) (List._∷_ (6, Rows.arr-shrP (ColumnMetadataRow.RT) 4096 5) (List._∷_ (7, Rows'.any-gone (Syntax.tyStruct (List._∷_ 115 (List._∷_ 113 (List._∷_ 108 (List._∷_ 100 (List._∷_ 97 (List._∷_ 114 (List._∷_ 100 (List._∷_ 58 (List._∷_ 58 (List._∷_ 83 (List._∷_ 113 (List._∷_ 108 (List._∷_ 100 (List._∷_ 97 (List._∷_ 114 (List._∷_ 100 (List._∷_ 65 (List._∷_ 110 (List._∷_ 115 (List._∷_ 119 (List._∷_ 101 (List._∷_ 114 List.[])))))))))))))))))))))) (Syntax.tcons (Syntax.tyEnum (List._∷_ 111 (List._∷_ 117 (List._∷_ 116 (List._∷_ 99 (List._∷_ 111 (List._∷_ 109 (List._∷_ 101 (List._∷_ 58 (List._∷_ 58 (List._∷_ 79 (List._∷_ 117 (List._∷_ 116 (List._∷_ 99 (List._∷_ 111 (List._∷_ 109 (List._∷_ 101 List.[])))))))))))))))) (Syntax.ttcons Syntax.tnil (Syntax.ttcons Syntax.tnil (Syntax.ttcons (Syntax.tcons (Syntax.tyInt Syntax.w64) (Syntax.tcons (Syntax.tyInt Syntax.w64) Syntax.tnil)) (Syntax.ttcons Syntax.tnil (Syntax.ttcons (Syntax.tcons (Syntax.tyInt Syntax.w16) Syntax.tnil) (Syntax.ttcons Syntax.tnil (Syntax.ttcons (Syntax.tcons (Syntax.tyInt Syntax.w64) Syntax.tnil) (Syntax.ttcons Syntax.tnil Syntax.ttnil))))))))) (Syntax.tcons (Syntax.tyStruct (List._∷_ 115 (List._∷_ 113 (List._∷_ 108 (List._∷_ 99 (List._∷_ 97 (List._∷_ 114 (List._∷_ 100 (List._∷_ 58 (List._∷_ 58 (List._∷_ 83 (List._∷_ 113 (List._∷_ 108 (List._∷_ 67 (List._∷_ 97 (List._∷_ 114 (List._∷_ 100 List.[])))))))))))))))) (Syntax.tcons Syntax.tyBool (Syntax.tcons (Syntax.tyInt Syntax.w32) (Syntax.tcons (Syntax.tyArray (Syntax.tyInt Syntax.w8) 5) (Syntax.tcons (Syntax.tyArray (Syntax.tyInt Syntax.w8) 8) (Syntax.tcons (Syntax.tyInt Syntax.w8) (Syntax.tcons (Syntax.tyArray (Syntax.tyInt Syntax.w32) 6) (Syntax.tcons (Syntax.tyInt Syntax.w64) (Syntax.tcons (Syntax.tyInt Syntax.w32) (Syntax.tcons (Syntax.tyArray (Syntax.tyInt Syntax.w8) 11) (Syntax.tcons (Syntax.tyInt Syntax.w64) (Syntax.tcons (Syntax.tyInt Syntax.w64) Syntax.tnil)))))))))))) (Syntax.tcons (Syntax.tyInt Syntax.w64) Syntax.tnil))))) (List._∷_ (8, Rows'.any-gone (Syntax.tyEnum (List._∷_ 111 (List._∷_ 117 (List._∷_ 116 (List._∷_ 99 (List._∷_ 111 (List._∷_ 109 (List._∷_ 101 (List._∷_ 58 (List._∷_ 58 (List._∷_ 79 (List._∷_ 117 (List._∷_ 116 (List._∷_ 99 (List._∷_ 111 (List._∷_ 109 (List._∷_ 101 List.[])))))))))))))))) (Syntax.ttcons Syntax.tnil (Syntax.ttcons Syntax.tnil (Syntax.ttcons (Syntax.tcons (Syntax.tyInt Syntax.w64) (Syntax.tcons (Syntax.tyInt Syntax.w64) Syntax.tnil)) (Syntax.ttcons Syntax.tnil (Syntax.ttcons (Syntax.tcons (Syntax.tyInt Syntax.w16) Syntax.tnil) (Syntax.ttcons Syntax.tnil (Syntax.ttcons (Syntax.tcons (Syntax.tyInt Syntax.w64) Syntax.tnil) (Syntax.ttcons Syntax.tnil Syntax.ttnil)))))))))) (List._∷_ (9, Rows'.sc-here (Row.sInt Syntax.w64)) (List._∷_ (10, Rows'.whole (Declared'.row SqlCard.the-type)) (List._∷_ (11, Rows'.whole (Declared'.row Widths.the-type)) (List._∷_ (12, Rows'.any-gone (Syntax.tyInt Syntax.w64)) (List._∷_ (13, Rows'.any-gone (Syntax.tyRef Syntax.erased Syntax.mut (Syntax.tyArray ColumnMetadataRow.named 4096))) (List._∷_ (14, Rows'.any-gone (Syntax.tyStruct (List._∷_ 38 (List._∷_ 91 (List._∷_ 93 List.[]))) (Syntax.tcons (Syntax.tyRef Syntax.erased Syntax.mut ColumnMetadataRow.named) (Syntax.tcons (Syntax.tyInt Syntax.w64) Syntax.tnil)))) (List._∷_ (15, Rows'.any-gone Syntax.tyBool) List.[])))))))))))))))
+t30 = List._∷_ (0, Rows'.any-gone (Syntax.tyInt Syntax.w64)) (List._∷_ (1, Mut.mslice (Referent.rtF (Referent.fInt Syntax.w8)) (Syntax.tyRef (Syntax.named 0) Syntax.mut (Syntax.tyInt Syntax.w8)) 0) (List._∷_ (2, Rows'.sc-here (Row.sInt Syntax.w64)) (List._∷_ (3, Rows'.sslice (Referent.rtF (Referent.fInt Syntax.w8)) (Syntax.tyRef (Syntax.named 1) Syntax.imm (Syntax.tyInt Syntax.w8)) 1) (List._∷_ (4, Mut.mslice (Referent.rtF (Referent.fInt Syntax.w8)) (Syntax.tyRef (Syntax.named 2) Syntax.mut (Syntax.tyInt Syntax.w8)) 2) (List._∷_ (5, Rows'.any-gone (ColumnMetadataRow.ty)) (List._∷_ (6, Rows.arr-shrP (ColumnMetadataRow.RT) 4096 5) (List._∷_ (7, Rows'.any-gone (Syntax.tyStruct (List._∷_ 115 (List._∷_ 113 (List._∷_ 108 (List._∷_ 100 (List._∷_ 97 (List._∷_ 114 (List._∷_ 100 (List._∷_ 58 (List._∷_ 58 (List._∷_ 83 (List._∷_ 113 (List._∷_ 108 (List._∷_ 100 (List._∷_ 97 (List._∷_ 114 (List._∷_ 100 (List._∷_ 65 (List._∷_ 110 (List._∷_ 115 (List._∷_ 119 (List._∷_ 101 (List._∷_ 114 List.[])))))))))))))))))))))) (Syntax.tcons (Syntax.tyEnum (List._∷_ 111 (List._∷_ 117 (List._∷_ 116 (List._∷_ 99 (List._∷_ 111 (List._∷_ 109 (List._∷_ 101 (List._∷_ 58 (List._∷_ 58 (List._∷_ 79 (List._∷_ 117 (List._∷_ 116 (List._∷_ 99 (List._∷_ 111 (List._∷_ 109 (List._∷_ 101 List.[])))))))))))))))) (Syntax.ttcons Syntax.tnil (Syntax.ttcons Syntax.tnil (Syntax.ttcons (Syntax.tcons (Syntax.tyInt Syntax.w64) (Syntax.tcons (Syntax.tyInt Syntax.w64) Syntax.tnil)) (Syntax.ttcons Syntax.tnil (Syntax.ttcons (Syntax.tcons (Syntax.tyInt Syntax.w16) Syntax.tnil) (Syntax.ttcons Syntax.tnil (Syntax.ttcons (Syntax.tcons (Syntax.tyInt Syntax.w64) Syntax.tnil) (Syntax.ttcons Syntax.tnil (Syntax.ttcons (Syntax.tcons (Syntax.tyInt Syntax.w16) Syntax.tnil) Syntax.ttnil)))))))))) (Syntax.tcons (Syntax.tyStruct (List._∷_ 115 (List._∷_ 113 (List._∷_ 108 (List._∷_ 99 (List._∷_ 97 (List._∷_ 114 (List._∷_ 100 (List._∷_ 58 (List._∷_ 58 (List._∷_ 83 (List._∷_ 113 (List._∷_ 108 (List._∷_ 67 (List._∷_ 97 (List._∷_ 114 (List._∷_ 100 List.[])))))))))))))))) (Syntax.tcons Syntax.tyBool (Syntax.tcons (Syntax.tyInt Syntax.w32) (Syntax.tcons (Syntax.tyArray (Syntax.tyInt Syntax.w8) 5) (Syntax.tcons (Syntax.tyArray (Syntax.tyInt Syntax.w8) 8) (Syntax.tcons (Syntax.tyInt Syntax.w8) (Syntax.tcons (Syntax.tyArray (Syntax.tyInt Syntax.w32) 6) (Syntax.tcons (Syntax.tyInt Syntax.w64) (Syntax.tcons (Syntax.tyInt Syntax.w32) (Syntax.tcons (Syntax.tyArray (Syntax.tyInt Syntax.w8) 11) (Syntax.tcons (Syntax.tyInt Syntax.w64) (Syntax.tcons (Syntax.tyInt Syntax.w64) Syntax.tnil)))))))))))) (Syntax.tcons (Syntax.tyInt Syntax.w64) Syntax.tnil))))) (List._∷_ (8, Rows'.any-gone (Syntax.tyEnum (List._∷_ 111 (List._∷_ 117 (List._∷_ 116 (List._∷_ 99 (List._∷_ 111 (List._∷_ 109 (List._∷_ 101 (List._∷_ 58 (List._∷_ 58 (List._∷_ 79 (List._∷_ 117 (List._∷_ 116 (List._∷_ 99 (List._∷_ 111 (List._∷_ 109 (List._∷_ 101 List.[])))))))))))))))) (Syntax.ttcons Syntax.tnil (Syntax.ttcons Syntax.tnil (Syntax.ttcons (Syntax.tcons (Syntax.tyInt Syntax.w64) (Syntax.tcons (Syntax.tyInt Syntax.w64) Syntax.tnil)) (Syntax.ttcons Syntax.tnil (Syntax.ttcons (Syntax.tcons (Syntax.tyInt Syntax.w16) Syntax.tnil) (Syntax.ttcons Syntax.tnil (Syntax.ttcons (Syntax.tcons (Syntax.tyInt Syntax.w64) Syntax.tnil) (Syntax.ttcons Syntax.tnil (Syntax.ttcons (Syntax.tcons (Syntax.tyInt Syntax.w16) Syntax.tnil) Syntax.ttnil))))))))))) (List._∷_ (9, Rows'.sc-here (Row.sInt Syntax.w64)) (List._∷_ (10, Rows'.whole (Declared'.row SqlCard.the-type)) (List._∷_ (11, Rows'.whole (Declared'.row Widths.the-type)) (List._∷_ (12, Rows'.any-gone (Syntax.tyInt Syntax.w64)) (List._∷_ (13, Rows'.any-gone (Syntax.tyRef Syntax.erased Syntax.mut (Syntax.tyArray ColumnMetadataRow.named 4096))) (List._∷_ (14, Rows'.any-gone (Syntax.tyStruct (List._∷_ 38 (List._∷_ 91 (List._∷_ 93 List.[]))) (Syntax.tcons (Syntax.tyRef Syntax.erased Syntax.mut ColumnMetadataRow.named) (Syntax.tcons (Syntax.tyInt Syntax.w64) Syntax.tnil)))) (List._∷_ (15, Rows'.any-gone Syntax.tyBool) List.[])))))))))))))))
 
 abbrev pub t31 : List.List Row.Entry
-t31 = List._∷_ (0, Rows'.any-gone (Syntax.tyInt Syntax.w64)) (List._∷_ (1, Mut.mslice (Referent.rtF (Referent.fInt Syntax.w8)) (Syntax.tyRef (Syntax.named 0) Syntax.mut (Syntax.tyInt Syntax.w8)) 0) (List._∷_ (2, Rows'.sc-here (Row.sInt Syntax.w64)) (List._∷_ (3, Rows'.sslice (Referent.rtF (Referent.fInt Syntax.w8)) (Syntax.tyRef (Syntax.named 1) Syntax.imm (Syntax.tyInt Syntax.w8)) 1) (List._∷_ (4, Mut.mslice (Referent.rtF (Referent.fInt Syntax.w8)) (Syntax.tyRef (Syntax.named 2) Syntax.mut (Syntax.tyInt Syntax.w8)) 2) (List._∷_ (5, Rows'.any-gone (ColumnMetadataRow.ty)) (List._∷_ (6, Rows.arrF (ColumnMetadataRow.RT) 4096 0) (List._∷_ (7, Rows'.any-gone (Syntax.tyStruct (List._∷_ 115 (List._∷_ 113 (List._∷_ 108 (List._∷_ 100 (List._∷_ 97 (List._∷_ 114 (List._∷_ 100 (List._∷_ 58 (List._∷_ 58 (List._∷_ 83 (List._∷_ 113 (List._∷_ 108 (List._∷_ 100 (List._∷_ 97 (List._∷_ 114 (List._∷_ 100 (List._∷_ 65 (List._∷_ 110 (List._∷_ 115 (List._∷_ 119 (List._∷_ 101 (List._∷_ 114 List.[])))))))))))))))))))))) (Syntax.tcons (Syntax.tyEnum (List._∷_ 111 (List._∷_ 117 (List._∷_ 116 (List._∷_ 99 (List._∷_ 111 (List._∷_ 109 (List._∷_ 101 (List._∷_ 58 (List._∷_ 58 (List._∷_ 79 (List._∷_ 117 (List._∷_ 116 (List._∷_ 99 (List._∷_ 111 (List._∷_ 109 (List._∷_ 101 List.[])))))))))))))))) (Syntax.ttcons Syntax.tnil (Syntax.ttcons Syntax.tnil (Syntax.ttcons (Syntax.tcons (Syntax.tyInt Syntax.w64) (Syntax.tcons (Syntax.tyInt Syntax.w64) Syntax.tnil)) (Syntax.ttcons Syntax.tnil (Syntax.ttcons (Syntax.tcons (Syntax.tyInt Syntax.w16) Syntax.tnil) (Syntax.ttcons Syntax.tnil (Syntax.ttcons (Syntax.tcons (Syntax.tyInt Syntax.w64) Syntax.tnil) (Syntax.ttcons Syntax.tnil Syntax.ttnil))))))))) (Syntax.tcons (Syntax.tyStruct (List._∷_ 115 (List._∷_ 113 (List._∷_ 108 (List._∷_ 99 (List._∷_ 97 (List._∷_ 114 (List._∷_ 100 (List._∷_ 58 (List._∷_ 58 (List._∷_ 83 (List._∷_ 113 (List._∷_ 108 (List._∷_ 67 (List._∷_ 97 (List._∷_ 114 (List._∷_ 100 List.[])))))))))))))))) (Syntax.tcons Syntax.tyBool (Syntax.tcons (Syntax.tyInt Syntax.w32) (Syntax.tcons (Syntax.tyArray (Syntax.tyInt Syntax.w8) 5) (Syntax.tcons (Syntax.tyArray (Syntax.tyInt Syntax.w8) 8) (Syntax.tcons (Syntax.tyInt Syntax.w8) (Syntax.tcons (Syntax.tyArray (Syntax.tyInt Syntax.w32) 6) (Syntax.tcons (Syntax.tyInt Syntax.w64) (Syntax.tcons (Syntax.tyInt Syntax.w32) (Syntax.tcons (Syntax.tyArray (Syntax.tyInt Syntax.w8) 11) (Syntax.tcons (Syntax.tyInt Syntax.w64) (Syntax.tcons (Syntax.tyInt Syntax.w64) Syntax.tnil)))))))))))) (Syntax.tcons (Syntax.tyInt Syntax.w64) Syntax.tnil))))) (List._∷_ (8, Rows'.any-gone (Syntax.tyEnum (List._∷_ 111 (List._∷_ 117 (List._∷_ 116 (List._∷_ 99 (List._∷_ 111 (List._∷_ 109 (List._∷_ 101 (List._∷_ 58 (List._∷_ 58 (List._∷_ 79 (List._∷_ 117 (List._∷_ 116 (List._∷_ 99 (List._∷_ 111 (List._∷_ 109 (List._∷_ 101 List.[])))))))))))))))) (Syntax.ttcons Syntax.tnil (Syntax.ttcons Syntax.tnil (Syntax.ttcons (Syntax.tcons (Syntax.tyInt Syntax.w64) (Syntax.tcons (Syntax.tyInt Syntax.w64) Syntax.tnil)) (Syntax.ttcons Syntax.tnil (Syntax.ttcons (Syntax.tcons (Syntax.tyInt Syntax.w16) Syntax.tnil) (Syntax.ttcons Syntax.tnil (Syntax.ttcons (Syntax.tcons (Syntax.tyInt Syntax.w64) Syntax.tnil) (Syntax.ttcons Syntax.tnil Syntax.ttnil)))))))))) (List._∷_ (9, Rows'.sc-here (Row.sInt Syntax.w64)) (List._∷_ (10, Rows'.whole (Declared'.row SqlCard.the-type)) (List._∷_ (11, Rows'.whole (Declared'.row Widths.the-type)) (List._∷_ (12, Rows'.any-gone (Syntax.tyInt Syntax.w64)) (List._∷_ (13, Rows'.any-gone (Syntax.tyRef Syntax.erased Syntax.mut (Syntax.tyArray ColumnMetadataRow.named 4096))) (List._∷_ (14, Rows'.any-gone (Syntax.tyStruct (List._∷_ 38 (List._∷_ 91 (List._∷_ 93 List.[]))) (Syntax.tcons (Syntax.tyRef Syntax.erased Syntax.mut ColumnMetadataRow.named) (Syntax.tcons (Syntax.tyInt Syntax.w64) Syntax.tnil)))) (List._∷_ (15, Rows'.any-gone Syntax.tyBool) List.[])))))))))))))))
+t31 = List._∷_ (0, Rows'.any-gone (Syntax.tyInt Syntax.w64)) (List._∷_ (1, Mut.mslice (Referent.rtF (Referent.fInt Syntax.w8)) (Syntax.tyRef (Syntax.named 0) Syntax.mut (Syntax.tyInt Syntax.w8)) 0) (List._∷_ (2, Rows'.sc-here (Row.sInt Syntax.w64)) (List._∷_ (3, Rows'.sslice (Referent.rtF (Referent.fInt Syntax.w8)) (Syntax.tyRef (Syntax.named 1) Syntax.imm (Syntax.tyInt Syntax.w8)) 1) (List._∷_ (4, Mut.mslice (Referent.rtF (Referent.fInt Syntax.w8)) (Syntax.tyRef (Syntax.named 2) Syntax.mut (Syntax.tyInt Syntax.w8)) 2) (List._∷_ (5, Rows'.any-gone (ColumnMetadataRow.ty)) (List._∷_ (6, Rows.arrF (ColumnMetadataRow.RT) 4096 0) (List._∷_ (7, Rows'.any-gone (Syntax.tyStruct (List._∷_ 115 (List._∷_ 113 (List._∷_ 108 (List._∷_ 100 (List._∷_ 97 (List._∷_ 114 (List._∷_ 100 (List._∷_ 58 (List._∷_ 58 (List._∷_ 83 (List._∷_ 113 (List._∷_ 108 (List._∷_ 100 (List._∷_ 97 (List._∷_ 114 (List._∷_ 100 (List._∷_ 65 (List._∷_ 110 (List._∷_ 115 (List._∷_ 119 (List._∷_ 101 (List._∷_ 114 List.[])))))))))))))))))))))) (Syntax.tcons (Syntax.tyEnum (List._∷_ 111 (List._∷_ 117 (List._∷_ 116 (List._∷_ 99 (List._∷_ 111 (List._∷_ 109 (List._∷_ 101 (List._∷_ 58 (List._∷_ 58 (List._∷_ 79 (List._∷_ 117 (List._∷_ 116 (List._∷_ 99 (List._∷_ 111 (List._∷_ 109 (List._∷_ 101 List.[])))))))))))))))) (Syntax.ttcons Syntax.tnil (Syntax.ttcons Syntax.tnil (Syntax.ttcons (Syntax.tcons (Syntax.tyInt Syntax.w64) (Syntax.tcons (Syntax.tyInt Syntax.w64) Syntax.tnil)) (Syntax.ttcons Syntax.tnil (Syntax.ttcons (Syntax.tcons (Syntax.tyInt Syntax.w16) Syntax.tnil) (Syntax.ttcons Syntax.tnil (Syntax.ttcons (Syntax.tcons (Syntax.tyInt Syntax.w64) Syntax.tnil) (Syntax.ttcons Syntax.tnil (Syntax.ttcons (Syntax.tcons (Syntax.tyInt Syntax.w16) Syntax.tnil) Syntax.ttnil)))))))))) (Syntax.tcons (Syntax.tyStruct (List._∷_ 115 (List._∷_ 113 (List._∷_ 108 (List._∷_ 99 (List._∷_ 97 (List._∷_ 114 (List._∷_ 100 (List._∷_ 58 (List._∷_ 58 (List._∷_ 83 (List._∷_ 113 (List._∷_ 108 (List._∷_ 67 (List._∷_ 97 (List._∷_ 114 (List._∷_ 100 List.[])))))))))))))))) (Syntax.tcons Syntax.tyBool (Syntax.tcons (Syntax.tyInt Syntax.w32) (Syntax.tcons (Syntax.tyArray (Syntax.tyInt Syntax.w8) 5) (Syntax.tcons (Syntax.tyArray (Syntax.tyInt Syntax.w8) 8) (Syntax.tcons (Syntax.tyInt Syntax.w8) (Syntax.tcons (Syntax.tyArray (Syntax.tyInt Syntax.w32) 6) (Syntax.tcons (Syntax.tyInt Syntax.w64) (Syntax.tcons (Syntax.tyInt Syntax.w32) (Syntax.tcons (Syntax.tyArray (Syntax.tyInt Syntax.w8) 11) (Syntax.tcons (Syntax.tyInt Syntax.w64) (Syntax.tcons (Syntax.tyInt Syntax.w64) Syntax.tnil)))))))))))) (Syntax.tcons (Syntax.tyInt Syntax.w64) Syntax.tnil))))) (List._∷_ (8, Rows'.any-gone (Syntax.tyEnum (List._∷_ 111 (List._∷_ 117 (List._∷_ 116 (List._∷_ 99 (List._∷_ 111 (List._∷_ 109 (List._∷_ 101 (List._∷_ 58 (List._∷_ 58 (List._∷_ 79 (List._∷_ 117 (List._∷_ 116 (List._∷_ 99 (List._∷_ 111 (List._∷_ 109 (List._∷_ 101 List.[])))))))))))))))) (Syntax.ttcons Syntax.tnil (Syntax.ttcons Syntax.tnil (Syntax.ttcons (Syntax.tcons (Syntax.tyInt Syntax.w64) (Syntax.tcons (Syntax.tyInt Syntax.w64) Syntax.tnil)) (Syntax.ttcons Syntax.tnil (Syntax.ttcons (Syntax.tcons (Syntax.tyInt Syntax.w16) Syntax.tnil) (Syntax.ttcons Syntax.tnil (Syntax.ttcons (Syntax.tcons (Syntax.tyInt Syntax.w64) Syntax.tnil) (Syntax.ttcons Syntax.tnil (Syntax.ttcons (Syntax.tcons (Syntax.tyInt Syntax.w16) Syntax.tnil) Syntax.ttnil))))))))))) (List._∷_ (9, Rows'.sc-here (Row.sInt Syntax.w64)) (List._∷_ (10, Rows'.whole (Declared'.row SqlCard.the-type)) (List._∷_ (11, Rows'.whole (Declared'.row Widths.the-type)) (List._∷_ (12, Rows'.any-gone (Syntax.tyInt Syntax.w64)) (List._∷_ (13, Rows'.any-gone (Syntax.tyRef Syntax.erased Syntax.mut (Syntax.tyArray ColumnMetadataRow.named 4096))) (List._∷_ (14, Rows'.any-gone (Syntax.tyStruct (List._∷_ 38 (List._∷_ 91 (List._∷_ 93 List.[]))) (Syntax.tcons (Syntax.tyRef Syntax.erased Syntax.mut ColumnMetadataRow.named) (Syntax.tcons (Syntax.tyInt Syntax.w64) Syntax.tnil)))) (List._∷_ (15, Rows'.any-gone Syntax.tyBool) List.[])))))))))))))))
 
 abbrev pub t32 : List.List Row.Entry
-t32 = List._∷_ (0, Rows'.any-gone (Syntax.tyInt Syntax.w64)) (List._∷_ (1, Relend.mslice-owed (Referent.rtF (Referent.fInt Syntax.w8)) (Syntax.tyRef (Syntax.named 0) Syntax.mut (Syntax.tyInt Syntax.w8)) 0 6 Row.off) (List._∷_ (2, Rows'.sc-here (Row.sInt Syntax.w64)) (List._∷_ (3, Rows'.sslice (Referent.rtF (Referent.fInt Syntax.w8)) (Syntax.tyRef (Syntax.named 1) Syntax.imm (Syntax.tyInt Syntax.w8)) 1) (List._∷_ (4, Mut.mslice (Referent.rtF (Referent.fInt Syntax.w8)) (Syntax.tyRef (Syntax.named 2) Syntax.mut (Syntax.tyInt Syntax.w8)) 2) (List._∷_ (5, Rows'.any-gone (ColumnMetadataRow.ty)) (List._∷_ (6, Rows.arrF (ColumnMetadataRow.RT) 4096 0) (List._∷_ (7, Rows'.any-gone (Syntax.tyStruct (List._∷_ 115 (List._∷_ 113 (List._∷_ 108 (List._∷_ 100 (List._∷_ 97 (List._∷_ 114 (List._∷_ 100 (List._∷_ 58 (List._∷_ 58 (List._∷_ 83 (List._∷_ 113 (List._∷_ 108 (List._∷_ 100 (List._∷_ 97 (List._∷_ 114 (List._∷_ 100 (List._∷_ 65 (List._∷_ 110 (List._∷_ 115 (List._∷_ 119 (List._∷_ 101 (List._∷_ 114 List.[])))))))))))))))))))))) (Syntax.tcons (Syntax.tyEnum (List._∷_ 111 (List._∷_ 117 (List._∷_ 116 (List._∷_ 99 (List._∷_ 111 (List._∷_ 109 (List._∷_ 101 (List._∷_ 58 (List._∷_ 58 (List._∷_ 79 (List._∷_ 117 (List._∷_ 116 (List._∷_ 99 (List._∷_ 111 (List._∷_ 109 (List._∷_ 101 List.[])))))))))))))))) (Syntax.ttcons Syntax.tnil (Syntax.ttcons Syntax.tnil (Syntax.ttcons (Syntax.tcons (Syntax.tyInt Syntax.w64) (Syntax.tcons (Syntax.tyInt Syntax.w64) Syntax.tnil)) (Syntax.ttcons Syntax.tnil (Syntax.ttcons (Syntax.tcons (Syntax.tyInt Syntax.w16) Syntax.tnil) (Syntax.ttcons Syntax.tnil (Syntax.ttcons (Syntax.tcons (Syntax.tyInt Syntax.w64) Syntax.tnil) (Syntax.ttcons Syntax.tnil Syntax.ttnil))))))))) (Syntax.tcons (Syntax.tyStruct (List._∷_ 115 (List._∷_ 113 (List._∷_ 108 (List._∷_ 99 (List._∷_ 97 (List._∷_ 114 (List._∷_ 100 (List._∷_ 58 (List._∷_ 58 (List._∷_ 83 (List._∷_ 113 (List._∷_ 108 (List._∷_ 67 (List._∷_ 97 (List._∷_ 114 (List._∷_ 100 List.[])))))))))))))))) (Syntax.tcons Syntax.tyBool (Syntax.tcons (Syntax.tyInt Syntax.w32) (Syntax.tcons (Syntax.tyArray (Syntax.tyInt Syntax.w8) 5) (Syntax.tcons (Syntax.tyArray (Syntax.tyInt Syntax.w8) 8) (Syntax.tcons (Syntax.tyInt Syntax.w8) (Syntax.tcons (Syntax.tyArray (Syntax.tyInt Syntax.w32) 6) (Syntax.tcons (Syntax.tyInt Syntax.w64) (Syntax.tcons (Syntax.tyInt Syntax.w32) (Syntax.tcons (Syntax.tyArray (Syntax.tyInt Syntax.w8) 11) (Syntax.tcons (Syntax.tyInt Syntax.w64) (Syntax.tcons (Syntax.tyInt Syntax.w64) Syntax.tnil)))))))))))) (Syntax.tcons (Syntax.tyInt Syntax.w64) Syntax.tnil))))) (List._∷_ (8, Rows'.any-gone (Syntax.tyEnum (List._∷_ 111 (List._∷_ 117 (List._∷_ 116 (List._∷_ 99 (List._∷_ 111 (List._∷_ 109 (List._∷_ 101 (List._∷_ 58 (List._∷_ 58 (List._∷_ 79 (List._∷_ 117 (List._∷_ 116 (List._∷_ 99 (List._∷_ 111 (List._∷_ 109 (List._∷_ 101 List.[])))))))))))))))) (Syntax.ttcons Syntax.tnil (Syntax.ttcons Syntax.tnil (Syntax.ttcons (Syntax.tcons (Syntax.tyInt Syntax.w64) (Syntax.tcons (Syntax.tyInt Syntax.w64) Syntax.tnil)) (Syntax.ttcons Syntax.tnil (Syntax.ttcons (Syntax.tcons (Syntax.tyInt Syntax.w16) Syntax.tnil) (Syntax.ttcons Syntax.tnil (Syntax.ttcons (Syntax.tcons (Syntax.tyInt Syntax.w64) Syntax.tnil) (Syntax.ttcons Syntax.tnil Syntax.ttnil)))))))))) (List._∷_ (9, Rows'.sc-here (Row.sInt Syntax.w64)) (List._∷_ (10, Rows'.whole (Declared'.row SqlCard.the-type)) (List._∷_ (11, Rows'.whole (Declared'.row Widths.the-type)) (List._∷_ (12, Rows'.any-gone (Syntax.tyInt Syntax.w64)) (List._∷_ (13, Rows'.any-gone (Syntax.tyRef Syntax.erased Syntax.mut (Syntax.tyArray ColumnMetadataRow.named 4096))) (List._∷_ (14, Rows'.any-gone (Syntax.tyStruct (List._∷_ 38 (List._∷_ 91 (List._∷_ 93 List.[]))) (Syntax.tcons (Syntax.tyRef Syntax.erased Syntax.mut ColumnMetadataRow.named) (Syntax.tcons (Syntax.tyInt Syntax.w64) Syntax.tnil)))) (List._∷_ (15, Rows'.any-gone Syntax.tyBool) List.[])))))))))))))))
+t32 = List._∷_ (0, Rows'.any-gone (Syntax.tyInt Syntax.w64)) (List._∷_ (1, Relend.mslice-owed (Referent.rtF (Referent.fInt Syntax.w8)) (Syntax.tyRef (Syntax.named 0) Syntax.mut (Syntax.tyInt Syntax.w8)) 0 6 Row.off) (List._∷_ (2, Rows'.sc-here (Row.sInt Syntax.w64)) (List._∷_ (3, Rows'.sslice (Referent.rtF (Referent.fInt Syntax.w8)) (Syntax.tyRef (Syntax.named 1) Syntax.imm (Syntax.tyInt Syntax.w8)) 1) (List._∷_ (4, Mut.mslice (Referent.rtF (Referent.fInt Syntax.w8)) (Syntax.tyRef (Syntax.named 2) Syntax.mut (Syntax.tyInt Syntax.w8)) 2) (List._∷_ (5, Rows'.any-gone (ColumnMetadataRow.ty)) (List._∷_ (6, Rows.arrF (ColumnMetadataRow.RT) 4096 0) (List._∷_ (7, Rows'.any-gone (Syntax.tyStruct (List._∷_ 115 (List._∷_ 113 (List._∷_ 108 (List._∷_ 100 (List._∷_ 97 (List._∷_ 114 (List._∷_ 100 (List._∷_ 58 (List._∷_ 58 (List._∷_ 83 (List._∷_ 113 (List._∷_ 108 (List._∷_ 100 (List._∷_ 97 (List._∷_ 114 (List._∷_ 100 (List._∷_ 65 (List._∷_ 110 (List._∷_ 115 (List._∷_ 119 (List._∷_ 101 (List._∷_ 114 List.[])))))))))))))))))))))) (Syntax.tcons (Syntax.tyEnum (List._∷_ 111 (List._∷_ 117 (List._∷_ 116 (List._∷_ 99 (List._∷_ 111 (List._∷_ 109 (List._∷_ 101 (List._∷_ 58 (List._∷_ 58 (List._∷_ 79 (List._∷_ 117 (List._∷_ 116 (List._∷_ 99 (List._∷_ 111 (List._∷_ 109 (List._∷_ 101 List.[])))))))))))))))) (Syntax.ttcons Syntax.tnil (Syntax.ttcons Syntax.tnil (Syntax.ttcons (Syntax.tcons (Syntax.tyInt Syntax.w64) (Syntax.tcons (Syntax.tyInt Syntax.w64) Syntax.tnil)) (Syntax.ttcons Syntax.tnil (Syntax.ttcons (Syntax.tcons (Syntax.tyInt Syntax.w16) Syntax.tnil) (Syntax.ttcons Syntax.tnil (Syntax.ttcons (Syntax.tcons (Syntax.tyInt Syntax.w64) Syntax.tnil) (Syntax.ttcons Syntax.tnil (Syntax.ttcons (Syntax.tcons (Syntax.tyInt Syntax.w16) Syntax.tnil) Syntax.ttnil)))))))))) (Syntax.tcons (Syntax.tyStruct (List._∷_ 115 (List._∷_ 113 (List._∷_ 108 (List._∷_ 99 (List._∷_ 97 (List._∷_ 114 (List._∷_ 100 (List._∷_ 58 (List._∷_ 58 (List._∷_ 83 (List._∷_ 113 (List._∷_ 108 (List._∷_ 67 (List._∷_ 97 (List._∷_ 114 (List._∷_ 100 List.[])))))))))))))))) (Syntax.tcons Syntax.tyBool (Syntax.tcons (Syntax.tyInt Syntax.w32) (Syntax.tcons (Syntax.tyArray (Syntax.tyInt Syntax.w8) 5) (Syntax.tcons (Syntax.tyArray (Syntax.tyInt Syntax.w8) 8) (Syntax.tcons (Syntax.tyInt Syntax.w8) (Syntax.tcons (Syntax.tyArray (Syntax.tyInt Syntax.w32) 6) (Syntax.tcons (Syntax.tyInt Syntax.w64) (Syntax.tcons (Syntax.tyInt Syntax.w32) (Syntax.tcons (Syntax.tyArray (Syntax.tyInt Syntax.w8) 11) (Syntax.tcons (Syntax.tyInt Syntax.w64) (Syntax.tcons (Syntax.tyInt Syntax.w64) Syntax.tnil)))))))))))) (Syntax.tcons (Syntax.tyInt Syntax.w64) Syntax.tnil))))) (List._∷_ (8, Rows'.any-gone (Syntax.tyEnum (List._∷_ 111 (List._∷_ 117 (List._∷_ 116 (List._∷_ 99 (List._∷_ 111 (List._∷_ 109 (List._∷_ 101 (List._∷_ 58 (List._∷_ 58 (List._∷_ 79 (List._∷_ 117 (List._∷_ 116 (List._∷_ 99 (List._∷_ 111 (List._∷_ 109 (List._∷_ 101 List.[])))))))))))))))) (Syntax.ttcons Syntax.tnil (Syntax.ttcons Syntax.tnil (Syntax.ttcons (Syntax.tcons (Syntax.tyInt Syntax.w64) (Syntax.tcons (Syntax.tyInt Syntax.w64) Syntax.tnil)) (Syntax.ttcons Syntax.tnil (Syntax.ttcons (Syntax.tcons (Syntax.tyInt Syntax.w16) Syntax.tnil) (Syntax.ttcons Syntax.tnil (Syntax.ttcons (Syntax.tcons (Syntax.tyInt Syntax.w64) Syntax.tnil) (Syntax.ttcons Syntax.tnil (Syntax.ttcons (Syntax.tcons (Syntax.tyInt Syntax.w16) Syntax.tnil) Syntax.ttnil))))))))))) (List._∷_ (9, Rows'.sc-here (Row.sInt Syntax.w64)) (List._∷_ (10, Rows'.whole (Declared'.row SqlCard.the-type)) (List._∷_ (11, Rows'.whole (Declared'.row Widths.the-type)) (List._∷_ (12, Rows'.any-gone (Syntax.tyInt Syntax.w64)) (List._∷_ (13, Rows'.any-gone (Syntax.tyRef Syntax.erased Syntax.mut (Syntax.tyArray ColumnMetadataRow.named 4096))) (List._∷_ (14, Rows'.any-gone (Syntax.tyStruct (List._∷_ 38 (List._∷_ 91 (List._∷_ 93 List.[]))) (Syntax.tcons (Syntax.tyRef Syntax.erased Syntax.mut ColumnMetadataRow.named) (Syntax.tcons (Syntax.tyInt Syntax.w64) Syntax.tnil)))) (List._∷_ (15, Rows'.any-gone Syntax.tyBool) List.[])))))))))))))))
 
 abbrev pub t33 : List.List Row.Entry
 t33 = List._∷_ (16, Rows'.any-gone (Syntax.tyRef Syntax.erased Syntax.mut (Syntax.tyInt Syntax.w8))) (List._∷_ (17, Rows'.any-gone (Syntax.tyStruct (List._∷_ 38 (List._∷_ 91 (List._∷_ 93 List.[]))) (Syntax.tcons (Syntax.tyRef Syntax.erased Syntax.mut (Syntax.tyInt Syntax.w8)) (Syntax.tcons (Syntax.tyInt Syntax.w64) Syntax.tnil)))) (List._∷_ (18, Rows'.any-gone (Syntax.tyRef Syntax.erased Syntax.imm (Syntax.tyArray ColumnMetadataRow.named 4096))) (List._∷_ (19, Rows'.any-gone (Syntax.tyStruct (List._∷_ 38 (List._∷_ 91 (List._∷_ 93 List.[]))) (Syntax.tcons (Syntax.tyRef Syntax.erased Syntax.imm ColumnMetadataRow.named) (Syntax.tcons (Syntax.tyInt Syntax.w64) Syntax.tnil)))) (List._∷_ (20, Relend.msptr (Referent.rtF (Referent.fInt Syntax.w8)) (Syntax.tyRef Syntax.erased Syntax.mut (Syntax.tyInt Syntax.w8)) 6) (List._∷_ (21, Rows'.any-gone (Syntax.tyStruct (List._∷_ 38 (List._∷_ 91 (List._∷_ 93 List.[]))) (Syntax.tcons (Syntax.tyRef Syntax.erased Syntax.mut (Syntax.tyInt Syntax.w8)) (Syntax.tcons (Syntax.tyInt Syntax.w64) Syntax.tnil)))) (List._∷_ (22, Rows'.any-gone (Syntax.tyRef Syntax.erased Syntax.mut (Syntax.tyInt Syntax.w8))) (List._∷_ (23, Rows'.any-gone (Syntax.tyStruct (List._∷_ 38 (List._∷_ 91 (List._∷_ 93 List.[]))) (Syntax.tcons (Syntax.tyRef Syntax.erased Syntax.mut (Syntax.tyInt Syntax.w8)) (Syntax.tcons (Syntax.tyInt Syntax.w64) Syntax.tnil)))) (List._∷_ (24, Rows'.any-gone (Syntax.tyRef Syntax.erased Syntax.mut (Syntax.tyInt Syntax.w8))) (List._∷_ (25, Rows'.any-gone (Syntax.tyStruct (List._∷_ 38 (List._∷_ 91 (List._∷_ 93 List.[]))) (Syntax.tcons (Syntax.tyRef Syntax.erased Syntax.mut (Syntax.tyInt Syntax.w8)) (Syntax.tcons (Syntax.tyInt Syntax.w64) Syntax.tnil)))) (List._∷_ (26, Rows'.any-gone (Syntax.tyRef Syntax.erased Syntax.imm (Syntax.tyArray ColumnMetadataRow.named 4096))) (List._∷_ (27, Rows'.any-gone (Syntax.tyStruct (List._∷_ 38 (List._∷_ 91 (List._∷_ 93 List.[]))) (Syntax.tcons (Syntax.tyRef Syntax.erased Syntax.imm ColumnMetadataRow.named) (Syntax.tcons (Syntax.tyInt Syntax.w64) Syntax.tnil)))) List.[])))))))))))
@@ -414,7 +414,7 @@ abbrev pub t34 : List.List Row.Entry
 t34 = List._∷_ (16, Rows'.any-gone (Syntax.tyRef Syntax.erased Syntax.mut (Syntax.tyInt Syntax.w8))) (List._∷_ (17, Rows'.any-gone (Syntax.tyStruct (List._∷_ 38 (List._∷_ 91 (List._∷_ 93 List.[]))) (Syntax.tcons (Syntax.tyRef Syntax.erased Syntax.mut (Syntax.tyInt Syntax.w8)) (Syntax.tcons (Syntax.tyInt Syntax.w64) Syntax.tnil)))) (List._∷_ (18, Rows'.any-gone (Syntax.tyRef Syntax.erased Syntax.imm (Syntax.tyArray ColumnMetadataRow.named 4096))) (List._∷_ (19, Rows'.any-gone (Syntax.tyStruct (List._∷_ 38 (List._∷_ 91 (List._∷_ 93 List.[]))) (Syntax.tcons (Syntax.tyRef Syntax.erased Syntax.imm ColumnMetadataRow.named) (Syntax.tcons (Syntax.tyInt Syntax.w64) Syntax.tnil)))) (List._∷_ (20, Rows'.any-gone (Syntax.tyRef Syntax.erased Syntax.mut (Syntax.tyInt Syntax.w8))) (List._∷_ (21, Mut.mslice (Referent.rtF (Referent.fInt Syntax.w8)) (Syntax.tyRef Syntax.erased Syntax.mut (Syntax.tyInt Syntax.w8)) 6) (List._∷_ (22, Rows'.any-gone (Syntax.tyRef Syntax.erased Syntax.mut (Syntax.tyInt Syntax.w8))) (List._∷_ (23, Rows'.any-gone (Syntax.tyStruct (List._∷_ 38 (List._∷_ 91 (List._∷_ 93 List.[]))) (Syntax.tcons (Syntax.tyRef Syntax.erased Syntax.mut (Syntax.tyInt Syntax.w8)) (Syntax.tcons (Syntax.tyInt Syntax.w64) Syntax.tnil)))) (List._∷_ (24, Rows'.any-gone (Syntax.tyRef Syntax.erased Syntax.mut (Syntax.tyInt Syntax.w8))) (List._∷_ (25, Rows'.any-gone (Syntax.tyStruct (List._∷_ 38 (List._∷_ 91 (List._∷_ 93 List.[]))) (Syntax.tcons (Syntax.tyRef Syntax.erased Syntax.mut (Syntax.tyInt Syntax.w8)) (Syntax.tcons (Syntax.tyInt Syntax.w64) Syntax.tnil)))) (List._∷_ (26, Rows'.any-gone (Syntax.tyRef Syntax.erased Syntax.imm (Syntax.tyArray ColumnMetadataRow.named 4096))) (List._∷_ (27, Rows'.any-gone (Syntax.tyStruct (List._∷_ 38 (List._∷_ 91 (List._∷_ 93 List.[]))) (Syntax.tcons (Syntax.tyRef Syntax.erased Syntax.imm ColumnMetadataRow.named) (Syntax.tcons (Syntax.tyInt Syntax.w64) Syntax.tnil)))) List.[])))))))))))
 
 abbrev pub t35 : List.List Row.Entry
-t35 = List._∷_ (0, Rows'.any-gone (Syntax.tyInt Syntax.w64)) (List._∷_ (1, Relend.mslice-owed (Referent.rtF (Referent.fInt Syntax.w8)) (Syntax.tyRef (Syntax.named 0) Syntax.mut (Syntax.tyInt Syntax.w8)) 0 6 Row.off) (List._∷_ (2, Rows'.sc-here (Row.sInt Syntax.w64)) (List._∷_ (3, Rows'.sslice (Referent.rtF (Referent.fInt Syntax.w8)) (Syntax.tyRef (Syntax.named 1) Syntax.imm (Syntax.tyInt Syntax.w8)) 1) (List._∷_ (4, Relend.mslice-owed (Referent.rtF (Referent.fInt Syntax.w8)) (Syntax.tyRef (Syntax.named 2) Syntax.mut (Syntax.tyInt Syntax.w8)) 2 7 Row.off) (List._∷_ (5, Rows'.any-gone (ColumnMetadataRow.ty)) (List._∷_ (6, Rows.arrF (ColumnMetadataRow.RT) 4096 0) (List._∷_ (7, Rows'.any-gone (Syntax.tyStruct (List._∷_ 115 (List._∷_ 113 (List._∷_ 108 (List._∷_ 100 (List._∷_ 97 (List._∷_ 114 (List._∷_ 100 (List._∷_ 58 (List._∷_ 58 (List._∷_ 83 (List._∷_ 113 (List._∷_ 108 (List._∷_ 100 (List._∷_ 97 (List._∷_ 114 (List._∷_ 100 (List._∷_ 65 (List._∷_ 110 (List._∷_ 115 (List._∷_ 119 (List._∷_ 101 (List._∷_ 114 List.[])))))))))))))))))))))) (Syntax.tcons (Syntax.tyEnum (List._∷_ 111 (List._∷_ 117 (List._∷_ 116 (List._∷_ 99 (List._∷_ 111 (List._∷_ 109 (List._∷_ 101 (List._∷_ 58 (List._∷_ 58 (List._∷_ 79 (List._∷_ 117 (List._∷_ 116 (List._∷_ 99 (List._∷_ 111 (List._∷_ 109 (List._∷_ 101 List.[])))))))))))))))) (Syntax.ttcons Syntax.tnil (Syntax.ttcons Syntax.tnil (Syntax.ttcons (Syntax.tcons (Syntax.tyInt Syntax.w64) (Syntax.tcons (Syntax.tyInt Syntax.w64) Syntax.tnil)) (Syntax.ttcons Syntax.tnil (Syntax.ttcons (Syntax.tcons (Syntax.tyInt Syntax.w16) Syntax.tnil) (Syntax.ttcons Syntax.tnil (Syntax.ttcons (Syntax.tcons (Syntax.tyInt Syntax.w64) Syntax.tnil) (Syntax.ttcons Syntax.tnil Syntax.ttnil))))))))) (Syntax.tcons (Syntax.tyStruct (List._∷_ 115 (List._∷_ 113 (List._∷_ 108 (List._∷_ 99 (List._∷_ 97 (List._∷_ 114 (List._∷_ 100 (List._∷_ 58 (List._∷_ 58 (List._∷_ 83 (List._∷_ 113 (List._∷_ 108 (List._∷_ 67 (List._∷_ 97 (List._∷_ 114 (List._∷_ 100 List.[])))))))))))))))) (Syntax.tcons Syntax.tyBool (Syntax.tcons (Syntax.tyInt Syntax.w32) (Syntax.tcons (Syntax.tyArray (Syntax.tyInt Syntax.w8) 5) (Syntax.tcons (Syntax.tyArray (Syntax.tyInt Syntax.w8) 8) (Syntax.tcons (Syntax.tyInt Syntax.w8) (Syntax.tcons (Syntax.tyArray (Syntax.tyInt Syntax.w32) 6) (Syntax.tcons (Syntax.tyInt Syntax.w64) (Syntax.tcons (Syntax.tyInt Syntax.w32) (Syntax.tcons (Syntax.tyArray (Syntax.tyInt Syntax.w8) 11) (Syntax.tcons (Syntax.tyInt Syntax.w64) (Syntax.tcons (Syntax.tyInt Syntax.w64) Syntax.tnil)))))))))))) (Syntax.tcons (Syntax.tyInt Syntax.w64) Syntax.tnil))))) (List._∷_ (8, Rows'.any-gone (Syntax.tyEnum (List._∷_ 111 (List._∷_ 117 (List._∷_ 116 (List._∷_ 99 (List._∷_ 111 (List._∷_ 109 (List._∷_ 101 (List._∷_ 58 (List._∷_ 58 (List._∷_ 79 (List._∷_ 117 (List._∷_ 116 (List._∷_ 99 (List._∷_ 111 (List._∷_ 109 (List._∷_ 101 List.[])))))))))))))))) (Syntax.ttcons Syntax.tnil (Syntax.ttcons Syntax.tnil (Syntax.ttcons (Syntax.tcons (Syntax.tyInt Syntax.w64) (Syntax.tcons (Syntax.tyInt Syntax.w64) Syntax.tnil)) (Syntax.ttcons Syntax.tnil (Syntax.ttcons (Syntax.tcons (Syntax.tyInt Syntax.w16) Syntax.tnil) (Syntax.ttcons Syntax.tnil (Syntax.ttcons (Syntax.tcons (Syntax.tyInt Syntax.w64) Syntax.tnil) (Syntax.ttcons Syntax.tnil Syntax.ttnil)))))))))) (List._∷_ (9, Rows'.sc-here (Row.sInt Syntax.w64)) (List._∷_ (10, Rows'.whole (Declared'.row SqlCard.the-type)) (List._∷_ (11, Rows'.whole (Declared'.row Widths.the-type)) (List._∷_ (12, Rows'.any-gone (Syntax.tyInt Syntax.w64)) (List._∷_ (13, Rows'.any-gone (Syntax.tyRef Syntax.erased Syntax.mut (Syntax.tyArray ColumnMetadataRow.named 4096))) (List._∷_ (14, Rows'.any-gone (Syntax.tyStruct (List._∷_ 38 (List._∷_ 91 (List._∷_ 93 List.[]))) (Syntax.tcons (Syntax.tyRef Syntax.erased Syntax.mut ColumnMetadataRow.named) (Syntax.tcons (Syntax.tyInt Syntax.w64) Syntax.tnil)))) (List._∷_ (15, Rows'.any-gone Syntax.tyBool) List.[])))))))))))))))
+t35 = List._∷_ (0, Rows'.any-gone (Syntax.tyInt Syntax.w64)) (List._∷_ (1, Relend.mslice-owed (Referent.rtF (Referent.fInt Syntax.w8)) (Syntax.tyRef (Syntax.named 0) Syntax.mut (Syntax.tyInt Syntax.w8)) 0 6 Row.off) (List._∷_ (2, Rows'.sc-here (Row.sInt Syntax.w64)) (List._∷_ (3, Rows'.sslice (Referent.rtF (Referent.fInt Syntax.w8)) (Syntax.tyRef (Syntax.named 1) Syntax.imm (Syntax.tyInt Syntax.w8)) 1) (List._∷_ (4, Relend.mslice-owed (Referent.rtF (Referent.fInt Syntax.w8)) (Syntax.tyRef (Syntax.named 2) Syntax.mut (Syntax.tyInt Syntax.w8)) 2 7 Row.off) (List._∷_ (5, Rows'.any-gone (ColumnMetadataRow.ty)) (List._∷_ (6, Rows.arrF (ColumnMetadataRow.RT) 4096 0) (List._∷_ (7, Rows'.any-gone (Syntax.tyStruct (List._∷_ 115 (List._∷_ 113 (List._∷_ 108 (List._∷_ 100 (List._∷_ 97 (List._∷_ 114 (List._∷_ 100 (List._∷_ 58 (List._∷_ 58 (List._∷_ 83 (List._∷_ 113 (List._∷_ 108 (List._∷_ 100 (List._∷_ 97 (List._∷_ 114 (List._∷_ 100 (List._∷_ 65 (List._∷_ 110 (List._∷_ 115 (List._∷_ 119 (List._∷_ 101 (List._∷_ 114 List.[])))))))))))))))))))))) (Syntax.tcons (Syntax.tyEnum (List._∷_ 111 (List._∷_ 117 (List._∷_ 116 (List._∷_ 99 (List._∷_ 111 (List._∷_ 109 (List._∷_ 101 (List._∷_ 58 (List._∷_ 58 (List._∷_ 79 (List._∷_ 117 (List._∷_ 116 (List._∷_ 99 (List._∷_ 111 (List._∷_ 109 (List._∷_ 101 List.[])))))))))))))))) (Syntax.ttcons Syntax.tnil (Syntax.ttcons Syntax.tnil (Syntax.ttcons (Syntax.tcons (Syntax.tyInt Syntax.w64) (Syntax.tcons (Syntax.tyInt Syntax.w64) Syntax.tnil)) (Syntax.ttcons Syntax.tnil (Syntax.ttcons (Syntax.tcons (Syntax.tyInt Syntax.w16) Syntax.tnil) (Syntax.ttcons Syntax.tnil (Syntax.ttcons (Syntax.tcons (Syntax.tyInt Syntax.w64) Syntax.tnil) (Syntax.ttcons Syntax.tnil (Syntax.ttcons (Syntax.tcons (Syntax.tyInt Syntax.w16) Syntax.tnil) Syntax.ttnil)))))))))) (Syntax.tcons (Syntax.tyStruct (List._∷_ 115 (List._∷_ 113 (List._∷_ 108 (List._∷_ 99 (List._∷_ 97 (List._∷_ 114 (List._∷_ 100 (List._∷_ 58 (List._∷_ 58 (List._∷_ 83 (List._∷_ 113 (List._∷_ 108 (List._∷_ 67 (List._∷_ 97 (List._∷_ 114 (List._∷_ 100 List.[])))))))))))))))) (Syntax.tcons Syntax.tyBool (Syntax.tcons (Syntax.tyInt Syntax.w32) (Syntax.tcons (Syntax.tyArray (Syntax.tyInt Syntax.w8) 5) (Syntax.tcons (Syntax.tyArray (Syntax.tyInt Syntax.w8) 8) (Syntax.tcons (Syntax.tyInt Syntax.w8) (Syntax.tcons (Syntax.tyArray (Syntax.tyInt Syntax.w32) 6) (Syntax.tcons (Syntax.tyInt Syntax.w64) (Syntax.tcons (Syntax.tyInt Syntax.w32) (Syntax.tcons (Syntax.tyArray (Syntax.tyInt Syntax.w8) 11) (Syntax.tcons (Syntax.tyInt Syntax.w64) (Syntax.tcons (Syntax.tyInt Syntax.w64) Syntax.tnil)))))))))))) (Syntax.tcons (Syntax.tyInt Syntax.w64) Syntax.tnil))))) (List._∷_ (8, Rows'.any-gone (Syntax.tyEnum (List._∷_ 111 (List._∷_ 117 (List._∷_ 116 (List._∷_ 99 (List._∷_ 111 (List._∷_ 109 (List._∷_ 101 (List._∷_ 58 (List._∷_ 58 (List._∷_ 79 (List._∷_ 117 (List._∷_ 116 (List._∷_ 99 (List._∷_ 111 (List._∷_ 109 (List._∷_ 101 List.[])))))))))))))))) (Syntax.ttcons Syntax.tnil (Syntax.ttcons Syntax.tnil (Syntax.ttcons (Syntax.tcons (Syntax.tyInt Syntax.w64) (Syntax.tcons (Syntax.tyInt Syntax.w64) Syntax.tnil)) (Syntax.ttcons Syntax.tnil (Syntax.ttcons (Syntax.tcons (Syntax.tyInt Syntax.w16) Syntax.tnil) (Syntax.ttcons Syntax.tnil (Syntax.ttcons (Syntax.tcons (Syntax.tyInt Syntax.w64) Syntax.tnil) (Syntax.ttcons Syntax.tnil (Syntax.ttcons (Syntax.tcons (Syntax.tyInt Syntax.w16) Syntax.tnil) Syntax.ttnil))))))))))) (List._∷_ (9, Rows'.sc-here (Row.sInt Syntax.w64)) (List._∷_ (10, Rows'.whole (Declared'.row SqlCard.the-type)) (List._∷_ (11, Rows'.whole (Declared'.row Widths.the-type)) (List._∷_ (12, Rows'.any-gone (Syntax.tyInt Syntax.w64)) (List._∷_ (13, Rows'.any-gone (Syntax.tyRef Syntax.erased Syntax.mut (Syntax.tyArray ColumnMetadataRow.named 4096))) (List._∷_ (14, Rows'.any-gone (Syntax.tyStruct (List._∷_ 38 (List._∷_ 91 (List._∷_ 93 List.[]))) (Syntax.tcons (Syntax.tyRef Syntax.erased Syntax.mut ColumnMetadataRow.named) (Syntax.tcons (Syntax.tyInt Syntax.w64) Syntax.tnil)))) (List._∷_ (15, Rows'.any-gone Syntax.tyBool) List.[])))))))))))))))
 
 abbrev pub t36 : List.List Row.Entry
 t36 = List._∷_ (16, Rows'.any-gone (Syntax.tyRef Syntax.erased Syntax.mut (Syntax.tyInt Syntax.w8))) (List._∷_ (17, Rows'.any-gone (Syntax.tyStruct (List._∷_ 38 (List._∷_ 91 (List._∷_ 93 List.[]))) (Syntax.tcons (Syntax.tyRef Syntax.erased Syntax.mut (Syntax.tyInt Syntax.w8)) (Syntax.tcons (Syntax.tyInt Syntax.w64) Syntax.tnil)))) (List._∷_ (18, Rows'.any-gone (Syntax.tyRef Syntax.erased Syntax.imm (Syntax.tyArray ColumnMetadataRow.named 4096))) (List._∷_ (19, Rows'.any-gone (Syntax.tyStruct (List._∷_ 38 (List._∷_ 91 (List._∷_ 93 List.[]))) (Syntax.tcons (Syntax.tyRef Syntax.erased Syntax.imm ColumnMetadataRow.named) (Syntax.tcons (Syntax.tyInt Syntax.w64) Syntax.tnil)))) (List._∷_ (20, Rows'.any-gone (Syntax.tyRef Syntax.erased Syntax.mut (Syntax.tyInt Syntax.w8))) (List._∷_ (21, Mut.mslice (Referent.rtF (Referent.fInt Syntax.w8)) (Syntax.tyRef Syntax.erased Syntax.mut (Syntax.tyInt Syntax.w8)) 6) (List._∷_ (22, Relend.msptr (Referent.rtF (Referent.fInt Syntax.w8)) (Syntax.tyRef Syntax.erased Syntax.mut (Syntax.tyInt Syntax.w8)) 7) (List._∷_ (23, Rows'.any-gone (Syntax.tyStruct (List._∷_ 38 (List._∷_ 91 (List._∷_ 93 List.[]))) (Syntax.tcons (Syntax.tyRef Syntax.erased Syntax.mut (Syntax.tyInt Syntax.w8)) (Syntax.tcons (Syntax.tyInt Syntax.w64) Syntax.tnil)))) (List._∷_ (24, Rows'.any-gone (Syntax.tyRef Syntax.erased Syntax.mut (Syntax.tyInt Syntax.w8))) (List._∷_ (25, Rows'.any-gone (Syntax.tyStruct (List._∷_ 38 (List._∷_ 91 (List._∷_ 93 List.[]))) (Syntax.tcons (Syntax.tyRef Syntax.erased Syntax.mut (Syntax.tyInt Syntax.w8)) (Syntax.tcons (Syntax.tyInt Syntax.w64) Syntax.tnil)))) (List._∷_ (26, Rows'.any-gone (Syntax.tyRef Syntax.erased Syntax.imm (Syntax.tyArray ColumnMetadataRow.named 4096))) (List._∷_ (27, Rows'.any-gone (Syntax.tyStruct (List._∷_ 38 (List._∷_ 91 (List._∷_ 93 List.[]))) (Syntax.tcons (Syntax.tyRef Syntax.erased Syntax.imm ColumnMetadataRow.named) (Syntax.tcons (Syntax.tyInt Syntax.w64) Syntax.tnil)))) List.[])))))))))))
@@ -423,25 +423,25 @@ abbrev pub t37 : List.List Row.Entry
 t37 = List._∷_ (16, Rows'.any-gone (Syntax.tyRef Syntax.erased Syntax.mut (Syntax.tyInt Syntax.w8))) (List._∷_ (17, Rows'.any-gone (Syntax.tyStruct (List._∷_ 38 (List._∷_ 91 (List._∷_ 93 List.[]))) (Syntax.tcons (Syntax.tyRef Syntax.erased Syntax.mut (Syntax.tyInt Syntax.w8)) (Syntax.tcons (Syntax.tyInt Syntax.w64) Syntax.tnil)))) (List._∷_ (18, Rows'.any-gone (Syntax.tyRef Syntax.erased Syntax.imm (Syntax.tyArray ColumnMetadataRow.named 4096))) (List._∷_ (19, Rows'.any-gone (Syntax.tyStruct (List._∷_ 38 (List._∷_ 91 (List._∷_ 93 List.[]))) (Syntax.tcons (Syntax.tyRef Syntax.erased Syntax.imm ColumnMetadataRow.named) (Syntax.tcons (Syntax.tyInt Syntax.w64) Syntax.tnil)))) (List._∷_ (20, Rows'.any-gone (Syntax.tyRef Syntax.erased Syntax.mut (Syntax.tyInt Syntax.w8))) (List._∷_ (21, Mut.mslice (Referent.rtF (Referent.fInt Syntax.w8)) (Syntax.tyRef Syntax.erased Syntax.mut (Syntax.tyInt Syntax.w8)) 6) (List._∷_ (22, Rows'.any-gone (Syntax.tyRef Syntax.erased Syntax.mut (Syntax.tyInt Syntax.w8))) (List._∷_ (23, Mut.mslice (Referent.rtF (Referent.fInt Syntax.w8)) (Syntax.tyRef Syntax.erased Syntax.mut (Syntax.tyInt Syntax.w8)) 7) (List._∷_ (24, Rows'.any-gone (Syntax.tyRef Syntax.erased Syntax.mut (Syntax.tyInt Syntax.w8))) (List._∷_ (25, Rows'.any-gone (Syntax.tyStruct (List._∷_ 38 (List._∷_ 91 (List._∷_ 93 List.[]))) (Syntax.tcons (Syntax.tyRef Syntax.erased Syntax.mut (Syntax.tyInt Syntax.w8)) (Syntax.tcons (Syntax.tyInt Syntax.w64) Syntax.tnil)))) (List._∷_ (26, Rows'.any-gone (Syntax.tyRef Syntax.erased Syntax.imm (Syntax.tyArray ColumnMetadataRow.named 4096))) (List._∷_ (27, Rows'.any-gone (Syntax.tyStruct (List._∷_ 38 (List._∷_ 91 (List._∷_ 93 List.[]))) (Syntax.tcons (Syntax.tyRef Syntax.erased Syntax.imm ColumnMetadataRow.named) (Syntax.tcons (Syntax.tyInt Syntax.w64) Syntax.tnil)))) List.[])))))))))))
 
 abbrev pub t38 : List.List Row.Entry
-t38 = List._∷_ (0, Rows'.any-gone (Syntax.tyInt Syntax.w64)) (List._∷_ (1, Relend.mslice-owed (Referent.rtF (Referent.fInt Syntax.w8)) (Syntax.tyRef (Syntax.named 0) Syntax.mut (Syntax.tyInt Syntax.w8)) 0 6 Row.off) (List._∷_ (2, Rows'.sc-here (Row.sInt Syntax.w64)) (List._∷_ (3, Rows'.sslice (Referent.rtF (Referent.fInt Syntax.w8)) (Syntax.tyRef (Syntax.named 1) Syntax.imm (Syntax.tyInt Syntax.w8)) 1) (List._∷_ (4, Relend.mslice-owed (Referent.rtF (Referent.fInt Syntax.w8)) (Syntax.tyRef (Syntax.named 2) Syntax.mut (Syntax.tyInt Syntax.w8)) 2 7 Row.off) (List._∷_ (5, Rows'.any-gone (ColumnMetadataRow.ty)) (List._∷_ (6, Rows.arrF (ColumnMetadataRow.RT) 4096 0) (List._∷_ (7, Rows'.any-gone (Syntax.tyStruct (List._∷_ 115 (List._∷_ 113 (List._∷_ 108 (List._∷_ 100 (List._∷_ 97 (List._∷_ 114 (List._∷_ 100 (List._∷_ 58 (List._∷_ 58 (List._∷_ 83 (List._∷_ 113 (List._∷_ 108 (List._∷_ 100 (List._∷_ 97 (List._∷_ 114 (List._∷_ 100 (List._∷_ 65 (List._∷_ 110 (List._∷_ 115 (List._∷_ 119 (List._∷_ 101 (List._∷_ 114 List.[])))))))))))))))))))))) (Syntax.tcons (Syntax.tyEnum (List._∷_ 111 (List._∷_ 117 (List._∷_ 116 (List._∷_ 99 (List._∷_ 111 (List._∷_ 109 (List._∷_ 101 (List._∷_ 58 (List._∷_ 58 (List._∷_ 79 (List._∷_ 117 (List._∷_ 116 (List._∷_ 99 (List._∷_ 111 (List._∷_ 109 (List._∷_ 101 List.[])))))))))))))))) (Syntax.ttcons Syntax.tnil (Syntax.ttcons Syntax.tnil (Syntax.ttcons (Syntax.tcons (Syntax.tyInt Syntax.w64) (Syntax.tcons (Syntax.tyInt Syntax.w64) Syntax.tnil)) (Syntax.ttcons Syntax.tnil (Syntax.ttcons (Syntax.tcons (Syntax.tyInt Syntax.w16) Syntax.tnil) (Syntax.ttcons Syntax.tnil (Syntax.ttcons (Syntax.tcons (Syntax.tyInt Syntax.w64) Syntax.tnil) (Syntax.ttcons Syntax.tnil Syntax.ttnil))))))))) (Syntax.tcons (Syntax.tyStruct (List._∷_ 115 (List._∷_ 113 (List._∷_ 108 (List._∷_ 99 (List._∷_ 97 (List._∷_ 114 (List._∷_ 100 (List._∷_ 58 (List._∷_ 58 (List._∷_ 83 (List._∷_ 113 (List._∷_ 108 (List._∷_ 67 (List._∷_ 97 (List._∷_ 114 (List._∷_ 100 List.[])))))))))))))))) (Syntax.tcons Syntax.tyBool (Syntax.tcons (Syntax.tyInt Syntax.w32) (Syntax.tcons (Syntax.tyArray (Syntax.tyInt Syntax.w8) 5) (Syntax.tcons (Syntax.tyArray (Syntax.tyInt Syntax.w8) 8) (Syntax.tcons (Syntax.tyInt Syntax.w8) (Syntax.tcons (Syntax.tyArray (Syntax.tyInt Syntax.w32) 6) (Syntax.tcons (Syntax.tyInt Syntax.w64) (Syntax.tcons (Syntax.tyInt Syntax.w32) (Syntax.tcons (Syntax.tyArray (Syntax.tyInt Syntax.w8) 11) (Syntax.tcons (Syntax.tyInt Syntax.w64) (Syntax.tcons (Syntax.tyInt Syntax.w64) Syntax.tnil)))))))))))) (Syntax.tcons (Syntax.tyInt Syntax.w64) Syntax.tnil))))) (List._∷_ (8, Rows'.any-gone (Syntax.tyEnum (List._∷_ 111 (List._∷_ 117 (List._∷_ 116 (List._∷_ 99 (List._∷_ 111 (List._∷_ 109 (List._∷_ 101 (List._∷_ 58 (List._∷_ 58 (List._∷_ 79 (List._∷_ 117 (List._∷_ 116 (List._∷_ 99 (List._∷_ 111 (List._∷_ 109 (List._∷_ 101 List.[])))))))))))))))) (Syntax.ttcons Syntax.tnil (Syntax.ttcons Syntax.tnil (Syntax.ttcons (Syntax.tcons (Syntax.tyInt Syntax.w64) (Syntax.tcons (Syntax.tyInt Syntax.w64) Syntax.tnil)) (Syntax.ttcons Syntax.tnil (Syntax.ttcons (Syntax.tcons (Syntax.tyInt Syntax.w16) Syntax.tnil) (Syntax.ttcons Syntax.tnil (Syntax.ttcons (Syntax.tcons (Syntax.tyInt Syntax.w64) Syntax.tnil) (Syntax.ttcons Syntax.tnil Syntax.ttnil)))))))))) (List._∷_ (9, Rows'.sc-here (Row.sInt Syntax.w64)) (List._∷_ (10, Rows'.whole (Declared'.row SqlCard.the-type)) (List._∷_ (11, Rows'.whole (Declared'.row Widths.the-type)) (List._∷_ (12, Rows'.sc-here (Row.sInt Syntax.w64)) (List._∷_ (13, Rows'.any-gone (Syntax.tyRef Syntax.erased Syntax.mut (Syntax.tyArray ColumnMetadataRow.named 4096))) (List._∷_ (14, Rows'.any-gone (Syntax.tyStruct (List._∷_ 38 (List._∷_ 91 (List._∷_ 93 List.[]))) (Syntax.tcons (Syntax.tyRef Syntax.erased Syntax.mut ColumnMetadataRow.named) (Syntax.tcons (Syntax.tyInt Syntax.w64) Syntax.tnil)))) (List._∷_ (15, Rows'.any-gone Syntax.tyBool) List.[])))))))))))))))
+t38 = List._∷_ (0, Rows'.any-gone (Syntax.tyInt Syntax.w64)) (List._∷_ (1, Relend.mslice-owed (Referent.rtF (Referent.fInt Syntax.w8)) (Syntax.tyRef (Syntax.named 0) Syntax.mut (Syntax.tyInt Syntax.w8)) 0 6 Row.off) (List._∷_ (2, Rows'.sc-here (Row.sInt Syntax.w64)) (List._∷_ (3, Rows'.sslice (Referent.rtF (Referent.fInt Syntax.w8)) (Syntax.tyRef (Syntax.named 1) Syntax.imm (Syntax.tyInt Syntax.w8)) 1) (List._∷_ (4, Relend.mslice-owed (Referent.rtF (Referent.fInt Syntax.w8)) (Syntax.tyRef (Syntax.named 2) Syntax.mut (Syntax.tyInt Syntax.w8)) 2 7 Row.off) (List._∷_ (5, Rows'.any-gone (ColumnMetadataRow.ty)) (List._∷_ (6, Rows.arrF (ColumnMetadataRow.RT) 4096 0) (List._∷_ (7, Rows'.any-gone (Syntax.tyStruct (List._∷_ 115 (List._∷_ 113 (List._∷_ 108 (List._∷_ 100 (List._∷_ 97 (List._∷_ 114 (List._∷_ 100 (List._∷_ 58 (List._∷_ 58 (List._∷_ 83 (List._∷_ 113 (List._∷_ 108 (List._∷_ 100 (List._∷_ 97 (List._∷_ 114 (List._∷_ 100 (List._∷_ 65 (List._∷_ 110 (List._∷_ 115 (List._∷_ 119 (List._∷_ 101 (List._∷_ 114 List.[])))))))))))))))))))))) (Syntax.tcons (Syntax.tyEnum (List._∷_ 111 (List._∷_ 117 (List._∷_ 116 (List._∷_ 99 (List._∷_ 111 (List._∷_ 109 (List._∷_ 101 (List._∷_ 58 (List._∷_ 58 (List._∷_ 79 (List._∷_ 117 (List._∷_ 116 (List._∷_ 99 (List._∷_ 111 (List._∷_ 109 (List._∷_ 101 List.[])))))))))))))))) (Syntax.ttcons Syntax.tnil (Syntax.ttcons Syntax.tnil (Syntax.ttcons (Syntax.tcons (Syntax.tyInt Syntax.w64) (Syntax.tcons (Syntax.tyInt Syntax.w64) Syntax.tnil)) (Syntax.ttcons Syntax.tnil (Syntax.ttcons (Syntax.tcons (Syntax.tyInt Syntax.w16) Syntax.tnil) (Syntax.ttcons Syntax.tnil (Syntax.ttcons (Syntax.tcons (Syntax.tyInt Syntax.w64) Syntax.tnil) (Syntax.ttcons Syntax.tnil (Syntax.ttcons (Syntax.tcons (Syntax.tyInt Syntax.w16) Syntax.tnil) Syntax.ttnil)))))))))) (Syntax.tcons (Syntax.tyStruct (List._∷_ 115 (List._∷_ 113 (List._∷_ 108 (List._∷_ 99 (List._∷_ 97 (List._∷_ 114 (List._∷_ 100 (List._∷_ 58 (List._∷_ 58 (List._∷_ 83 (List._∷_ 113 (List._∷_ 108 (List._∷_ 67 (List._∷_ 97 (List._∷_ 114 (List._∷_ 100 List.[])))))))))))))))) (Syntax.tcons Syntax.tyBool (Syntax.tcons (Syntax.tyInt Syntax.w32) (Syntax.tcons (Syntax.tyArray (Syntax.tyInt Syntax.w8) 5) (Syntax.tcons (Syntax.tyArray (Syntax.tyInt Syntax.w8) 8) (Syntax.tcons (Syntax.tyInt Syntax.w8) (Syntax.tcons (Syntax.tyArray (Syntax.tyInt Syntax.w32) 6) (Syntax.tcons (Syntax.tyInt Syntax.w64) (Syntax.tcons (Syntax.tyInt Syntax.w32) (Syntax.tcons (Syntax.tyArray (Syntax.tyInt Syntax.w8) 11) (Syntax.tcons (Syntax.tyInt Syntax.w64) (Syntax.tcons (Syntax.tyInt Syntax.w64) Syntax.tnil)))))))))))) (Syntax.tcons (Syntax.tyInt Syntax.w64) Syntax.tnil))))) (List._∷_ (8, Rows'.any-gone (Syntax.tyEnum (List._∷_ 111 (List._∷_ 117 (List._∷_ 116 (List._∷_ 99 (List._∷_ 111 (List._∷_ 109 (List._∷_ 101 (List._∷_ 58 (List._∷_ 58 (List._∷_ 79 (List._∷_ 117 (List._∷_ 116 (List._∷_ 99 (List._∷_ 111 (List._∷_ 109 (List._∷_ 101 List.[])))))))))))))))) (Syntax.ttcons Syntax.tnil (Syntax.ttcons Syntax.tnil (Syntax.ttcons (Syntax.tcons (Syntax.tyInt Syntax.w64) (Syntax.tcons (Syntax.tyInt Syntax.w64) Syntax.tnil)) (Syntax.ttcons Syntax.tnil (Syntax.ttcons (Syntax.tcons (Syntax.tyInt Syntax.w16) Syntax.tnil) (Syntax.ttcons Syntax.tnil (Syntax.ttcons (Syntax.tcons (Syntax.tyInt Syntax.w64) Syntax.tnil) (Syntax.ttcons Syntax.tnil (Syntax.ttcons (Syntax.tcons (Syntax.tyInt Syntax.w16) Syntax.tnil) Syntax.ttnil))))))))))) (List._∷_ (9, Rows'.sc-here (Row.sInt Syntax.w64)) (List._∷_ (10, Rows'.whole (Declared'.row SqlCard.the-type)) (List._∷_ (11, Rows'.whole (Declared'.row Widths.the-type)) (List._∷_ (12, Rows'.sc-here (Row.sInt Syntax.w64)) (List._∷_ (13, Rows'.any-gone (Syntax.tyRef Syntax.erased Syntax.mut (Syntax.tyArray ColumnMetadataRow.named 4096))) (List._∷_ (14, Rows'.any-gone (Syntax.tyStruct (List._∷_ 38 (List._∷_ 91 (List._∷_ 93 List.[]))) (Syntax.tcons (Syntax.tyRef Syntax.erased Syntax.mut ColumnMetadataRow.named) (Syntax.tcons (Syntax.tyInt Syntax.w64) Syntax.tnil)))) (List._∷_ (15, Rows'.any-gone Syntax.tyBool) List.[])))))))))))))))
 
 abbrev pub t39 : List.List Row.Entry
 t39 = List._∷_ (16, Rows'.any-gone (Syntax.tyRef Syntax.erased Syntax.mut (Syntax.tyInt Syntax.w8))) (List._∷_ (17, Rows'.any-gone (Syntax.tyStruct (List._∷_ 38 (List._∷_ 91 (List._∷_ 93 List.[]))) (Syntax.tcons (Syntax.tyRef Syntax.erased Syntax.mut (Syntax.tyInt Syntax.w8)) (Syntax.tcons (Syntax.tyInt Syntax.w64) Syntax.tnil)))) (List._∷_ (18, Rows'.any-gone (Syntax.tyRef Syntax.erased Syntax.imm (Syntax.tyArray ColumnMetadataRow.named 4096))) (List._∷_ (19, Rows'.any-gone (Syntax.tyStruct (List._∷_ 38 (List._∷_ 91 (List._∷_ 93 List.[]))) (Syntax.tcons (Syntax.tyRef Syntax.erased Syntax.imm ColumnMetadataRow.named) (Syntax.tcons (Syntax.tyInt Syntax.w64) Syntax.tnil)))) (List._∷_ (20, Rows'.any-gone (Syntax.tyRef Syntax.erased Syntax.mut (Syntax.tyInt Syntax.w8))) (List._∷_ (21, Mut.msleft (Referent.rtF (Referent.fInt Syntax.w8)) (Syntax.tyRef Syntax.erased Syntax.mut (Syntax.tyInt Syntax.w8))) (List._∷_ (22, Rows'.any-gone (Syntax.tyRef Syntax.erased Syntax.mut (Syntax.tyInt Syntax.w8))) (List._∷_ (23, Mut.msleft (Referent.rtF (Referent.fInt Syntax.w8)) (Syntax.tyRef Syntax.erased Syntax.mut (Syntax.tyInt Syntax.w8))) (List._∷_ (24, Rows'.any-gone (Syntax.tyRef Syntax.erased Syntax.mut (Syntax.tyInt Syntax.w8))) (List._∷_ (25, Rows'.any-gone (Syntax.tyStruct (List._∷_ 38 (List._∷_ 91 (List._∷_ 93 List.[]))) (Syntax.tcons (Syntax.tyRef Syntax.erased Syntax.mut (Syntax.tyInt Syntax.w8)) (Syntax.tcons (Syntax.tyInt Syntax.w64) Syntax.tnil)))) (List._∷_ (26, Rows'.any-gone (Syntax.tyRef Syntax.erased Syntax.imm (Syntax.tyArray ColumnMetadataRow.named 4096))) (List._∷_ (27, Rows'.any-gone (Syntax.tyStruct (List._∷_ 38 (List._∷_ 91 (List._∷_ 93 List.[]))) (Syntax.tcons (Syntax.tyRef Syntax.erased Syntax.imm ColumnMetadataRow.named) (Syntax.tcons (Syntax.tyInt Syntax.w64) Syntax.tnil)))) List.[])))))))))))
 
 abbrev pub t40 : List.List Row.Entry
-t40 = List._∷_ (0, Rows'.any-gone (Syntax.tyInt Syntax.w64)) (List._∷_ (1, Relend.mslice-owed (Referent.rtF (Referent.fInt Syntax.w8)) (Syntax.tyRef (Syntax.named 0) Syntax.mut (Syntax.tyInt Syntax.w8)) 0 6 Row.off) (List._∷_ (2, Rows'.sc-here (Row.sInt Syntax.w64)) (List._∷_ (3, Rows'.sslice (Referent.rtF (Referent.fInt Syntax.w8)) (Syntax.tyRef (Syntax.named 1) Syntax.imm (Syntax.tyInt Syntax.w8)) 1) (List._∷_ (4, Relend.mslice-owed (Referent.rtF (Referent.fInt Syntax.w8)) (Syntax.tyRef (Syntax.named 2) Syntax.mut (Syntax.tyInt Syntax.w8)) 2 7 Row.off) (List._∷_ (5, Rows'.any-gone (ColumnMetadataRow.ty)) (List._∷_ (6, Rows.arrF (ColumnMetadataRow.RT) 4096 0) (List._∷_ (7, Rows'.any-gone (Syntax.tyStruct (List._∷_ 115 (List._∷_ 113 (List._∷_ 108 (List._∷_ 100 (List._∷_ 97 (List._∷_ 114 (List._∷_ 100 (List._∷_ 58 (List._∷_ 58 (List._∷_ 83 (List._∷_ 113 (List._∷_ 108 (List._∷_ 100 (List._∷_ 97 (List._∷_ 114 (List._∷_ 100 (List._∷_ 65 (List._∷_ 110 (List._∷_ 115 (List._∷_ 119 (List._∷_ 101 (List._∷_ 114 List.[])))))))))))))))))))))) (Syntax.tcons (Syntax.tyEnum (List._∷_ 111 (List._∷_ 117 (List._∷_ 116 (List._∷_ 99 (List._∷_ 111 (List._∷_ 109 (List._∷_ 101 (List._∷_ 58 (List._∷_ 58 (List._∷_ 79 (List._∷_ 117 (List._∷_ 116 (List._∷_ 99 (List._∷_ 111 (List._∷_ 109 (List._∷_ 101 List.[])))))))))))))))) (Syntax.ttcons Syntax.tnil (Syntax.ttcons Syntax.tnil (Syntax.ttcons (Syntax.tcons (Syntax.tyInt Syntax.w64) (Syntax.tcons (Syntax.tyInt Syntax.w64) Syntax.tnil)) (Syntax.ttcons Syntax.tnil (Syntax.ttcons (Syntax.tcons (Syntax.tyInt Syntax.w16) Syntax.tnil) (Syntax.ttcons Syntax.tnil (Syntax.ttcons (Syntax.tcons (Syntax.tyInt Syntax.w64) Syntax.tnil) (Syntax.ttcons Syntax.tnil Syntax.ttnil))))))))) (Syntax.tcons (Syntax.tyStruct (List._∷_ 115 (List._∷_ 113 (List._∷_ 108 (List._∷_ 99 (List._∷_ 97 (List._∷_ 114 (List._∷_ 100 (List._∷_ 58 (List._∷_ 58 (List._∷_ 83 (List._∷_ 113 (List._∷_ 108 (List._∷_ 67 (List._∷_ 97 (List._∷_ 114 (List._∷_ 100 List.[])))))))))))))))) (Syntax.tcons Syntax.tyBool (Syntax.tcons (Syntax.tyInt Syntax.w32) (Syntax.tcons (Syntax.tyArray (Syntax.tyInt Syntax.w8) 5) (Syntax.tcons (Syntax.tyArray (Syntax.tyInt Syntax.w8) 8) (Syntax.tcons (Syntax.tyInt Syntax.w8) (Syntax.tcons (Syntax.tyArray (Syntax.tyInt Syntax.w32) 6) (Syntax.tcons (Syntax.tyInt Syntax.w64) (Syntax.tcons (Syntax.tyInt Syntax.w32) (Syntax.tcons (Syntax.tyArray (Syntax.tyInt Syntax.w8) 11) (Syntax.tcons (Syntax.tyInt Syntax.w64) (Syntax.tcons (Syntax.tyInt Syntax.w64) Syntax.tnil)))))))))))) (Syntax.tcons (Syntax.tyInt Syntax.w64) Syntax.tnil))))) (List._∷_ (8, Rows'.any-gone (Syntax.tyEnum (List._∷_ 111 (List._∷_ 117 (List._∷_ 116 (List._∷_ 99 (List._∷_ 111 (List._∷_ 109 (List._∷_ 101 (List._∷_ 58 (List._∷_ 58 (List._∷_ 79 (List._∷_ 117 (List._∷_ 116 (List._∷_ 99 (List._∷_ 111 (List._∷_ 109 (List._∷_ 101 List.[])))))))))))))))) (Syntax.ttcons Syntax.tnil (Syntax.ttcons Syntax.tnil (Syntax.ttcons (Syntax.tcons (Syntax.tyInt Syntax.w64) (Syntax.tcons (Syntax.tyInt Syntax.w64) Syntax.tnil)) (Syntax.ttcons Syntax.tnil (Syntax.ttcons (Syntax.tcons (Syntax.tyInt Syntax.w16) Syntax.tnil) (Syntax.ttcons Syntax.tnil (Syntax.ttcons (Syntax.tcons (Syntax.tyInt Syntax.w64) Syntax.tnil) (Syntax.ttcons Syntax.tnil Syntax.ttnil)))))))))) (List._∷_ (9, Rows'.sc-here (Row.sInt Syntax.w64)) (List._∷_ (10, Rows'.any-gone (Syntax.tyStruct (List._∷_ 115 (List._∷_ 113 (List._∷_ 108 (List._∷_ 99 (List._∷_ 97 (List._∷_ 114 (List._∷_ 100 (List._∷_ 58 (List._∷_ 58 (List._∷_ 83 (List._∷_ 113 (List._∷_ 108 (List._∷_ 67 (List._∷_ 97 (List._∷_ 114 (List._∷_ 100 List.[])))))))))))))))) (Syntax.tcons Syntax.tyBool (Syntax.tcons (Syntax.tyInt Syntax.w32) (Syntax.tcons (Syntax.tyArray (Syntax.tyInt Syntax.w8) 5) (Syntax.tcons (Syntax.tyArray (Syntax.tyInt Syntax.w8) 8) (Syntax.tcons (Syntax.tyInt Syntax.w8) (Syntax.tcons (Syntax.tyArray (Syntax.tyInt Syntax.w32) 6) (Syntax.tcons (Syntax.tyInt Syntax.w64) (Syntax.tcons (Syntax.tyInt Syntax.w32) (Syntax.tcons (Syntax.tyArray (Syntax.tyInt Syntax.w8) 11) (Syntax.tcons (Syntax.tyInt Syntax.w64) (Syntax.tcons (Syntax.tyInt Syntax.w64) Syntax.tnil))))))))))))) (List._∷_ (11, Rows'.whole (Declared'.row Widths.the-type)) (List._∷_ (12, Rows'.sc-here (Row.sInt Syntax.w64)) (List._∷_ (13, Rows'.any-gone (Syntax.tyRef Syntax.erased Syntax.mut (Syntax.tyArray ColumnMetadataRow.named 4096))) (List._∷_ (14, Rows'.any-gone (Syntax.tyStruct (List._∷_ 38 (List._∷_ 91 (List._∷_ 93 List.[]))) (Syntax.tcons (Syntax.tyRef Syntax.erased Syntax.mut ColumnMetadataRow.named) (Syntax.tcons (Syntax.tyInt Syntax.w64) Syntax.tnil)))) (List._∷_ (15, Rows'.any-gone Syntax.tyBool) List.[])))))))))))))))
+t40 = List._∷_ (0, Rows'.any-gone (Syntax.tyInt Syntax.w64)) (List._∷_ (1, Relend.mslice-owed (Referent.rtF (Referent.fInt Syntax.w8)) (Syntax.tyRef (Syntax.named 0) Syntax.mut (Syntax.tyInt Syntax.w8)) 0 6 Row.off) (List._∷_ (2, Rows'.sc-here (Row.sInt Syntax.w64)) (List._∷_ (3, Rows'.sslice (Referent.rtF (Referent.fInt Syntax.w8)) (Syntax.tyRef (Syntax.named 1) Syntax.imm (Syntax.tyInt Syntax.w8)) 1) (List._∷_ (4, Relend.mslice-owed (Referent.rtF (Referent.fInt Syntax.w8)) (Syntax.tyRef (Syntax.named 2) Syntax.mut (Syntax.tyInt Syntax.w8)) 2 7 Row.off) (List._∷_ (5, Rows'.any-gone (ColumnMetadataRow.ty)) (List._∷_ (6, Rows.arrF (ColumnMetadataRow.RT) 4096 0) (List._∷_ (7, Rows'.any-gone (Syntax.tyStruct (List._∷_ 115 (List._∷_ 113 (List._∷_ 108 (List._∷_ 100 (List._∷_ 97 (List._∷_ 114 (List._∷_ 100 (List._∷_ 58 (List._∷_ 58 (List._∷_ 83 (List._∷_ 113 (List._∷_ 108 (List._∷_ 100 (List._∷_ 97 (List._∷_ 114 (List._∷_ 100 (List._∷_ 65 (List._∷_ 110 (List._∷_ 115 (List._∷_ 119 (List._∷_ 101 (List._∷_ 114 List.[])))))))))))))))))))))) (Syntax.tcons (Syntax.tyEnum (List._∷_ 111 (List._∷_ 117 (List._∷_ 116 (List._∷_ 99 (List._∷_ 111 (List._∷_ 109 (List._∷_ 101 (List._∷_ 58 (List._∷_ 58 (List._∷_ 79 (List._∷_ 117 (List._∷_ 116 (List._∷_ 99 (List._∷_ 111 (List._∷_ 109 (List._∷_ 101 List.[])))))))))))))))) (Syntax.ttcons Syntax.tnil (Syntax.ttcons Syntax.tnil (Syntax.ttcons (Syntax.tcons (Syntax.tyInt Syntax.w64) (Syntax.tcons (Syntax.tyInt Syntax.w64) Syntax.tnil)) (Syntax.ttcons Syntax.tnil (Syntax.ttcons (Syntax.tcons (Syntax.tyInt Syntax.w16) Syntax.tnil) (Syntax.ttcons Syntax.tnil (Syntax.ttcons (Syntax.tcons (Syntax.tyInt Syntax.w64) Syntax.tnil) (Syntax.ttcons Syntax.tnil (Syntax.ttcons (Syntax.tcons (Syntax.tyInt Syntax.w16) Syntax.tnil) Syntax.ttnil)))))))))) (Syntax.tcons (Syntax.tyStruct (List._∷_ 115 (List._∷_ 113 (List._∷_ 108 (List._∷_ 99 (List._∷_ 97 (List._∷_ 114 (List._∷_ 100 (List._∷_ 58 (List._∷_ 58 (List._∷_ 83 (List._∷_ 113 (List._∷_ 108 (List._∷_ 67 (List._∷_ 97 (List._∷_ 114 (List._∷_ 100 List.[])))))))))))))))) (Syntax.tcons Syntax.tyBool (Syntax.tcons (Syntax.tyInt Syntax.w32) (Syntax.tcons (Syntax.tyArray (Syntax.tyInt Syntax.w8) 5) (Syntax.tcons (Syntax.tyArray (Syntax.tyInt Syntax.w8) 8) (Syntax.tcons (Syntax.tyInt Syntax.w8) (Syntax.tcons (Syntax.tyArray (Syntax.tyInt Syntax.w32) 6) (Syntax.tcons (Syntax.tyInt Syntax.w64) (Syntax.tcons (Syntax.tyInt Syntax.w32) (Syntax.tcons (Syntax.tyArray (Syntax.tyInt Syntax.w8) 11) (Syntax.tcons (Syntax.tyInt Syntax.w64) (Syntax.tcons (Syntax.tyInt Syntax.w64) Syntax.tnil)))))))))))) (Syntax.tcons (Syntax.tyInt Syntax.w64) Syntax.tnil))))) (List._∷_ (8, Rows'.any-gone (Syntax.tyEnum (List._∷_ 111 (List._∷_ 117 (List._∷_ 116 (List._∷_ 99 (List._∷_ 111 (List._∷_ 109 (List._∷_ 101 (List._∷_ 58 (List._∷_ 58 (List._∷_ 79 (List._∷_ 117 (List._∷_ 116 (List._∷_ 99 (List._∷_ 111 (List._∷_ 109 (List._∷_ 101 List.[])))))))))))))))) (Syntax.ttcons Syntax.tnil (Syntax.ttcons Syntax.tnil (Syntax.ttcons (Syntax.tcons (Syntax.tyInt Syntax.w64) (Syntax.tcons (Syntax.tyInt Syntax.w64) Syntax.tnil)) (Syntax.ttcons Syntax.tnil (Syntax.ttcons (Syntax.tcons (Syntax.tyInt Syntax.w16) Syntax.tnil) (Syntax.ttcons Syntax.tnil (Syntax.ttcons (Syntax.tcons (Syntax.tyInt Syntax.w64) Syntax.tnil) (Syntax.ttcons Syntax.tnil (Syntax.ttcons (Syntax.tcons (Syntax.tyInt Syntax.w16) Syntax.tnil) Syntax.ttnil))))))))))) (List._∷_ (9, Rows'.sc-here (Row.sInt Syntax.w64)) (List._∷_ (10, Rows'.any-gone (Syntax.tyStruct (List._∷_ 115 (List._∷_ 113 (List._∷_ 108 (List._∷_ 99 (List._∷_ 97 (List._∷_ 114 (List._∷_ 100 (List._∷_ 58 (List._∷_ 58 (List._∷_ 83 (List._∷_ 113 (List._∷_ 108 (List._∷_ 67 (List._∷_ 97 (List._∷_ 114 (List._∷_ 100 List.[])))))))))))))))) (Syntax.tcons Syntax.tyBool (Syntax.tcons (Syntax.tyInt Syntax.w32) (Syntax.tcons (Syntax.tyArray (Syntax.tyInt Syntax.w8) 5) (Syntax.tcons (Syntax.tyArray (Syntax.tyInt Syntax.w8) 8) (Syntax.tcons (Syntax.tyInt Syntax.w8) (Syntax.tcons (Syntax.tyArray (Syntax.tyInt Syntax.w32) 6) (Syntax.tcons (Syntax.tyInt Syntax.w64) (Syntax.tcons (Syntax.tyInt Syntax.w32) (Syntax.tcons (Syntax.tyArray (Syntax.tyInt Syntax.w8) 11) (Syntax.tcons (Syntax.tyInt Syntax.w64) (Syntax.tcons (Syntax.tyInt Syntax.w64) Syntax.tnil))))))))))))) (List._∷_ (11, Rows'.whole (Declared'.row Widths.the-type)) (List._∷_ (12, Rows'.sc-here (Row.sInt Syntax.w64)) (List._∷_ (13, Rows'.any-gone (Syntax.tyRef Syntax.erased Syntax.mut (Syntax.tyArray ColumnMetadataRow.named 4096))) (List._∷_ (14, Rows'.any-gone (Syntax.tyStruct (List._∷_ 38 (List._∷_ 91 (List._∷_ 93 List.[]))) (Syntax.tcons (Syntax.tyRef Syntax.erased Syntax.mut ColumnMetadataRow.named) (Syntax.tcons (Syntax.tyInt Syntax.w64) Syntax.tnil)))) (List._∷_ (15, Rows'.any-gone Syntax.tyBool) List.[])))))))))))))))
 
 abbrev pub t41 : List.List Row.Entry
-t41 = List._∷_ (0, Rows'.any-gone (Syntax.tyInt Syntax.w64)) (List._∷_ (1, Mut.mslice (Referent.rtF (Referent.fInt Syntax.w8)) (Syntax.tyRef (Syntax.named 0) Syntax.mut (Syntax.tyInt Syntax.w8)) 0) (List._∷_ (2, Rows'.sc-here (Row.sInt Syntax.w64)) (List._∷_ (3, Rows'.sslice (Referent.rtF (Referent.fInt Syntax.w8)) (Syntax.tyRef (Syntax.named 1) Syntax.imm (Syntax.tyInt Syntax.w8)) 1) (List._∷_ (4, Relend.mslice-owed (Referent.rtF (Referent.fInt Syntax.w8)) (Syntax.tyRef (Syntax.named 2) Syntax.mut (Syntax.tyInt Syntax.w8)) 2 7 Row.off) (List._∷_ (5, Rows'.any-gone (ColumnMetadataRow.ty)) (List._∷_ (6, Rows.arrF (ColumnMetadataRow.RT) 4096 0) (List._∷_ (7, Rows'.any-gone (Syntax.tyStruct (List._∷_ 115 (List._∷_ 113 (List._∷_ 108 (List._∷_ 100 (List._∷_ 97 (List._∷_ 114 (List._∷_ 100 (List._∷_ 58 (List._∷_ 58 (List._∷_ 83 (List._∷_ 113 (List._∷_ 108 (List._∷_ 100 (List._∷_ 97 (List._∷_ 114 (List._∷_ 100 (List._∷_ 65 (List._∷_ 110 (List._∷_ 115 (List._∷_ 119 (List._∷_ 101 (List._∷_ 114 List.[])))))))))))))))))))))) (Syntax.tcons (Syntax.tyEnum (List._∷_ 111 (List._∷_ 117 (List._∷_ 116 (List._∷_ 99 (List._∷_ 111 (List._∷_ 109 (List._∷_ 101 (List._∷_ 58 (List._∷_ 58 (List._∷_ 79 (List._∷_ 117 (List._∷_ 116 (List._∷_ 99 (List._∷_ 111 (List._∷_ 109 (List._∷_ 101 List.[])))))))))))))))) (Syntax.ttcons Syntax.tnil (Syntax.ttcons Syntax.tnil (Syntax.ttcons (Syntax.tcons (Syntax.tyInt Syntax.w64) (Syntax.tcons (Syntax.tyInt Syntax.w64) Syntax.tnil)) (Syntax.ttcons Syntax.tnil (Syntax.ttcons (Syntax.tcons (Syntax.tyInt Syntax.w16) Syntax.tnil) (Syntax.ttcons Syntax.tnil (Syntax.ttcons (Syntax.tcons (Syntax.tyInt Syntax.w64) Syntax.tnil) (Syntax.ttcons Syntax.tnil Syntax.ttnil))))))))) (Syntax.tcons (Syntax.tyStruct (List._∷_ 115 (List._∷_ 113 (List._∷_ 108 (List._∷_ 99 (List._∷_ 97 (List._∷_ 114 (List._∷_ 100 (List._∷_ 58 (List._∷_ 58 (List._∷_ 83 (List._∷_ 113 (List._∷_ 108 (List._∷_ 67 (List._∷_ 97 (List._∷_ 114 (List._∷_ 100 List.[])))))))))))))))) (Syntax.tcons Syntax.tyBool (Syntax.tcons (Syntax.tyInt Syntax.w32) (Syntax.tcons (Syntax.tyArray (Syntax.tyInt Syntax.w8) 5) (Syntax.tcons (Syntax.tyArray (Syntax.tyInt Syntax.w8) 8) (Syntax.tcons (Syntax.tyInt Syntax.w8) (Syntax.tcons (Syntax.tyArray (Syntax.tyInt Syntax.w32) 6) (Syntax.tcons (Syntax.tyInt Syntax.w64) (Syntax.tcons (Syntax.tyInt Syntax.w32) (Syntax.tcons (Syntax.tyArray (Syntax.tyInt Syntax.w8) 11) (Syntax.tcons (Syntax.tyInt Syntax.w64) (Syntax.tcons (Syntax.tyInt Syntax.w64) Syntax.tnil)))))))))))) (Syntax.tcons (Syntax.tyInt Syntax.w64) Syntax.tnil))))) (List._∷_ (8, Rows'.any-gone (Syntax.tyEnum (List._∷_ 111 (List._∷_ 117 (List._∷_ 116 (List._∷_ 99 (List._∷_ 111 (List._∷_ 109 (List._∷_ 101 (List._∷_ 58 (List._∷_ 58 (List._∷_ 79 (List._∷_ 117 (List._∷_ 116 (List._∷_ 99 (List._∷_ 111 (List._∷_ 109 (List._∷_ 101 List.[])))))))))))))))) (Syntax.ttcons Syntax.tnil (Syntax.ttcons Syntax.tnil (Syntax.ttcons (Syntax.tcons (Syntax.tyInt Syntax.w64) (Syntax.tcons (Syntax.tyInt Syntax.w64) Syntax.tnil)) (Syntax.ttcons Syntax.tnil (Syntax.ttcons (Syntax.tcons (Syntax.tyInt Syntax.w16) Syntax.tnil) (Syntax.ttcons Syntax.tnil (Syntax.ttcons (Syntax.tcons (Syntax.tyInt Syntax.w64) Syntax.tnil) (Syntax.ttcons Syntax.tnil Syntax.ttnil)))))))))) (List._∷_ (9, Rows'.sc-here (Row.sInt Syntax.w64)) (List._∷_ (10, Rows'.any-gone (Syntax.tyStruct (List._∷_ 115 (List._∷_ 113 (List._∷_ 108 (List._∷_ 99 (List._∷_ 97 (List._∷_ 114 (List._∷_ 100 (List._∷_ 58 (List._∷_ 58 (List._∷_ 83 (List._∷_ 113 (List._∷_ 108 (List._∷_ 67 (List._∷_ 97 (List._∷_ 114 (List._∷_ 100 List.[])))))))))))))))) (Syntax.tcons Syntax.tyBool (Syntax.tcons (Syntax.tyInt Syntax.w32) (Syntax.tcons (Syntax.tyArray (Syntax.tyInt Syntax.w8) 5) (Syntax.tcons (Syntax.tyArray (Syntax.tyInt Syntax.w8) 8) (Syntax.tcons (Syntax.tyInt Syntax.w8) (Syntax.tcons (Syntax.tyArray (Syntax.tyInt Syntax.w32) 6) (Syntax.tcons (Syntax.tyInt Syntax.w64) (Syntax.tcons (Syntax.tyInt Syntax.w32) (Syntax.tcons (Syntax.tyArray (Syntax.tyInt Syntax.w8) 11) (Syntax.tcons (Syntax.tyInt Syntax.w64) (Syntax.tcons (Syntax.tyInt Syntax.w64) Syntax.tnil))))))))))))) (List._∷_ (11, Rows'.whole (Declared'.row Widths.the-type)) (List._∷_ (12, Rows'.sc-here (Row.sInt Syntax.w64)) (List._∷_ (13, Rows'.any-gone (Syntax.tyRef Syntax.erased Syntax.mut (Syntax.tyArray ColumnMetadataRow.named 4096))) (List._∷_ (14, Rows'.any-gone (Syntax.tyStruct (List._∷_ 38 (List._∷_ 91 (List._∷_ 93 List.[]))) (Syntax.tcons (Syntax.tyRef Syntax.erased Syntax.mut ColumnMetadataRow.named) (Syntax.tcons (Syntax.tyInt Syntax.w64) Syntax.tnil)))) (List._∷_ (15, Rows'.any-gone Syntax.tyBool) List.[])))))))))))))))
+t41 = List._∷_ (0, Rows'.any-gone (Syntax.tyInt Syntax.w64)) (List._∷_ (1, Mut.mslice (Referent.rtF (Referent.fInt Syntax.w8)) (Syntax.tyRef (Syntax.named 0) Syntax.mut (Syntax.tyInt Syntax.w8)) 0) (List._∷_ (2, Rows'.sc-here (Row.sInt Syntax.w64)) (List._∷_ (3, Rows'.sslice (Referent.rtF (Referent.fInt Syntax.w8)) (Syntax.tyRef (Syntax.named 1) Syntax.imm (Syntax.tyInt Syntax.w8)) 1) (List._∷_ (4, Relend.mslice-owed (Referent.rtF (Referent.fInt Syntax.w8)) (Syntax.tyRef (Syntax.named 2) Syntax.mut (Syntax.tyInt Syntax.w8)) 2 7 Row.off) (List._∷_ (5, Rows'.any-gone (ColumnMetadataRow.ty)) (List._∷_ (6, Rows.arrF (ColumnMetadataRow.RT) 4096 0) (List._∷_ (7, Rows'.any-gone (Syntax.tyStruct (List._∷_ 115 (List._∷_ 113 (List._∷_ 108 (List._∷_ 100 (List._∷_ 97 (List._∷_ 114 (List._∷_ 100 (List._∷_ 58 (List._∷_ 58 (List._∷_ 83 (List._∷_ 113 (List._∷_ 108 (List._∷_ 100 (List._∷_ 97 (List._∷_ 114 (List._∷_ 100 (List._∷_ 65 (List._∷_ 110 (List._∷_ 115 (List._∷_ 119 (List._∷_ 101 (List._∷_ 114 List.[])))))))))))))))))))))) (Syntax.tcons (Syntax.tyEnum (List._∷_ 111 (List._∷_ 117 (List._∷_ 116 (List._∷_ 99 (List._∷_ 111 (List._∷_ 109 (List._∷_ 101 (List._∷_ 58 (List._∷_ 58 (List._∷_ 79 (List._∷_ 117 (List._∷_ 116 (List._∷_ 99 (List._∷_ 111 (List._∷_ 109 (List._∷_ 101 List.[])))))))))))))))) (Syntax.ttcons Syntax.tnil (Syntax.ttcons Syntax.tnil (Syntax.ttcons (Syntax.tcons (Syntax.tyInt Syntax.w64) (Syntax.tcons (Syntax.tyInt Syntax.w64) Syntax.tnil)) (Syntax.ttcons Syntax.tnil (Syntax.ttcons (Syntax.tcons (Syntax.tyInt Syntax.w16) Syntax.tnil) (Syntax.ttcons Syntax.tnil (Syntax.ttcons (Syntax.tcons (Syntax.tyInt Syntax.w64) Syntax.tnil) (Syntax.ttcons Syntax.tnil (Syntax.ttcons (Syntax.tcons (Syntax.tyInt Syntax.w16) Syntax.tnil) Syntax.ttnil)))))))))) (Syntax.tcons (Syntax.tyStruct (List._∷_ 115 (List._∷_ 113 (List._∷_ 108 (List._∷_ 99 (List._∷_ 97 (List._∷_ 114 (List._∷_ 100 (List._∷_ 58 (List._∷_ 58 (List._∷_ 83 (List._∷_ 113 (List._∷_ 108 (List._∷_ 67 (List._∷_ 97 (List._∷_ 114 (List._∷_ 100 List.[])))))))))))))))) (Syntax.tcons Syntax.tyBool (Syntax.tcons (Syntax.tyInt Syntax.w32) (Syntax.tcons (Syntax.tyArray (Syntax.tyInt Syntax.w8) 5) (Syntax.tcons (Syntax.tyArray (Syntax.tyInt Syntax.w8) 8) (Syntax.tcons (Syntax.tyInt Syntax.w8) (Syntax.tcons (Syntax.tyArray (Syntax.tyInt Syntax.w32) 6) (Syntax.tcons (Syntax.tyInt Syntax.w64) (Syntax.tcons (Syntax.tyInt Syntax.w32) (Syntax.tcons (Syntax.tyArray (Syntax.tyInt Syntax.w8) 11) (Syntax.tcons (Syntax.tyInt Syntax.w64) (Syntax.tcons (Syntax.tyInt Syntax.w64) Syntax.tnil)))))))))))) (Syntax.tcons (Syntax.tyInt Syntax.w64) Syntax.tnil))))) (List._∷_ (8, Rows'.any-gone (Syntax.tyEnum (List._∷_ 111 (List._∷_ 117 (List._∷_ 116 (List._∷_ 99 (List._∷_ 111 (List._∷_ 109 (List._∷_ 101 (List._∷_ 58 (List._∷_ 58 (List._∷_ 79 (List._∷_ 117 (List._∷_ 116 (List._∷_ 99 (List._∷_ 111 (List._∷_ 109 (List._∷_ 101 List.[])))))))))))))))) (Syntax.ttcons Syntax.tnil (Syntax.ttcons Syntax.tnil (Syntax.ttcons (Syntax.tcons (Syntax.tyInt Syntax.w64) (Syntax.tcons (Syntax.tyInt Syntax.w64) Syntax.tnil)) (Syntax.ttcons Syntax.tnil (Syntax.ttcons (Syntax.tcons (Syntax.tyInt Syntax.w16) Syntax.tnil) (Syntax.ttcons Syntax.tnil (Syntax.ttcons (Syntax.tcons (Syntax.tyInt Syntax.w64) Syntax.tnil) (Syntax.ttcons Syntax.tnil (Syntax.ttcons (Syntax.tcons (Syntax.tyInt Syntax.w16) Syntax.tnil) Syntax.ttnil))))))))))) (List._∷_ (9, Rows'.sc-here (Row.sInt Syntax.w64)) (List._∷_ (10, Rows'.any-gone (Syntax.tyStruct (List._∷_ 115 (List._∷_ 113 (List._∷_ 108 (List._∷_ 99 (List._∷_ 97 (List._∷_ 114 (List._∷_ 100 (List._∷_ 58 (List._∷_ 58 (List._∷_ 83 (List._∷_ 113 (List._∷_ 108 (List._∷_ 67 (List._∷_ 97 (List._∷_ 114 (List._∷_ 100 List.[])))))))))))))))) (Syntax.tcons Syntax.tyBool (Syntax.tcons (Syntax.tyInt Syntax.w32) (Syntax.tcons (Syntax.tyArray (Syntax.tyInt Syntax.w8) 5) (Syntax.tcons (Syntax.tyArray (Syntax.tyInt Syntax.w8) 8) (Syntax.tcons (Syntax.tyInt Syntax.w8) (Syntax.tcons (Syntax.tyArray (Syntax.tyInt Syntax.w32) 6) (Syntax.tcons (Syntax.tyInt Syntax.w64) (Syntax.tcons (Syntax.tyInt Syntax.w32) (Syntax.tcons (Syntax.tyArray (Syntax.tyInt Syntax.w8) 11) (Syntax.tcons (Syntax.tyInt Syntax.w64) (Syntax.tcons (Syntax.tyInt Syntax.w64) Syntax.tnil))))))))))))) (List._∷_ (11, Rows'.whole (Declared'.row Widths.the-type)) (List._∷_ (12, Rows'.sc-here (Row.sInt Syntax.w64)) (List._∷_ (13, Rows'.any-gone (Syntax.tyRef Syntax.erased Syntax.mut (Syntax.tyArray ColumnMetadataRow.named 4096))) (List._∷_ (14, Rows'.any-gone (Syntax.tyStruct (List._∷_ 38 (List._∷_ 91 (List._∷_ 93 List.[]))) (Syntax.tcons (Syntax.tyRef Syntax.erased Syntax.mut ColumnMetadataRow.named) (Syntax.tcons (Syntax.tyInt Syntax.w64) Syntax.tnil)))) (List._∷_ (15, Rows'.any-gone Syntax.tyBool) List.[])))))))))))))))
 
 abbrev pub t42 : List.List Row.Entry
 t42 = List._∷_ (16, Rows'.any-gone (Syntax.tyRef Syntax.erased Syntax.mut (Syntax.tyInt Syntax.w8))) (List._∷_ (17, Rows'.any-gone (Syntax.tyStruct (List._∷_ 38 (List._∷_ 91 (List._∷_ 93 List.[]))) (Syntax.tcons (Syntax.tyRef Syntax.erased Syntax.mut (Syntax.tyInt Syntax.w8)) (Syntax.tcons (Syntax.tyInt Syntax.w64) Syntax.tnil)))) (List._∷_ (18, Rows'.any-gone (Syntax.tyRef Syntax.erased Syntax.imm (Syntax.tyArray ColumnMetadataRow.named 4096))) (List._∷_ (19, Rows'.any-gone (Syntax.tyStruct (List._∷_ 38 (List._∷_ 91 (List._∷_ 93 List.[]))) (Syntax.tcons (Syntax.tyRef Syntax.erased Syntax.imm ColumnMetadataRow.named) (Syntax.tcons (Syntax.tyInt Syntax.w64) Syntax.tnil)))) (List._∷_ (20, Rows'.any-gone (Syntax.tyRef Syntax.erased Syntax.mut (Syntax.tyInt Syntax.w8))) (List._∷_ (21, Rows'.any-gone (Syntax.tyStruct (List._∷_ 38 (List._∷_ 91 (List._∷_ 93 List.[]))) (Syntax.tcons (Syntax.tyRef Syntax.erased Syntax.mut (Syntax.tyInt Syntax.w8)) (Syntax.tcons (Syntax.tyInt Syntax.w64) Syntax.tnil)))) (List._∷_ (22, Rows'.any-gone (Syntax.tyRef Syntax.erased Syntax.mut (Syntax.tyInt Syntax.w8))) (List._∷_ (23, Mut.msleft (Referent.rtF (Referent.fInt Syntax.w8)) (Syntax.tyRef Syntax.erased Syntax.mut (Syntax.tyInt Syntax.w8))) (List._∷_ (24, Rows'.any-gone (Syntax.tyRef Syntax.erased Syntax.mut (Syntax.tyInt Syntax.w8))) (List._∷_ (25, Rows'.any-gone (Syntax.tyStruct (List._∷_ 38 (List._∷_ 91 (List._∷_ 93 List.[]))) (Syntax.tcons (Syntax.tyRef Syntax.erased Syntax.mut (Syntax.tyInt Syntax.w8)) (Syntax.tcons (Syntax.tyInt Syntax.w64) Syntax.tnil)))) (List._∷_ (26, Rows'.any-gone (Syntax.tyRef Syntax.erased Syntax.imm (Syntax.tyArray ColumnMetadataRow.named 4096))) (List._∷_ (27, Rows'.any-gone (Syntax.tyStruct (List._∷_ 38 (List._∷_ 91 (List._∷_ 93 List.[]))) (Syntax.tcons (Syntax.tyRef Syntax.erased Syntax.imm ColumnMetadataRow.named) (Syntax.tcons (Syntax.tyInt Syntax.w64) Syntax.tnil)))) List.[])))))))))))
 
 abbrev pub t43 : List.List Row.Entry
-t43 = List._∷_ (0, Rows'.any-gone (Syntax.tyInt Syntax.w64)) (List._∷_ (1, Mut.mslice (Referent.rtF (Referent.fInt Syntax.w8)) (Syntax.tyRef (Syntax.named 0) Syntax.mut (Syntax.tyInt Syntax.w8)) 0) (List._∷_ (2, Rows'.sc-here (Row.sInt Syntax.w64)) (List._∷_ (3, Rows'.sslice (Referent.rtF (Referent.fInt Syntax.w8)) (Syntax.tyRef (Syntax.named 1) Syntax.imm (Syntax.tyInt Syntax.w8)) 1) (List._∷_ (4, Mut.mslice (Referent.rtF (Referent.fInt Syntax.w8)) (Syntax.tyRef (Syntax.named 2) Syntax.mut (Syntax.tyInt Syntax.w8)) 2) (List._∷_ (5, Rows'.any-gone (ColumnMetadataRow.ty)) (List._∷_ (6, Rows.arrF (ColumnMetadataRow.RT) 4096 0) (List._∷_ (7, Rows'.any-gone (Syntax.tyStruct (List._∷_ 115 (List._∷_ 113 (List._∷_ 108 (List._∷_ 100 (List._∷_ 97 (List._∷_ 114 (List._∷_ 100 (List._∷_ 58 (List._∷_ 58 (List._∷_ 83 (List._∷_ 113 (List._∷_ 108 (List._∷_ 100 (List._∷_ 97 (List._∷_ 114 (List._∷_ 100 (List._∷_ 65 (List._∷_ 110 (List._∷_ 115 (List._∷_ 119 (List._∷_ 101 (List._∷_ 114 List.[])))))))))))))))))))))) (Syntax.tcons (Syntax.tyEnum (List._∷_ 111 (List._∷_ 117 (List._∷_ 116 (List._∷_ 99 (List._∷_ 111 (List._∷_ 109 (List._∷_ 101 (List._∷_ 58 (List._∷_ 58 (List._∷_ 79 (List._∷_ 117 (List._∷_ 116 (List._∷_ 99 (List._∷_ 111 (List._∷_ 109 (List._∷_ 101 List.[])))))))))))))))) (Syntax.ttcons Syntax.tnil (Syntax.ttcons Syntax.tnil (Syntax.ttcons (Syntax.tcons (Syntax.tyInt Syntax.w64) (Syntax.tcons (Syntax.tyInt Syntax.w64) Syntax.tnil)) (Syntax.ttcons Syntax.tnil (Syntax.ttcons (Syntax.tcons (Syntax.tyInt Syntax.w16) Syntax.tnil) (Syntax.ttcons Syntax.tnil (Syntax.ttcons (Syntax.tcons (Syntax.tyInt Syntax.w64) Syntax.tnil) (Syntax.ttcons Syntax.tnil Syntax.ttnil))))))))) (Syntax.tcons (Syntax.tyStruct (List._∷_ 115 (List._∷_ 113 (List._∷_ 108 (List._∷_ 99 (List._∷_ 97 (List._∷_ 114 (List._∷_ 100 (List._∷_ 58 (List._∷_ 58 (List._∷_ 83 (List._∷_ 113 (List._∷_ 108 (List._∷_ 67 (List._∷_ 97 (List._∷_ 114 (List._∷_ 100 List.[])))))))))))))))) (Syntax.tcons Syntax.tyBool (Syntax.tcons (Syntax.tyInt Syntax.w32) (Syntax.tcons (Syntax.tyArray (Syntax.tyInt Syntax.w8) 5) (Syntax.tcons (Syntax.tyArray (Syntax.tyInt Syntax.w8) 8) (Syntax.tcons (Syntax.tyInt Syntax.w8) (Syntax.tcons (Syntax.tyArray (Syntax.tyInt Syntax.w32) 6) (Syntax.tcons (Syntax.tyInt Syntax.w64) (Syntax.tcons (Syntax.tyInt Syntax.w32) (Syntax.tcons (Syntax.tyArray (Syntax.tyInt Syntax.w8) 11) (Syntax.tcons (Syntax.tyInt Syntax.w64) (Syntax.tcons (Syntax.tyInt Syntax.w64) Syntax.tnil)))))))))))) (Syntax.tcons (Syntax.tyInt Syntax.w64) Syntax.tnil))))) (List._∷_ (8, Rows'.any-gone (Syntax.tyEnum (List._∷_ 111 (List._∷_ 117 (List._∷_ 116 (List._∷_ 99 (List._∷_ 111 (List._∷_ 109 (List._∷_ 101 (List._∷_ 58 (List._∷_ 58 (List._∷_ 79 (List._∷_ 117 (List._∷_ 116 (List._∷_ 99 (List._∷_ 111 (List._∷_ 109 (List._∷_ 101 List.[])))))))))))))))) (Syntax.ttcons Syntax.tnil (Syntax.ttcons Syntax.tnil (Syntax.ttcons (Syntax.tcons (Syntax.tyInt Syntax.w64) (Syntax.tcons (Syntax.tyInt Syntax.w64) Syntax.tnil)) (Syntax.ttcons Syntax.tnil (Syntax.ttcons (Syntax.tcons (Syntax.tyInt Syntax.w16) Syntax.tnil) (Syntax.ttcons Syntax.tnil (Syntax.ttcons (Syntax.tcons (Syntax.tyInt Syntax.w64) Syntax.tnil) (Syntax.ttcons Syntax.tnil Syntax.ttnil)))))))))) (List._∷_ (9, Rows'.sc-here (Row.sInt Syntax.w64)) (List._∷_ (10, Rows'.any-gone (Syntax.tyStruct (List._∷_ 115 (List._∷_ 113 (List._∷_ 108 (List._∷_ 99 (List._∷_ 97 (List._∷_ 114 (List._∷_ 100 (List._∷_ 58 (List._∷_ 58 (List._∷_ 83 (List._∷_ 113 (List._∷_ 108 (List._∷_ 67 (List._∷_ 97 (List._∷_ 114 (List._∷_ 100 List.[])))))))))))))))) (Syntax.tcons Syntax.tyBool (Syntax.tcons (Syntax.tyInt Syntax.w32) (Syntax.tcons (Syntax.tyArray (Syntax.tyInt Syntax.w8) 5) (Syntax.tcons (Syntax.tyArray (Syntax.tyInt Syntax.w8) 8) (Syntax.tcons (Syntax.tyInt Syntax.w8) (Syntax.tcons (Syntax.tyArray (Syntax.tyInt Syntax.w32) 6) (Syntax.tcons (Syntax.tyInt Syntax.w64) (Syntax.tcons (Syntax.tyInt Syntax.w32) (Syntax.tcons (Syntax.tyArray (Syntax.tyInt Syntax.w8) 11) (Syntax.tcons (Syntax.tyInt Syntax.w64) (Syntax.tcons (Syntax.tyInt Syntax.w64) Syntax.tnil))))))))))))) (List._∷_ (11, Rows'.whole (Declared'.row Widths.the-type)) (List._∷_ (12, Rows'.sc-here (Row.sInt Syntax.w64)) (List._∷_ (13, Rows'.any-gone (Syntax.tyRef Syntax.erased Syntax.mut (Syntax.tyArray ColumnMetadataRow.named 4096))) (List._∷_ (14, Rows'.any-gone (Syntax.tyStruct (List._∷_ 38 (List._∷_ 91 (List._∷_ 93 List.[]))) (Syntax.tcons (Syntax.tyRef Syntax.erased Syntax.mut ColumnMetadataRow.named) (Syntax.tcons (Syntax.tyInt Syntax.w64) Syntax.tnil)))) (List._∷_ (15, Rows'.any-gone Syntax.tyBool) List.[])))))))))))))))
+t43 = List._∷_ (0, Rows'.any-gone (Syntax.tyInt Syntax.w64)) (List._∷_ (1, Mut.mslice (Referent.rtF (Referent.fInt Syntax.w8)) (Syntax.tyRef (Syntax.named 0) Syntax.mut (Syntax.tyInt Syntax.w8)) 0) (List._∷_ (2, Rows'.sc-here (Row.sInt Syntax.w64)) (List._∷_ (3, Rows'.sslice (Referent.rtF (Referent.fInt Syntax.w8)) (Syntax.tyRef (Syntax.named 1) Syntax.imm (Syntax.tyInt Syntax.w8)) 1) (List._∷_ (4, Mut.mslice (Referent.rtF (Referent.fInt Syntax.w8)) (Syntax.tyRef (Syntax.named 2) Syntax.mut (Syntax.tyInt Syntax.w8)) 2) (List._∷_ (5, Rows'.any-gone (ColumnMetadataRow.ty)) (List._∷_ (6, Rows.arrF (ColumnMetadataRow.RT) 4096 0) (List._∷_ (7, Rows'.any-gone (Syntax.tyStruct (List._∷_ 115 (List._∷_ 113 (List._∷_ 108 (List._∷_ 100 (List._∷_ 97 (List._∷_ 114 (List._∷_ 100 (List._∷_ 58 (List._∷_ 58 (List._∷_ 83 (List._∷_ 113 (List._∷_ 108 (List._∷_ 100 (List._∷_ 97 (List._∷_ 114 (List._∷_ 100 (List._∷_ 65 (List._∷_ 110 (List._∷_ 115 (List._∷_ 119 (List._∷_ 101 (List._∷_ 114 List.[])))))))))))))))))))))) (Syntax.tcons (Syntax.tyEnum (List._∷_ 111 (List._∷_ 117 (List._∷_ 116 (List._∷_ 99 (List._∷_ 111 (List._∷_ 109 (List._∷_ 101 (List._∷_ 58 (List._∷_ 58 (List._∷_ 79 (List._∷_ 117 (List._∷_ 116 (List._∷_ 99 (List._∷_ 111 (List._∷_ 109 (List._∷_ 101 List.[])))))))))))))))) (Syntax.ttcons Syntax.tnil (Syntax.ttcons Syntax.tnil (Syntax.ttcons (Syntax.tcons (Syntax.tyInt Syntax.w64) (Syntax.tcons (Syntax.tyInt Syntax.w64) Syntax.tnil)) (Syntax.ttcons Syntax.tnil (Syntax.ttcons (Syntax.tcons (Syntax.tyInt Syntax.w16) Syntax.tnil) (Syntax.ttcons Syntax.tnil (Syntax.ttcons (Syntax.tcons (Syntax.tyInt Syntax.w64) Syntax.tnil) (Syntax.ttcons Syntax.tnil (Syntax.ttcons (Syntax.tcons (Syntax.tyInt Syntax.w16) Syntax.tnil) Syntax.ttnil)))))))))) (Syntax.tcons (Syntax.tyStruct (List._∷_ 115 (List._∷_ 113 (List._∷_ 108 (List._∷_ 99 (List._∷_ 97 (List._∷_ 114 (List._∷_ 100 (List._∷_ 58 (List._∷_ 58 (List._∷_ 83 (List._∷_ 113 (List._∷_ 108 (List._∷_ 67 (List._∷_ 97 (List._∷_ 114 (List._∷_ 100 List.[])))))))))))))))) (Syntax.tcons Syntax.tyBool (Syntax.tcons (Syntax.tyInt Syntax.w32) (Syntax.tcons (Syntax.tyArray (Syntax.tyInt Syntax.w8) 5) (Syntax.tcons (Syntax.tyArray (Syntax.tyInt Syntax.w8) 8) (Syntax.tcons (Syntax.tyInt Syntax.w8) (Syntax.tcons (Syntax.tyArray (Syntax.tyInt Syntax.w32) 6) (Syntax.tcons (Syntax.tyInt Syntax.w64) (Syntax.tcons (Syntax.tyInt Syntax.w32) (Syntax.tcons (Syntax.tyArray (Syntax.tyInt Syntax.w8) 11) (Syntax.tcons (Syntax.tyInt Syntax.w64) (Syntax.tcons (Syntax.tyInt Syntax.w64) Syntax.tnil)))))))))))) (Syntax.tcons (Syntax.tyInt Syntax.w64) Syntax.tnil))))) (List._∷_ (8, Rows'.any-gone (Syntax.tyEnum (List._∷_ 111 (List._∷_ 117 (List._∷_ 116 (List._∷_ 99 (List._∷_ 111 (List._∷_ 109 (List._∷_ 101 (List._∷_ 58 (List._∷_ 58 (List._∷_ 79 (List._∷_ 117 (List._∷_ 116 (List._∷_ 99 (List._∷_ 111 (List._∷_ 109 (List._∷_ 101 List.[])))))))))))))))) (Syntax.ttcons Syntax.tnil (Syntax.ttcons Syntax.tnil (Syntax.ttcons (Syntax.tcons (Syntax.tyInt Syntax.w64) (Syntax.tcons (Syntax.tyInt Syntax.w64) Syntax.tnil)) (Syntax.ttcons Syntax.tnil (Syntax.ttcons (Syntax.tcons (Syntax.tyInt Syntax.w16) Syntax.tnil) (Syntax.ttcons Syntax.tnil (Syntax.ttcons (Syntax.tcons (Syntax.tyInt Syntax.w64) Syntax.tnil) (Syntax.ttcons Syntax.tnil (Syntax.ttcons (Syntax.tcons (Syntax.tyInt Syntax.w16) Syntax.tnil) Syntax.ttnil))))))))))) (List._∷_ (9, Rows'.sc-here (Row.sInt Syntax.w64)) (List._∷_ (10, Rows'.any-gone (Syntax.tyStruct (List._∷_ 115 (List._∷_ 113 (List._∷_ 108 (List._∷_ 99 (List._∷_ 97 (List._∷_ 114 (List._∷_ 100 (List._∷_ 58 (List._∷_ 58 (List._∷_ 83 (List._∷_ 113 (List._∷_ 108 (List._∷_ 67 (List._∷_ 97 (List._∷_ 114 (List._∷_ 100 List.[])))))))))))))))) (Syntax.tcons Syntax.tyBool (Syntax.tcons (Syntax.tyInt Syntax.w32) (Syntax.tcons (Syntax.tyArray (Syntax.tyInt Syntax.w8) 5) (Syntax.tcons (Syntax.tyArray (Syntax.tyInt Syntax.w8) 8) (Syntax.tcons (Syntax.tyInt Syntax.w8) (Syntax.tcons (Syntax.tyArray (Syntax.tyInt Syntax.w32) 6) (Syntax.tcons (Syntax.tyInt Syntax.w64) (Syntax.tcons (Syntax.tyInt Syntax.w32) (Syntax.tcons (Syntax.tyArray (Syntax.tyInt Syntax.w8) 11) (Syntax.tcons (Syntax.tyInt Syntax.w64) (Syntax.tcons (Syntax.tyInt Syntax.w64) Syntax.tnil))))))))))))) (List._∷_ (11, Rows'.whole (Declared'.row Widths.the-type)) (List._∷_ (12, Rows'.sc-here (Row.sInt Syntax.w64)) (List._∷_ (13, Rows'.any-gone (Syntax.tyRef Syntax.erased Syntax.mut (Syntax.tyArray ColumnMetadataRow.named 4096))) (List._∷_ (14, Rows'.any-gone (Syntax.tyStruct (List._∷_ 38 (List._∷_ 91 (List._∷_ 93 List.[]))) (Syntax.tcons (Syntax.tyRef Syntax.erased Syntax.mut ColumnMetadataRow.named) (Syntax.tcons (Syntax.tyInt Syntax.w64) Syntax.tnil)))) (List._∷_ (15, Rows'.any-gone Syntax.tyBool) List.[])))))))))))))))
 
 abbrev pub t44 : List.List Row.Entry
-t44 = List._∷_ (0, Rows'.any-gone (Syntax.tyInt Syntax.w64)) (List._∷_ (1, Relend.mslice-owed (Referent.rtF (Referent.fInt Syntax.w8)) (Syntax.tyRef (Syntax.named 0) Syntax.mut (Syntax.tyInt Syntax.w8)) 0 8 Row.off) (List._∷_ (2, Rows'.sc-here (Row.sInt Syntax.w64)) (List._∷_ (3, Rows'.sslice (Referent.rtF (Referent.fInt Syntax.w8)) (Syntax.tyRef (Syntax.named 1) Syntax.imm (Syntax.tyInt Syntax.w8)) 1) (List._∷_ (4, Mut.mslice (Referent.rtF (Referent.fInt Syntax.w8)) (Syntax.tyRef (Syntax.named 2) Syntax.mut (Syntax.tyInt Syntax.w8)) 2) (List._∷_ (5, Rows'.any-gone (ColumnMetadataRow.ty)) (List._∷_ (6, Rows.arrF (ColumnMetadataRow.RT) 4096 0) (List._∷_ (7, Rows'.any-gone (Syntax.tyStruct (List._∷_ 115 (List._∷_ 113 (List._∷_ 108 (List._∷_ 100 (List._∷_ 97 (List._∷_ 114 (List._∷_ 100 (List._∷_ 58 (List._∷_ 58 (List._∷_ 83 (List._∷_ 113 (List._∷_ 108 (List._∷_ 100 (List._∷_ 97 (List._∷_ 114 (List._∷_ 100 (List._∷_ 65 (List._∷_ 110 (List._∷_ 115 (List._∷_ 119 (List._∷_ 101 (List._∷_ 114 List.[])))))))))))))))))))))) (Syntax.tcons (Syntax.tyEnum (List._∷_ 111 (List._∷_ 117 (List._∷_ 116 (List._∷_ 99 (List._∷_ 111 (List._∷_ 109 (List._∷_ 101 (List._∷_ 58 (List._∷_ 58 (List._∷_ 79 (List._∷_ 117 (List._∷_ 116 (List._∷_ 99 (List._∷_ 111 (List._∷_ 109 (List._∷_ 101 List.[])))))))))))))))) (Syntax.ttcons Syntax.tnil (Syntax.ttcons Syntax.tnil (Syntax.ttcons (Syntax.tcons (Syntax.tyInt Syntax.w64) (Syntax.tcons (Syntax.tyInt Syntax.w64) Syntax.tnil)) (Syntax.ttcons Syntax.tnil (Syntax.ttcons (Syntax.tcons (Syntax.tyInt Syntax.w16) Syntax.tnil) (Syntax.ttcons Syntax.tnil (Syntax.ttcons (Syntax.tcons (Syntax.tyInt Syntax.w64) Syntax.tnil) (Syntax.ttcons Syntax.tnil Syntax.ttnil))))))))) (Syntax.tcons (Syntax.tyStruct (List._∷_ 115 (List._∷_ 113 (List._∷_ 108 (List._∷_ 99 (List._∷_ 97 (List._∷_ 114 (List._∷_ 100 (List._∷_ 58 (List._∷_ 58 (List._∷_ 83 (List._∷_ 113 (List._∷_ 108 (List._∷_ 67 (List._∷_ 97 (List._∷_ 114 (List._∷_ 100 List.[])))))))))))))))) (Syntax.tcons Syntax.tyBool (Syntax.tcons (Syntax.tyInt Syntax.w32) (Syntax.tcons (Syntax.tyArray (Syntax.tyInt Syntax.w8) 5) (Syntax.tcons (Syntax.tyArray (Syntax.tyInt Syntax.w8) 8) (Syntax.tcons (Syntax.tyInt Syntax.w8) (Syntax.tcons (Syntax.tyArray (Syntax.tyInt Syntax.w32) 6) (Syntax.tcons (Syntax.tyInt Syntax.w64) (Syntax.tcons (Syntax.tyInt Syntax.w32) (Syntax.tcons (Syntax.tyArray (Syntax.tyInt Syntax.w8) 11) (Syntax.tcons (Syntax.tyInt Syntax.w64) (Syntax.tcons (Syntax.tyInt Syntax.w64) Syntax.tnil)))))))))))) (Syntax.tcons (Syntax.tyInt Syntax.w64) Syntax.tnil))))) (List._∷_ (8, Rows'.any-gone (Syntax.tyEnum (List._∷_ 111 (List._∷_ 117 (List._∷_ 116 (List._∷_ 99 (List._∷_ 111 (List._∷_ 109 (List._∷_ 101 (List._∷_ 58 (List._∷_ 58 (List._∷_ 79 (List._∷_ 117 (List._∷_ 116 (List._∷_ 99 (List._∷_ 111 (List._∷_ 109 (List._∷_ 101 List.[])))))))))))))))) (Syntax.ttcons Syntax.tnil (Syntax.ttcons Syntax.tnil (Syntax.ttcons (Syntax.tcons (Syntax.tyInt Syntax.w64) (Syntax.tcons (Syntax.tyInt Syntax.w64) Syntax.tnil)) (Syntax.ttcons Syntax.tnil (Syntax.ttcons (Syntax.tcons (Syntax.tyInt Syntax.w16) Syntax.tnil) (Syntax.ttcons Syntax.tnil (Syntax.ttcons (Syntax.tcons (Syntax.tyInt Syntax.w64) Syntax.tnil) (Syntax.ttcons Syntax.tnil Syntax.ttnil)))))))))) (List._∷_ (9, Rows'.sc-here (Row.sInt Syntax.w64)) (List._∷_ (10, Rows'.any-gone (Syntax.tyStruct (List._∷_ 115 (List._∷_ 113 (List._∷_ 108 (List._∷_ 99 (List._∷_ 97 (List._∷_ 114 (List._∷_ 100 (List._∷_ 58 (List._∷_ 58 (List._∷_ 83 (List._∷_ 113 (List._∷_ 108 (List._∷_ 67 (List._∷_ 97 (List._∷_ 114 (List._∷_ 100 List.[])))))))))))))))) (Syntax.tcons Syntax.tyBool (Syntax.tcons (Syntax.tyInt Syntax.w32) (Syntax.tcons (Syntax.tyArray (Syntax.tyInt Syntax.w8) 5) (Syntax.tcons (Syntax.tyArray (Syntax.tyInt Syntax.w8) 8) (Syntax.tcons (Syntax.tyInt Syntax.w8) (Syntax.tcons (Syntax.tyArray (Syntax.tyInt Syntax.w32) 6) (Syntax.tcons (Syntax.tyInt Syntax.w64) (Syntax.tcons (Syntax.tyInt Syntax.w32) (Syntax.tcons (Syntax.tyArray (Syntax.tyInt Syntax.w8) 11) (Syntax.tcons (Syntax.tyInt Syntax.w64) (Syntax.tcons (Syntax.tyInt Syntax.w64) Syntax.tnil))))))))))))) (List._∷_ (11, Rows'.whole (Declared'.row Widths.the-type)) (List._∷_ (12, Rows'.sc-here (Row.sInt Syntax.w64)) (List._∷_ (13, Rows'.any-gone (Syntax.tyRef Syntax.erased Syntax.mut (Syntax.tyArray ColumnMetadataRow.named 4096))) (List._∷_ (14, Rows'.any-gone (Syntax.tyStruct (List._∷_ 38 (List._∷_ 91 (List._∷_ 93 List.[]))) (Syntax.tcons (Syntax.tyRef Syntax.erased Syntax.mut ColumnMetadataRow.named) (Syntax.tcons (Syntax.tyInt Syntax.w64) Syntax.tnil)))) (List._∷_ (15, Rows'.any-gone Syntax.tyBool) List.[])))))))))))))))
+t44 = List._∷_ (0, Rows'.any-gone (Syntax.tyInt Syntax.w64)) (List._∷_ (1, Relend.mslice-owed (Referent.rtF (Referent.fInt Syntax.w8)) (Syntax.tyRef (Syntax.named 0) Syntax.mut (Syntax.tyInt Syntax.w8)) 0 8 Row.off) (List._∷_ (2, Rows'.sc-here (Row.sInt Syntax.w64)) (List._∷_ (3, Rows'.sslice (Referent.rtF (Referent.fInt Syntax.w8)) (Syntax.tyRef (Syntax.named 1) Syntax.imm (Syntax.tyInt Syntax.w8)) 1) (List._∷_ (4, Mut.mslice (Referent.rtF (Referent.fInt Syntax.w8)) (Syntax.tyRef (Syntax.named 2) Syntax.mut (Syntax.tyInt Syntax.w8)) 2) (List._∷_ (5, Rows'.any-gone (ColumnMetadataRow.ty)) (List._∷_ (6, Rows.arrF (ColumnMetadataRow.RT) 4096 0) (List._∷_ (7, Rows'.any-gone (Syntax.tyStruct (List._∷_ 115 (List._∷_ 113 (List._∷_ 108 (List._∷_ 100 (List._∷_ 97 (List._∷_ 114 (List._∷_ 100 (List._∷_ 58 (List._∷_ 58 (List._∷_ 83 (List._∷_ 113 (List._∷_ 108 (List._∷_ 100 (List._∷_ 97 (List._∷_ 114 (List._∷_ 100 (List._∷_ 65 (List._∷_ 110 (List._∷_ 115 (List._∷_ 119 (List._∷_ 101 (List._∷_ 114 List.[])))))))))))))))))))))) (Syntax.tcons (Syntax.tyEnum (List._∷_ 111 (List._∷_ 117 (List._∷_ 116 (List._∷_ 99 (List._∷_ 111 (List._∷_ 109 (List._∷_ 101 (List._∷_ 58 (List._∷_ 58 (List._∷_ 79 (List._∷_ 117 (List._∷_ 116 (List._∷_ 99 (List._∷_ 111 (List._∷_ 109 (List._∷_ 101 List.[])))))))))))))))) (Syntax.ttcons Syntax.tnil (Syntax.ttcons Syntax.tnil (Syntax.ttcons (Syntax.tcons (Syntax.tyInt Syntax.w64) (Syntax.tcons (Syntax.tyInt Syntax.w64) Syntax.tnil)) (Syntax.ttcons Syntax.tnil (Syntax.ttcons (Syntax.tcons (Syntax.tyInt Syntax.w16) Syntax.tnil) (Syntax.ttcons Syntax.tnil (Syntax.ttcons (Syntax.tcons (Syntax.tyInt Syntax.w64) Syntax.tnil) (Syntax.ttcons Syntax.tnil (Syntax.ttcons (Syntax.tcons (Syntax.tyInt Syntax.w16) Syntax.tnil) Syntax.ttnil)))))))))) (Syntax.tcons (Syntax.tyStruct (List._∷_ 115 (List._∷_ 113 (List._∷_ 108 (List._∷_ 99 (List._∷_ 97 (List._∷_ 114 (List._∷_ 100 (List._∷_ 58 (List._∷_ 58 (List._∷_ 83 (List._∷_ 113 (List._∷_ 108 (List._∷_ 67 (List._∷_ 97 (List._∷_ 114 (List._∷_ 100 List.[])))))))))))))))) (Syntax.tcons Syntax.tyBool (Syntax.tcons (Syntax.tyInt Syntax.w32) (Syntax.tcons (Syntax.tyArray (Syntax.tyInt Syntax.w8) 5) (Syntax.tcons (Syntax.tyArray (Syntax.tyInt Syntax.w8) 8) (Syntax.tcons (Syntax.tyInt Syntax.w8) (Syntax.tcons (Syntax.tyArray (Syntax.tyInt Syntax.w32) 6) (Syntax.tcons (Syntax.tyInt Syntax.w64) (Syntax.tcons (Syntax.tyInt Syntax.w32) (Syntax.tcons (Syntax.tyArray (Syntax.tyInt Syntax.w8) 11) (Syntax.tcons (Syntax.tyInt Syntax.w64) (Syntax.tcons (Syntax.tyInt Syntax.w64) Syntax.tnil)))))))))))) (Syntax.tcons (Syntax.tyInt Syntax.w64) Syntax.tnil))))) (List._∷_ (8, Rows'.any-gone (Syntax.tyEnum (List._∷_ 111 (List._∷_ 117 (List._∷_ 116 (List._∷_ 99 (List._∷_ 111 (List._∷_ 109 (List._∷_ 101 (List._∷_ 58 (List._∷_ 58 (List._∷_ 79 (List._∷_ 117 (List._∷_ 116 (List._∷_ 99 (List._∷_ 111 (List._∷_ 109 (List._∷_ 101 List.[])))))))))))))))) (Syntax.ttcons Syntax.tnil (Syntax.ttcons Syntax.tnil (Syntax.ttcons (Syntax.tcons (Syntax.tyInt Syntax.w64) (Syntax.tcons (Syntax.tyInt Syntax.w64) Syntax.tnil)) (Syntax.ttcons Syntax.tnil (Syntax.ttcons (Syntax.tcons (Syntax.tyInt Syntax.w16) Syntax.tnil) (Syntax.ttcons Syntax.tnil (Syntax.ttcons (Syntax.tcons (Syntax.tyInt Syntax.w64) Syntax.tnil) (Syntax.ttcons Syntax.tnil (Syntax.ttcons (Syntax.tcons (Syntax.tyInt Syntax.w16) Syntax.tnil) Syntax.ttnil))))))))))) (List._∷_ (9, Rows'.sc-here (Row.sInt Syntax.w64)) (List._∷_ (10, Rows'.any-gone (Syntax.tyStruct (List._∷_ 115 (List._∷_ 113 (List._∷_ 108 (List._∷_ 99 (List._∷_ 97 (List._∷_ 114 (List._∷_ 100 (List._∷_ 58 (List._∷_ 58 (List._∷_ 83 (List._∷_ 113 (List._∷_ 108 (List._∷_ 67 (List._∷_ 97 (List._∷_ 114 (List._∷_ 100 List.[])))))))))))))))) (Syntax.tcons Syntax.tyBool (Syntax.tcons (Syntax.tyInt Syntax.w32) (Syntax.tcons (Syntax.tyArray (Syntax.tyInt Syntax.w8) 5) (Syntax.tcons (Syntax.tyArray (Syntax.tyInt Syntax.w8) 8) (Syntax.tcons (Syntax.tyInt Syntax.w8) (Syntax.tcons (Syntax.tyArray (Syntax.tyInt Syntax.w32) 6) (Syntax.tcons (Syntax.tyInt Syntax.w64) (Syntax.tcons (Syntax.tyInt Syntax.w32) (Syntax.tcons (Syntax.tyArray (Syntax.tyInt Syntax.w8) 11) (Syntax.tcons (Syntax.tyInt Syntax.w64) (Syntax.tcons (Syntax.tyInt Syntax.w64) Syntax.tnil))))))))))))) (List._∷_ (11, Rows'.whole (Declared'.row Widths.the-type)) (List._∷_ (12, Rows'.sc-here (Row.sInt Syntax.w64)) (List._∷_ (13, Rows'.any-gone (Syntax.tyRef Syntax.erased Syntax.mut (Syntax.tyArray ColumnMetadataRow.named 4096))) (List._∷_ (14, Rows'.any-gone (Syntax.tyStruct (List._∷_ 38 (List._∷_ 91 (List._∷_ 93 List.[]))) (Syntax.tcons (Syntax.tyRef Syntax.erased Syntax.mut ColumnMetadataRow.named) (Syntax.tcons (Syntax.tyInt Syntax.w64) Syntax.tnil)))) (List._∷_ (15, Rows'.any-gone Syntax.tyBool) List.[])))))))))))))))
 
 abbrev pub t45 : List.List Row.Entry
 t45 = List._∷_ (16, Rows'.any-gone (Syntax.tyRef Syntax.erased Syntax.mut (Syntax.tyInt Syntax.w8))) (List._∷_ (17, Rows'.any-gone (Syntax.tyStruct (List._∷_ 38 (List._∷_ 91 (List._∷_ 93 List.[]))) (Syntax.tcons (Syntax.tyRef Syntax.erased Syntax.mut (Syntax.tyInt Syntax.w8)) (Syntax.tcons (Syntax.tyInt Syntax.w64) Syntax.tnil)))) (List._∷_ (18, Rows'.any-gone (Syntax.tyRef Syntax.erased Syntax.imm (Syntax.tyArray ColumnMetadataRow.named 4096))) (List._∷_ (19, Rows'.any-gone (Syntax.tyStruct (List._∷_ 38 (List._∷_ 91 (List._∷_ 93 List.[]))) (Syntax.tcons (Syntax.tyRef Syntax.erased Syntax.imm ColumnMetadataRow.named) (Syntax.tcons (Syntax.tyInt Syntax.w64) Syntax.tnil)))) (List._∷_ (20, Rows'.any-gone (Syntax.tyRef Syntax.erased Syntax.mut (Syntax.tyInt Syntax.w8))) (List._∷_ (21, Rows'.any-gone (Syntax.tyStruct (List._∷_ 38 (List._∷_ 91 (List._∷_ 93 List.[]))) (Syntax.tcons (Syntax.tyRef Syntax.erased Syntax.mut (Syntax.tyInt Syntax.w8)) (Syntax.tcons (Syntax.tyInt Syntax.w64) Syntax.tnil)))) (List._∷_ (22, Rows'.any-gone (Syntax.tyRef Syntax.erased Syntax.mut (Syntax.tyInt Syntax.w8))) (List._∷_ (23, Rows'.any-gone (Syntax.tyStruct (List._∷_ 38 (List._∷_ 91 (List._∷_ 93 List.[]))) (Syntax.tcons (Syntax.tyRef Syntax.erased Syntax.mut (Syntax.tyInt Syntax.w8)) (Syntax.tcons (Syntax.tyInt Syntax.w64) Syntax.tnil)))) (List._∷_ (24, Relend.msptr (Referent.rtF (Referent.fInt Syntax.w8)) (Syntax.tyRef Syntax.erased Syntax.mut (Syntax.tyInt Syntax.w8)) 8) (List._∷_ (25, Rows'.any-gone (Syntax.tyStruct (List._∷_ 38 (List._∷_ 91 (List._∷_ 93 List.[]))) (Syntax.tcons (Syntax.tyRef Syntax.erased Syntax.mut (Syntax.tyInt Syntax.w8)) (Syntax.tcons (Syntax.tyInt Syntax.w64) Syntax.tnil)))) (List._∷_ (26, Rows'.any-gone (Syntax.tyRef Syntax.erased Syntax.imm (Syntax.tyArray ColumnMetadataRow.named 4096))) (List._∷_ (27, Rows'.any-gone (Syntax.tyStruct (List._∷_ 38 (List._∷_ 91 (List._∷_ 93 List.[]))) (Syntax.tcons (Syntax.tyRef Syntax.erased Syntax.imm ColumnMetadataRow.named) (Syntax.tcons (Syntax.tyInt Syntax.w64) Syntax.tnil)))) List.[])))))))))))
@@ -450,7 +450,7 @@ abbrev pub t46 : List.List Row.Entry
 t46 = List._∷_ (16, Rows'.any-gone (Syntax.tyRef Syntax.erased Syntax.mut (Syntax.tyInt Syntax.w8))) (List._∷_ (17, Rows'.any-gone (Syntax.tyStruct (List._∷_ 38 (List._∷_ 91 (List._∷_ 93 List.[]))) (Syntax.tcons (Syntax.tyRef Syntax.erased Syntax.mut (Syntax.tyInt Syntax.w8)) (Syntax.tcons (Syntax.tyInt Syntax.w64) Syntax.tnil)))) (List._∷_ (18, Rows'.any-gone (Syntax.tyRef Syntax.erased Syntax.imm (Syntax.tyArray ColumnMetadataRow.named 4096))) (List._∷_ (19, Rows'.any-gone (Syntax.tyStruct (List._∷_ 38 (List._∷_ 91 (List._∷_ 93 List.[]))) (Syntax.tcons (Syntax.tyRef Syntax.erased Syntax.imm ColumnMetadataRow.named) (Syntax.tcons (Syntax.tyInt Syntax.w64) Syntax.tnil)))) (List._∷_ (20, Rows'.any-gone (Syntax.tyRef Syntax.erased Syntax.mut (Syntax.tyInt Syntax.w8))) (List._∷_ (21, Rows'.any-gone (Syntax.tyStruct (List._∷_ 38 (List._∷_ 91 (List._∷_ 93 List.[]))) (Syntax.tcons (Syntax.tyRef Syntax.erased Syntax.mut (Syntax.tyInt Syntax.w8)) (Syntax.tcons (Syntax.tyInt Syntax.w64) Syntax.tnil)))) (List._∷_ (22, Rows'.any-gone (Syntax.tyRef Syntax.erased Syntax.mut (Syntax.tyInt Syntax.w8))) (List._∷_ (23, Rows'.any-gone (Syntax.tyStruct (List._∷_ 38 (List._∷_ 91 (List._∷_ 93 List.[]))) (Syntax.tcons (Syntax.tyRef Syntax.erased Syntax.mut (Syntax.tyInt Syntax.w8)) (Syntax.tcons (Syntax.tyInt Syntax.w64) Syntax.tnil)))) (List._∷_ (24, Rows'.any-gone (Syntax.tyRef Syntax.erased Syntax.mut (Syntax.tyInt Syntax.w8))) (List._∷_ (25, Mut.mslice (Referent.rtF (Referent.fInt Syntax.w8)) (Syntax.tyRef Syntax.erased Syntax.mut (Syntax.tyInt Syntax.w8)) 8) (List._∷_ (26, Rows'.any-gone (Syntax.tyRef Syntax.erased Syntax.imm (Syntax.tyArray ColumnMetadataRow.named 4096))) (List._∷_ (27, Rows'.any-gone (Syntax.tyStruct (List._∷_ 38 (List._∷_ 91 (List._∷_ 93 List.[]))) (Syntax.tcons (Syntax.tyRef Syntax.erased Syntax.imm ColumnMetadataRow.named) (Syntax.tcons (Syntax.tyInt Syntax.w64) Syntax.tnil)))) List.[])))))))))))
 
 abbrev pub t47 : List.List Row.Entry
-t47 = List._∷_ (0, Rows'.any-gone (Syntax.tyInt Syntax.w64)) (List._∷_ (1, Relend.mslice-owed (Referent.rtF (Referent.fInt Syntax.w8)) (Syntax.tyRef (Syntax.named 0) Syntax.mut (Syntax.tyInt Syntax.w8)) 0 8 Row.off) (List._∷_ (2, Rows'.sc-here (Row.sInt Syntax.w64)) (List._∷_ (3, Rows'.sslice (Referent.rtF (Referent.fInt Syntax.w8)) (Syntax.tyRef (Syntax.named 1) Syntax.imm (Syntax.tyInt Syntax.w8)) 1) (List._∷_ (4, Mut.mslice (Referent.rtF (Referent.fInt Syntax.w8)) (Syntax.tyRef (Syntax.named 2) Syntax.mut (Syntax.tyInt Syntax.w8)) 2) (List._∷_ (5, Rows'.any-gone (ColumnMetadataRow.ty)) (List._∷_ (6, Rows.arr-shrP (ColumnMetadataRow.RT) 4096 9) (List._∷_ (7, Rows'.any-gone (Syntax.tyStruct (List._∷_ 115 (List._∷_ 113 (List._∷_ 108 (List._∷_ 100 (List._∷_ 97 (List._∷_ 114 (List._∷_ 100 (List._∷_ 58 (List._∷_ 58 (List._∷_ 83 (List._∷_ 113 (List._∷_ 108 (List._∷_ 100 (List._∷_ 97 (List._∷_ 114 (List._∷_ 100 (List._∷_ 65 (List._∷_ 110 (List._∷_ 115 (List._∷_ 119 (List._∷_ 101 (List._∷_ 114 List.[])))))))))))))))))))))) (Syntax.tcons (Syntax.tyEnum (List._∷_ 111 (List._∷_ 117 (List._∷_ 116 (List._∷_ 99 (List._∷_ 111 (List._∷_ 109 (List._∷_ 101 (List._∷_ 58 (List._∷_ 58 (List._∷_ 79 (List._∷_ 117 (List._∷_ 116 (List._∷_ 99 (List._∷_ 111 (List._∷_ 109 (List._∷_ 101 List.[])))))))))))))))) (Syntax.ttcons Syntax.tnil (Syntax.ttcons Syntax.tnil (Syntax.ttcons (Syntax.tcons (Syntax.tyInt Syntax.w64) (Syntax.tcons (Syntax.tyInt Syntax.w64) Syntax.tnil)) (Syntax.ttcons Syntax.tnil (Syntax.ttcons (Syntax.tcons (Syntax.tyInt Syntax.w16) Syntax.tnil) (Syntax.ttcons Syntax.tnil (Syntax.ttcons (Syntax.tcons (Syntax.tyInt Syntax.w64) Syntax.tnil) (Syntax.ttcons Syntax.tnil Syntax.ttnil))))))))) (Syntax.tcons (Syntax.tyStruct (List._∷_ 115 (List._∷_ 113 (List._∷_ 108 (List._∷_ 99 (List._∷_ 97 (List._∷_ 114 (List._∷_ 100 (List._∷_ 58 (List._∷_ 58 (List._∷_ 83 (List._∷_ 113 (List._∷_ 108 (List._∷_ 67 (List._∷_ 97 (List._∷_ 114 (List._∷_ 100 List.[])))))))))))))))) (Syntax.tcons Syntax.tyBool (Syntax.tcons (Syntax.tyInt Syntax.w32) (Syntax.tcons (Syntax.tyArray (Syntax.tyInt Syntax.w8) 5) (Syntax.tcons (Syntax.tyArray (Syntax.tyInt Syntax.w8) 8) (Syntax.tcons (Syntax.tyInt Syntax.w8) (Syntax.tcons (Syntax.tyArray (Syntax.tyInt Syntax.w32) 6) (Syntax.tcons (Syntax.tyInt Syntax.w64) (Syntax.tcons (Syntax.tyInt Syntax.w32) (Syntax.tcons (Syntax.tyArray (Syntax.tyInt Syntax.w8) 11) (Syntax.tcons (Syntax.tyInt Syntax.w64) (Syntax.tcons (Syntax.tyInt Syntax.w64) Syntax.tnil)))))))))))) (Syntax.tcons (Syntax.tyInt Syntax.w64) Syntax.tnil))))) (List._∷_ (8, Rows'.any-gone (Syntax.tyEnum (List._∷_ 111 (List._∷_ 117 (List._∷_ 116 (List._∷_ 99 (List._∷_ 111 (List._∷_ 109 (List._∷_ 101 (List._∷_ 58 (List._∷_ 58 (List._∷_ 79 (List._∷_ 117 (List._∷_ 116 (List._∷_ 99 (List._∷_ 111 (List._∷_ 109 (List._∷_ 101 List.[])))))))))))))))) (Syntax.ttcons Syntax.tnil (Syntax.ttcons Syntax.tnil (Syntax.ttcons (Syntax.tcons (Syntax.tyInt Syntax.w64) (Syntax.tcons (Syntax.tyInt Syntax.w64) Syntax.tnil)) (Syntax.ttcons Syntax.tnil (Syntax.ttcons (Syntax.tcons (Syntax.tyInt Syntax.w16) Syntax.tnil) (Syntax.ttcons Syntax.tnil (Syntax.ttcons (Syntax.tcons (Syntax.tyInt Syntax.w64) Syntax.tnil) (Syntax.ttcons Syntax.tnil Syntax.ttnil)))))))))) (List._∷_ (9, Rows'.sc-here (Row.sInt Syntax.w64)) (List._∷_ (10, Rows'.any-gone (Syntax.tyStruct (List._∷_ 115 (List._∷_ 113 (List._∷_ 108 (List._∷_ 99 (List._∷_ 97 (List._∷_ 114 (List._∷_ 100 (List._∷_ 58 (List._∷_ 58 (List._∷_ 83 (List._∷_ 113 (List._∷_ 108 (List._∷_ 67 (List._∷_ 97 (List._∷_ 114 (List._∷_ 100 List.[])))))))))))))))) (Syntax.tcons Syntax.tyBool (Syntax.tcons (Syntax.tyInt Syntax.w32) (Syntax.tcons (Syntax.tyArray (Syntax.tyInt Syntax.w8) 5) (Syntax.tcons (Syntax.tyArray (Syntax.tyInt Syntax.w8) 8) (Syntax.tcons (Syntax.tyInt Syntax.w8) (Syntax.tcons (Syntax.tyArray (Syntax.tyInt Syntax.w32) 6) (Syntax.tcons (Syntax.tyInt Syntax.w64) (Syntax.tcons (Syntax.tyInt Syntax.w32) (Syntax.tcons (Syntax.tyArray (Syntax.tyInt Syntax.w8) 11) (Syntax.tcons (Syntax.tyInt Syntax.w64) (Syntax.tcons (Syntax.tyInt Syntax.w64) Syntax.tnil))))))))))))) (List._∷_ (11, Rows'.whole (Declared'.row Widths.the-type)) (List._∷_ (12, Rows'.sc-here (Row.sInt Syntax.w64)) (List._∷_ (13, Rows'.any-gone (Syntax.tyRef Syntax.erased Syntax.mut (Syntax.tyArray ColumnMetadataRow.named 4096))) (List._∷_ (14, Rows'.any-gone (Syntax.tyStruct (List._∷_ 38 (List._∷_ 91 (List._∷_ 93 List.[]))) (Syntax.tcons (Syntax.tyRef Syntax.erased Syntax.mut ColumnMetadataRow.named) (Syntax.tcons (Syntax.tyInt Syntax.w64) Syntax.tnil)))) (List._∷_ (15, Rows'.any-gone Syntax.tyBool) List.[])))))))))))))))
+t47 = List._∷_ (0, Rows'.any-gone (Syntax.tyInt Syntax.w64)) (List._∷_ (1, Relend.mslice-owed (Referent.rtF (Referent.fInt Syntax.w8)) (Syntax.tyRef (Syntax.named 0) Syntax.mut (Syntax.tyInt Syntax.w8)) 0 8 Row.off) (List._∷_ (2, Rows'.sc-here (Row.sInt Syntax.w64)) (List._∷_ (3, Rows'.sslice (Referent.rtF (Referent.fInt Syntax.w8)) (Syntax.tyRef (Syntax.named 1) Syntax.imm (Syntax.tyInt Syntax.w8)) 1) (List._∷_ (4, Mut.mslice (Referent.rtF (Referent.fInt Syntax.w8)) (Syntax.tyRef (Syntax.named 2) Syntax.mut (Syntax.tyInt Syntax.w8)) 2) (List._∷_ (5, Rows'.any-gone (ColumnMetadataRow.ty)) (List._∷_ (6, Rows.arr-shrP (ColumnMetadataRow.RT) 4096 9) (List._∷_ (7, Rows'.any-gone (Syntax.tyStruct (List._∷_ 115 (List._∷_ 113 (List._∷_ 108 (List._∷_ 100 (List._∷_ 97 (List._∷_ 114 (List._∷_ 100 (List._∷_ 58 (List._∷_ 58 (List._∷_ 83 (List._∷_ 113 (List._∷_ 108 (List._∷_ 100 (List._∷_ 97 (List._∷_ 114 (List._∷_ 100 (List._∷_ 65 (List._∷_ 110 (List._∷_ 115 (List._∷_ 119 (List._∷_ 101 (List._∷_ 114 List.[])))))))))))))))))))))) (Syntax.tcons (Syntax.tyEnum (List._∷_ 111 (List._∷_ 117 (List._∷_ 116 (List._∷_ 99 (List._∷_ 111 (List._∷_ 109 (List._∷_ 101 (List._∷_ 58 (List._∷_ 58 (List._∷_ 79 (List._∷_ 117 (List._∷_ 116 (List._∷_ 99 (List._∷_ 111 (List._∷_ 109 (List._∷_ 101 List.[])))))))))))))))) (Syntax.ttcons Syntax.tnil (Syntax.ttcons Syntax.tnil (Syntax.ttcons (Syntax.tcons (Syntax.tyInt Syntax.w64) (Syntax.tcons (Syntax.tyInt Syntax.w64) Syntax.tnil)) (Syntax.ttcons Syntax.tnil (Syntax.ttcons (Syntax.tcons (Syntax.tyInt Syntax.w16) Syntax.tnil) (Syntax.ttcons Syntax.tnil (Syntax.ttcons (Syntax.tcons (Syntax.tyInt Syntax.w64) Syntax.tnil) (Syntax.ttcons Syntax.tnil (Syntax.ttcons (Syntax.tcons (Syntax.tyInt Syntax.w16) Syntax.tnil) Syntax.ttnil)))))))))) (Syntax.tcons (Syntax.tyStruct (List._∷_ 115 (List._∷_ 113 (List._∷_ 108 (List._∷_ 99 (List._∷_ 97 (List._∷_ 114 (List._∷_ 100 (List._∷_ 58 (List._∷_ 58 (List._∷_ 83 (List._∷_ 113 (List._∷_ 108 (List._∷_ 67 (List._∷_ 97 (List._∷_ 114 (List._∷_ 100 List.[])))))))))))))))) (Syntax.tcons Syntax.tyBool (Syntax.tcons (Syntax.tyInt Syntax.w32) (Syntax.tcons (Syntax.tyArray (Syntax.tyInt Syntax.w8) 5) (Syntax.tcons (Syntax.tyArray (Syntax.tyInt Syntax.w8) 8) (Syntax.tcons (Syntax.tyInt Syntax.w8) (Syntax.tcons (Syntax.tyArray (Syntax.tyInt Syntax.w32) 6) (Syntax.tcons (Syntax.tyInt Syntax.w64) (Syntax.tcons (Syntax.tyInt Syntax.w32) (Syntax.tcons (Syntax.tyArray (Syntax.tyInt Syntax.w8) 11) (Syntax.tcons (Syntax.tyInt Syntax.w64) (Syntax.tcons (Syntax.tyInt Syntax.w64) Syntax.tnil)))))))))))) (Syntax.tcons (Syntax.tyInt Syntax.w64) Syntax.tnil))))) (List._∷_ (8, Rows'.any-gone (Syntax.tyEnum (List._∷_ 111 (List._∷_ 117 (List._∷_ 116 (List._∷_ 99 (List._∷_ 111 (List._∷_ 109 (List._∷_ 101 (List._∷_ 58 (List._∷_ 58 (List._∷_ 79 (List._∷_ 117 (List._∷_ 116 (List._∷_ 99 (List._∷_ 111 (List._∷_ 109 (List._∷_ 101 List.[])))))))))))))))) (Syntax.ttcons Syntax.tnil (Syntax.ttcons Syntax.tnil (Syntax.ttcons (Syntax.tcons (Syntax.tyInt Syntax.w64) (Syntax.tcons (Syntax.tyInt Syntax.w64) Syntax.tnil)) (Syntax.ttcons Syntax.tnil (Syntax.ttcons (Syntax.tcons (Syntax.tyInt Syntax.w16) Syntax.tnil) (Syntax.ttcons Syntax.tnil (Syntax.ttcons (Syntax.tcons (Syntax.tyInt Syntax.w64) Syntax.tnil) (Syntax.ttcons Syntax.tnil (Syntax.ttcons (Syntax.tcons (Syntax.tyInt Syntax.w16) Syntax.tnil) Syntax.ttnil))))))))))) (List._∷_ (9, Rows'.sc-here (Row.sInt Syntax.w64)) (List._∷_ (10, Rows'.any-gone (Syntax.tyStruct (List._∷_ 115 (List._∷_ 113 (List._∷_ 108 (List._∷_ 99 (List._∷_ 97 (List._∷_ 114 (List._∷_ 100 (List._∷_ 58 (List._∷_ 58 (List._∷_ 83 (List._∷_ 113 (List._∷_ 108 (List._∷_ 67 (List._∷_ 97 (List._∷_ 114 (List._∷_ 100 List.[])))))))))))))))) (Syntax.tcons Syntax.tyBool (Syntax.tcons (Syntax.tyInt Syntax.w32) (Syntax.tcons (Syntax.tyArray (Syntax.tyInt Syntax.w8) 5) (Syntax.tcons (Syntax.tyArray (Syntax.tyInt Syntax.w8) 8) (Syntax.tcons (Syntax.tyInt Syntax.w8) (Syntax.tcons (Syntax.tyArray (Syntax.tyInt Syntax.w32) 6) (Syntax.tcons (Syntax.tyInt Syntax.w64) (Syntax.tcons (Syntax.tyInt Syntax.w32) (Syntax.tcons (Syntax.tyArray (Syntax.tyInt Syntax.w8) 11) (Syntax.tcons (Syntax.tyInt Syntax.w64) (Syntax.tcons (Syntax.tyInt Syntax.w64) Syntax.tnil))))))))))))) (List._∷_ (11, Rows'.whole (Declared'.row Widths.the-type)) (List._∷_ (12, Rows'.sc-here (Row.sInt Syntax.w64)) (List._∷_ (13, Rows'.any-gone (Syntax.tyRef Syntax.erased Syntax.mut (Syntax.tyArray ColumnMetadataRow.named 4096))) (List._∷_ (14, Rows'.any-gone (Syntax.tyStruct (List._∷_ 38 (List._∷_ 91 (List._∷_ 93 List.[]))) (Syntax.tcons (Syntax.tyRef Syntax.erased Syntax.mut ColumnMetadataRow.named) (Syntax.tcons (Syntax.tyInt Syntax.w64) Syntax.tnil)))) (List._∷_ (15, Rows'.any-gone Syntax.tyBool) List.[])))))))))))))))
 
 abbrev pub t48 : List.List Row.Entry
 t48 = List._∷_ (16, Rows'.any-gone (Syntax.tyRef Syntax.erased Syntax.mut (Syntax.tyInt Syntax.w8))) (List._∷_ (17, Rows'.any-gone (Syntax.tyStruct (List._∷_ 38 (List._∷_ 91 (List._∷_ 93 List.[]))) (Syntax.tcons (Syntax.tyRef Syntax.erased Syntax.mut (Syntax.tyInt Syntax.w8)) (Syntax.tcons (Syntax.tyInt Syntax.w64) Syntax.tnil)))) (List._∷_ (18, Rows'.any-gone (Syntax.tyRef Syntax.erased Syntax.imm (Syntax.tyArray ColumnMetadataRow.named 4096))) (List._∷_ (19, Rows'.any-gone (Syntax.tyStruct (List._∷_ 38 (List._∷_ 91 (List._∷_ 93 List.[]))) (Syntax.tcons (Syntax.tyRef Syntax.erased Syntax.imm ColumnMetadataRow.named) (Syntax.tcons (Syntax.tyInt Syntax.w64) Syntax.tnil)))) (List._∷_ (20, Rows'.any-gone (Syntax.tyRef Syntax.erased Syntax.mut (Syntax.tyInt Syntax.w8))) (List._∷_ (21, Rows'.any-gone (Syntax.tyStruct (List._∷_ 38 (List._∷_ 91 (List._∷_ 93 List.[]))) (Syntax.tcons (Syntax.tyRef Syntax.erased Syntax.mut (Syntax.tyInt Syntax.w8)) (Syntax.tcons (Syntax.tyInt Syntax.w64) Syntax.tnil)))) (List._∷_ (22, Rows'.any-gone (Syntax.tyRef Syntax.erased Syntax.mut (Syntax.tyInt Syntax.w8))) (List._∷_ (23, Rows'.any-gone (Syntax.tyStruct (List._∷_ 38 (List._∷_ 91 (List._∷_ 93 List.[]))) (Syntax.tcons (Syntax.tyRef Syntax.erased Syntax.mut (Syntax.tyInt Syntax.w8)) (Syntax.tcons (Syntax.tyInt Syntax.w64) Syntax.tnil)))) (List._∷_ (24, Rows'.any-gone (Syntax.tyRef Syntax.erased Syntax.mut (Syntax.tyInt Syntax.w8))) (List._∷_ (25, Mut.mslice (Referent.rtF (Referent.fInt Syntax.w8)) (Syntax.tyRef Syntax.erased Syntax.mut (Syntax.tyInt Syntax.w8)) 8) (List._∷_ (26, Relend.ssptr (ColumnMetadataRow.RT) (Syntax.tyRef Syntax.erased Syntax.imm (Syntax.tyArray ColumnMetadataRow.named 4096)) 9) (List._∷_ (27, Rows'.any-gone (Syntax.tyStruct (List._∷_ 38 (List._∷_ 91 (List._∷_ 93 List.[]))) (Syntax.tcons (Syntax.tyRef Syntax.erased Syntax.imm ColumnMetadataRow.named) (Syntax.tcons (Syntax.tyInt Syntax.w64) Syntax.tnil)))) List.[])))))))))))
@@ -459,7 +459,7 @@ abbrev pub t49 : List.List Row.Entry
 t49 = List._∷_ (16, Rows'.any-gone (Syntax.tyRef Syntax.erased Syntax.mut (Syntax.tyInt Syntax.w8))) (List._∷_ (17, Rows'.any-gone (Syntax.tyStruct (List._∷_ 38 (List._∷_ 91 (List._∷_ 93 List.[]))) (Syntax.tcons (Syntax.tyRef Syntax.erased Syntax.mut (Syntax.tyInt Syntax.w8)) (Syntax.tcons (Syntax.tyInt Syntax.w64) Syntax.tnil)))) (List._∷_ (18, Rows'.any-gone (Syntax.tyRef Syntax.erased Syntax.imm (Syntax.tyArray ColumnMetadataRow.named 4096))) (List._∷_ (19, Rows'.any-gone (Syntax.tyStruct (List._∷_ 38 (List._∷_ 91 (List._∷_ 93 List.[]))) (Syntax.tcons (Syntax.tyRef Syntax.erased Syntax.imm ColumnMetadataRow.named) (Syntax.tcons (Syntax.tyInt Syntax.w64) Syntax.tnil)))) (List._∷_ (20, Rows'.any-gone (Syntax.tyRef Syntax.erased Syntax.mut (Syntax.tyInt Syntax.w8))) (List._∷_ (21, Rows'.any-gone (Syntax.tyStruct (List._∷_ 38 (List._∷_ 91 (List._∷_ 93 List.[]))) (Syntax.tcons (Syntax.tyRef Syntax.erased Syntax.mut (Syntax.tyInt Syntax.w8)) (Syntax.tcons (Syntax.tyInt Syntax.w64) Syntax.tnil)))) (List._∷_ (22, Rows'.any-gone (Syntax.tyRef Syntax.erased Syntax.mut (Syntax.tyInt Syntax.w8))) (List._∷_ (23, Rows'.any-gone (Syntax.tyStruct (List._∷_ 38 (List._∷_ 91 (List._∷_ 93 List.[]))) (Syntax.tcons (Syntax.tyRef Syntax.erased Syntax.mut (Syntax.tyInt Syntax.w8)) (Syntax.tcons (Syntax.tyInt Syntax.w64) Syntax.tnil)))) (List._∷_ (24, Rows'.any-gone (Syntax.tyRef Syntax.erased Syntax.mut (Syntax.tyInt Syntax.w8))) (List._∷_ (25, Mut.mslice (Referent.rtF (Referent.fInt Syntax.w8)) (Syntax.tyRef Syntax.erased Syntax.mut (Syntax.tyInt Syntax.w8)) 8) (List._∷_ (26, Rows'.any-gone (Syntax.tyRef Syntax.erased Syntax.imm (Syntax.tyArray ColumnMetadataRow.named 4096))) (List._∷_ (27, Rows'.sslice (ColumnMetadataRow.RT) (Syntax.tyRef Syntax.erased Syntax.imm ColumnMetadataRow.named) 9) List.[])))))))))))
 
 abbrev pub t50 : List.List Row.Entry
-t50 = List._∷_ (0, Rows'.sc-here (Row.sInt Syntax.w64)) (List._∷_ (1, Relend.mslice-owed (Referent.rtF (Referent.fInt Syntax.w8)) (Syntax.tyRef (Syntax.named 0) Syntax.mut (Syntax.tyInt Syntax.w8)) 0 8 Row.off) (List._∷_ (2, Rows'.sc-here (Row.sInt Syntax.w64)) (List._∷_ (3, Rows'.sslice (Referent.rtF (Referent.fInt Syntax.w8)) (Syntax.tyRef (Syntax.named 1) Syntax.imm (Syntax.tyInt Syntax.w8)) 1) (List._∷_ (4, Mut.mslice (Referent.rtF (Referent.fInt Syntax.w8)) (Syntax.tyRef (Syntax.named 2) Syntax.mut (Syntax.tyInt Syntax.w8)) 2) (List._∷_ (5, Rows'.any-gone (ColumnMetadataRow.ty)) (List._∷_ (6, Rows.arr-shrP (ColumnMetadataRow.RT) 4096 9) (List._∷_ (7, Rows'.any-gone (Syntax.tyStruct (List._∷_ 115 (List._∷_ 113 (List._∷_ 108 (List._∷_ 100 (List._∷_ 97 (List._∷_ 114 (List._∷_ 100 (List._∷_ 58 (List._∷_ 58 (List._∷_ 83 (List._∷_ 113 (List._∷_ 108 (List._∷_ 100 (List._∷_ 97 (List._∷_ 114 (List._∷_ 100 (List._∷_ 65 (List._∷_ 110 (List._∷_ 115 (List._∷_ 119 (List._∷_ 101 (List._∷_ 114 List.[])))))))))))))))))))))) (Syntax.tcons (Syntax.tyEnum (List._∷_ 111 (List._∷_ 117 (List._∷_ 116 (List._∷_ 99 (List._∷_ 111 (List._∷_ 109 (List._∷_ 101 (List._∷_ 58 (List._∷_ 58 (List._∷_ 79 (List._∷_ 117 (List._∷_ 116 (List._∷_ 99 (List._∷_ 111 (List._∷_ 109 (List._∷_ 101 List.[])))))))))))))))) (Syntax.ttcons Syntax.tnil (Syntax.ttcons Syntax.tnil (Syntax.ttcons (Syntax.tcons (Syntax.tyInt Syntax.w64) (Syntax.tcons (Syntax.tyInt Syntax.w64) Syntax.tnil)) (Syntax.ttcons Syntax.tnil (Syntax.ttcons (Syntax.tcons (Syntax.tyInt Syntax.w16) Syntax.tnil) (Syntax.ttcons Syntax.tnil (Syntax.ttcons (Syntax.tcons (Syntax.tyInt Syntax.w64) Syntax.tnil) (Syntax.ttcons Syntax.tnil Syntax.ttnil))))))))) (Syntax.tcons (Syntax.tyStruct (List._∷_ 115 (List._∷_ 113 (List._∷_ 108 (List._∷_ 99 (List._∷_ 97 (List._∷_ 114 (List._∷_ 100 (List._∷_ 58 (List._∷_ 58 (List._∷_ 83 (List._∷_ 113 (List._∷_ 108 (List._∷_ 67 (List._∷_ 97 (List._∷_ 114 (List._∷_ 100 List.[])))))))))))))))) (Syntax.tcons Syntax.tyBool (Syntax.tcons (Syntax.tyInt Syntax.w32) (Syntax.tcons (Syntax.tyArray (Syntax.tyInt Syntax.w8) 5) (Syntax.tcons (Syntax.tyArray (Syntax.tyInt Syntax.w8) 8) (Syntax.tcons (Syntax.tyInt Syntax.w8) (Syntax.tcons (Syntax.tyArray (Syntax.tyInt Syntax.w32) 6) (Syntax.tcons (Syntax.tyInt Syntax.w64) (Syntax.tcons (Syntax.tyInt Syntax.w32) (Syntax.tcons (Syntax.tyArray (Syntax.tyInt Syntax.w8) 11) (Syntax.tcons (Syntax.tyInt Syntax.w64) (Syntax.tcons (Syntax.tyInt Syntax.w64) Syntax.tnil)))))))))))) (Syntax.tcons (Syntax.tyInt Syntax.w64) Syntax.tnil))))) (List._∷_ (8, Rows'.any-gone (Syntax.tyEnum (List._∷_ 111 (List._∷_ 117 (List._∷_ 116 (List._∷_ 99 (List._∷_ 111 (List._∷_ 109 (List._∷_ 101 (List._∷_ 58 (List._∷_ 58 (List._∷_ 79 (List._∷_ 117 (List._∷_ 116 (List._∷_ 99 (List._∷_ 111 (List._∷_ 109 (List._∷_ 101 List.[])))))))))))))))) (Syntax.ttcons Syntax.tnil (Syntax.ttcons Syntax.tnil (Syntax.ttcons (Syntax.tcons (Syntax.tyInt Syntax.w64) (Syntax.tcons (Syntax.tyInt Syntax.w64) Syntax.tnil)) (Syntax.ttcons Syntax.tnil (Syntax.ttcons (Syntax.tcons (Syntax.tyInt Syntax.w16) Syntax.tnil) (Syntax.ttcons Syntax.tnil (Syntax.ttcons (Syntax.tcons (Syntax.tyInt Syntax.w64) Syntax.tnil) (Syntax.ttcons Syntax.tnil Syntax.ttnil)))))))))) (List._∷_ (9, Rows'.sc-here (Row.sInt Syntax.w64)) (List._∷_ (10, Rows'.any-gone (Syntax.tyStruct (List._∷_ 115 (List._∷_ 113 (List._∷_ 108 (List._∷_ 99 (List._∷_ 97 (List._∷_ 114 (List._∷_ 100 (List._∷_ 58 (List._∷_ 58 (List._∷_ 83 (List._∷_ 113 (List._∷_ 108 (List._∷_ 67 (List._∷_ 97 (List._∷_ 114 (List._∷_ 100 List.[])))))))))))))))) (Syntax.tcons Syntax.tyBool (Syntax.tcons (Syntax.tyInt Syntax.w32) (Syntax.tcons (Syntax.tyArray (Syntax.tyInt Syntax.w8) 5) (Syntax.tcons (Syntax.tyArray (Syntax.tyInt Syntax.w8) 8) (Syntax.tcons (Syntax.tyInt Syntax.w8) (Syntax.tcons (Syntax.tyArray (Syntax.tyInt Syntax.w32) 6) (Syntax.tcons (Syntax.tyInt Syntax.w64) (Syntax.tcons (Syntax.tyInt Syntax.w32) (Syntax.tcons (Syntax.tyArray (Syntax.tyInt Syntax.w8) 11) (Syntax.tcons (Syntax.tyInt Syntax.w64) (Syntax.tcons (Syntax.tyInt Syntax.w64) Syntax.tnil))))))))))))) (List._∷_ (11, Rows'.whole (Declared'.row Widths.the-type)) (List._∷_ (12, Rows'.sc-here (Row.sInt Syntax.w64)) (List._∷_ (13, Rows'.any-gone (Syntax.tyRef Syntax.erased Syntax.mut (Syntax.tyArray ColumnMetadataRow.named 4096))) (List._∷_ (14, Rows'.any-gone (Syntax.tyStruct (List._∷_ 38 (List._∷_ 91 (List._∷_ 93 List.[]))) (Syntax.tcons (Syntax.tyRef Syntax.erased Syntax.mut ColumnMetadataRow.named) (Syntax.tcons (Syntax.tyInt Syntax.w64) Syntax.tnil)))) (List._∷_ (15, Rows'.any-gone Syntax.tyBool) List.[])))))))))))))))
+t50 = List._∷_ (0, Rows'.sc-here (Row.sInt Syntax.w64)) (List._∷_ (1, Relend.mslice-owed (Referent.rtF (Referent.fInt Syntax.w8)) (Syntax.tyRef (Syntax.named 0) Syntax.mut (Syntax.tyInt Syntax.w8)) 0 8 Row.off) (List._∷_ (2, Rows'.sc-here (Row.sInt Syntax.w64)) (List._∷_ (3, Rows'.sslice (Referent.rtF (Referent.fInt Syntax.w8)) (Syntax.tyRef (Syntax.named 1) Syntax.imm (Syntax.tyInt Syntax.w8)) 1) (List._∷_ (4, Mut.mslice (Referent.rtF (Referent.fInt Syntax.w8)) (Syntax.tyRef (Syntax.named 2) Syntax.mut (Syntax.tyInt Syntax.w8)) 2) (List._∷_ (5, Rows'.any-gone (ColumnMetadataRow.ty)) (List._∷_ (6, Rows.arr-shrP (ColumnMetadataRow.RT) 4096 9) (List._∷_ (7, Rows'.any-gone (Syntax.tyStruct (List._∷_ 115 (List._∷_ 113 (List._∷_ 108 (List._∷_ 100 (List._∷_ 97 (List._∷_ 114 (List._∷_ 100 (List._∷_ 58 (List._∷_ 58 (List._∷_ 83 (List._∷_ 113 (List._∷_ 108 (List._∷_ 100 (List._∷_ 97 (List._∷_ 114 (List._∷_ 100 (List._∷_ 65 (List._∷_ 110 (List._∷_ 115 (List._∷_ 119 (List._∷_ 101 (List._∷_ 114 List.[])))))))))))))))))))))) (Syntax.tcons (Syntax.tyEnum (List._∷_ 111 (List._∷_ 117 (List._∷_ 116 (List._∷_ 99 (List._∷_ 111 (List._∷_ 109 (List._∷_ 101 (List._∷_ 58 (List._∷_ 58 (List._∷_ 79 (List._∷_ 117 (List._∷_ 116 (List._∷_ 99 (List._∷_ 111 (List._∷_ 109 (List._∷_ 101 List.[])))))))))))))))) (Syntax.ttcons Syntax.tnil (Syntax.ttcons Syntax.tnil (Syntax.ttcons (Syntax.tcons (Syntax.tyInt Syntax.w64) (Syntax.tcons (Syntax.tyInt Syntax.w64) Syntax.tnil)) (Syntax.ttcons Syntax.tnil (Syntax.ttcons (Syntax.tcons (Syntax.tyInt Syntax.w16) Syntax.tnil) (Syntax.ttcons Syntax.tnil (Syntax.ttcons (Syntax.tcons (Syntax.tyInt Syntax.w64) Syntax.tnil) (Syntax.ttcons Syntax.tnil (Syntax.ttcons (Syntax.tcons (Syntax.tyInt Syntax.w16) Syntax.tnil) Syntax.ttnil)))))))))) (Syntax.tcons (Syntax.tyStruct (List._∷_ 115 (List._∷_ 113 (List._∷_ 108 (List._∷_ 99 (List._∷_ 97 (List._∷_ 114 (List._∷_ 100 (List._∷_ 58 (List._∷_ 58 (List._∷_ 83 (List._∷_ 113 (List._∷_ 108 (List._∷_ 67 (List._∷_ 97 (List._∷_ 114 (List._∷_ 100 List.[])))))))))))))))) (Syntax.tcons Syntax.tyBool (Syntax.tcons (Syntax.tyInt Syntax.w32) (Syntax.tcons (Syntax.tyArray (Syntax.tyInt Syntax.w8) 5) (Syntax.tcons (Syntax.tyArray (Syntax.tyInt Syntax.w8) 8) (Syntax.tcons (Syntax.tyInt Syntax.w8) (Syntax.tcons (Syntax.tyArray (Syntax.tyInt Syntax.w32) 6) (Syntax.tcons (Syntax.tyInt Syntax.w64) (Syntax.tcons (Syntax.tyInt Syntax.w32) (Syntax.tcons (Syntax.tyArray (Syntax.tyInt Syntax.w8) 11) (Syntax.tcons (Syntax.tyInt Syntax.w64) (Syntax.tcons (Syntax.tyInt Syntax.w64) Syntax.tnil)))))))))))) (Syntax.tcons (Syntax.tyInt Syntax.w64) Syntax.tnil))))) (List._∷_ (8, Rows'.any-gone (Syntax.tyEnum (List._∷_ 111 (List._∷_ 117 (List._∷_ 116 (List._∷_ 99 (List._∷_ 111 (List._∷_ 109 (List._∷_ 101 (List._∷_ 58 (List._∷_ 58 (List._∷_ 79 (List._∷_ 117 (List._∷_ 116 (List._∷_ 99 (List._∷_ 111 (List._∷_ 109 (List._∷_ 101 List.[])))))))))))))))) (Syntax.ttcons Syntax.tnil (Syntax.ttcons Syntax.tnil (Syntax.ttcons (Syntax.tcons (Syntax.tyInt Syntax.w64) (Syntax.tcons (Syntax.tyInt Syntax.w64) Syntax.tnil)) (Syntax.ttcons Syntax.tnil (Syntax.ttcons (Syntax.tcons (Syntax.tyInt Syntax.w16) Syntax.tnil) (Syntax.ttcons Syntax.tnil (Syntax.ttcons (Syntax.tcons (Syntax.tyInt Syntax.w64) Syntax.tnil) (Syntax.ttcons Syntax.tnil (Syntax.ttcons (Syntax.tcons (Syntax.tyInt Syntax.w16) Syntax.tnil) Syntax.ttnil))))))))))) (List._∷_ (9, Rows'.sc-here (Row.sInt Syntax.w64)) (List._∷_ (10, Rows'.any-gone (Syntax.tyStruct (List._∷_ 115 (List._∷_ 113 (List._∷_ 108 (List._∷_ 99 (List._∷_ 97 (List._∷_ 114 (List._∷_ 100 (List._∷_ 58 (List._∷_ 58 (List._∷_ 83 (List._∷_ 113 (List._∷_ 108 (List._∷_ 67 (List._∷_ 97 (List._∷_ 114 (List._∷_ 100 List.[])))))))))))))))) (Syntax.tcons Syntax.tyBool (Syntax.tcons (Syntax.tyInt Syntax.w32) (Syntax.tcons (Syntax.tyArray (Syntax.tyInt Syntax.w8) 5) (Syntax.tcons (Syntax.tyArray (Syntax.tyInt Syntax.w8) 8) (Syntax.tcons (Syntax.tyInt Syntax.w8) (Syntax.tcons (Syntax.tyArray (Syntax.tyInt Syntax.w32) 6) (Syntax.tcons (Syntax.tyInt Syntax.w64) (Syntax.tcons (Syntax.tyInt Syntax.w32) (Syntax.tcons (Syntax.tyArray (Syntax.tyInt Syntax.w8) 11) (Syntax.tcons (Syntax.tyInt Syntax.w64) (Syntax.tcons (Syntax.tyInt Syntax.w64) Syntax.tnil))))))))))))) (List._∷_ (11, Rows'.whole (Declared'.row Widths.the-type)) (List._∷_ (12, Rows'.sc-here (Row.sInt Syntax.w64)) (List._∷_ (13, Rows'.any-gone (Syntax.tyRef Syntax.erased Syntax.mut (Syntax.tyArray ColumnMetadataRow.named 4096))) (List._∷_ (14, Rows'.any-gone (Syntax.tyStruct (List._∷_ 38 (List._∷_ 91 (List._∷_ 93 List.[]))) (Syntax.tcons (Syntax.tyRef Syntax.erased Syntax.mut ColumnMetadataRow.named) (Syntax.tcons (Syntax.tyInt Syntax.w64) Syntax.tnil)))) (List._∷_ (15, Rows'.any-gone Syntax.tyBool) List.[])))))))))))))))
 
 abbrev pub t51 : List.List Row.Entry
 t51 = List._∷_ (16, Rows'.any-gone (Syntax.tyRef Syntax.erased Syntax.mut (Syntax.tyInt Syntax.w8))) (List._∷_ (17, Rows'.any-gone (Syntax.tyStruct (List._∷_ 38 (List._∷_ 91 (List._∷_ 93 List.[]))) (Syntax.tcons (Syntax.tyRef Syntax.erased Syntax.mut (Syntax.tyInt Syntax.w8)) (Syntax.tcons (Syntax.tyInt Syntax.w64) Syntax.tnil)))) (List._∷_ (18, Rows'.any-gone (Syntax.tyRef Syntax.erased Syntax.imm (Syntax.tyArray ColumnMetadataRow.named 4096))) (List._∷_ (19, Rows'.any-gone (Syntax.tyStruct (List._∷_ 38 (List._∷_ 91 (List._∷_ 93 List.[]))) (Syntax.tcons (Syntax.tyRef Syntax.erased Syntax.imm ColumnMetadataRow.named) (Syntax.tcons (Syntax.tyInt Syntax.w64) Syntax.tnil)))) (List._∷_ (20, Rows'.any-gone (Syntax.tyRef Syntax.erased Syntax.mut (Syntax.tyInt Syntax.w8))) (List._∷_ (21, Rows'.any-gone (Syntax.tyStruct (List._∷_ 38 (List._∷_ 91 (List._∷_ 93 List.[]))) (Syntax.tcons (Syntax.tyRef Syntax.erased Syntax.mut (Syntax.tyInt Syntax.w8)) (Syntax.tcons (Syntax.tyInt Syntax.w64) Syntax.tnil)))) (List._∷_ (22, Rows'.any-gone (Syntax.tyRef Syntax.erased Syntax.mut (Syntax.tyInt Syntax.w8))) (List._∷_ (23, Rows'.any-gone (Syntax.tyStruct (List._∷_ 38 (List._∷_ 91 (List._∷_ 93 List.[]))) (Syntax.tcons (Syntax.tyRef Syntax.erased Syntax.mut (Syntax.tyInt Syntax.w8)) (Syntax.tcons (Syntax.tyInt Syntax.w64) Syntax.tnil)))) (List._∷_ (24, Rows'.any-gone (Syntax.tyRef Syntax.erased Syntax.mut (Syntax.tyInt Syntax.w8))) (List._∷_ (25, Mut.msleft (Referent.rtF (Referent.fInt Syntax.w8)) (Syntax.tyRef Syntax.erased Syntax.mut (Syntax.tyInt Syntax.w8))) (List._∷_ (26, Rows'.any-gone (Syntax.tyRef Syntax.erased Syntax.imm (Syntax.tyArray ColumnMetadataRow.named 4096))) (List._∷_ (27, Rows'.sslice (ColumnMetadataRow.RT) (Syntax.tyRef Syntax.erased Syntax.imm ColumnMetadataRow.named) 9) List.[])))))))))))
@@ -468,19 +468,19 @@ abbrev pub t52 : List.List Row.Entry
 t52 = List._∷_ (16, Rows'.any-gone (Syntax.tyRef Syntax.erased Syntax.mut (Syntax.tyInt Syntax.w8))) (List._∷_ (17, Rows'.any-gone (Syntax.tyStruct (List._∷_ 38 (List._∷_ 91 (List._∷_ 93 List.[]))) (Syntax.tcons (Syntax.tyRef Syntax.erased Syntax.mut (Syntax.tyInt Syntax.w8)) (Syntax.tcons (Syntax.tyInt Syntax.w64) Syntax.tnil)))) (List._∷_ (18, Rows'.any-gone (Syntax.tyRef Syntax.erased Syntax.imm (Syntax.tyArray ColumnMetadataRow.named 4096))) (List._∷_ (19, Rows'.any-gone (Syntax.tyStruct (List._∷_ 38 (List._∷_ 91 (List._∷_ 93 List.[]))) (Syntax.tcons (Syntax.tyRef Syntax.erased Syntax.imm ColumnMetadataRow.named) (Syntax.tcons (Syntax.tyInt Syntax.w64) Syntax.tnil)))) (List._∷_ (20, Rows'.any-gone (Syntax.tyRef Syntax.erased Syntax.mut (Syntax.tyInt Syntax.w8))) (List._∷_ (21, Rows'.any-gone (Syntax.tyStruct (List._∷_ 38 (List._∷_ 91 (List._∷_ 93 List.[]))) (Syntax.tcons (Syntax.tyRef Syntax.erased Syntax.mut (Syntax.tyInt Syntax.w8)) (Syntax.tcons (Syntax.tyInt Syntax.w64) Syntax.tnil)))) (List._∷_ (22, Rows'.any-gone (Syntax.tyRef Syntax.erased Syntax.mut (Syntax.tyInt Syntax.w8))) (List._∷_ (23, Rows'.any-gone (Syntax.tyStruct (List._∷_ 38 (List._∷_ 91 (List._∷_ 93 List.[]))) (Syntax.tcons (Syntax.tyRef Syntax.erased Syntax.mut (Syntax.tyInt Syntax.w8)) (Syntax.tcons (Syntax.tyInt Syntax.w64) Syntax.tnil)))) (List._∷_ (24, Rows'.any-gone (Syntax.tyRef Syntax.erased Syntax.mut (Syntax.tyInt Syntax.w8))) (List._∷_ (25, Mut.msleft (Referent.rtF (Referent.fInt Syntax.w8)) (Syntax.tyRef Syntax.erased Syntax.mut (Syntax.tyInt Syntax.w8))) (List._∷_ (26, Rows'.any-gone (Syntax.tyRef Syntax.erased Syntax.imm (Syntax.tyArray ColumnMetadataRow.named 4096))) (List._∷_ (27, Rows'.any-gone (Syntax.tyStruct (List._∷_ 38 (List._∷_ 91 (List._∷_ 93 List.[]))) (Syntax.tcons (Syntax.tyRef Syntax.erased Syntax.imm ColumnMetadataRow.named) (Syntax.tcons (Syntax.tyInt Syntax.w64) Syntax.tnil)))) List.[])))))))))))
 
 abbrev pub t53 : List.List Row.Entry
-t53 = List._∷_ (0, Rows'.sc-here (Row.sInt Syntax.w64)) (List._∷_ (1, Relend.mslice-owed (Referent.rtF (Referent.fInt Syntax.w8)) (Syntax.tyRef (Syntax.named 0) Syntax.mut (Syntax.tyInt Syntax.w8)) 0 8 Row.off) (List._∷_ (2, Rows'.sc-here (Row.sInt Syntax.w64)) (List._∷_ (3, Rows'.sslice (Referent.rtF (Referent.fInt Syntax.w8)) (Syntax.tyRef (Syntax.named 1) Syntax.imm (Syntax.tyInt Syntax.w8)) 1) (List._∷_ (4, Mut.mslice (Referent.rtF (Referent.fInt Syntax.w8)) (Syntax.tyRef (Syntax.named 2) Syntax.mut (Syntax.tyInt Syntax.w8)) 2) (List._∷_ (5, Rows'.any-gone (ColumnMetadataRow.ty)) (List._∷_ (6, Rows.arr-shrP (ColumnMetadataRow.RT) 4096 9) (List._∷_ (7, Rows'.any-gone (Syntax.tyStruct (List._∷_ 115 (List._∷_ 113 (List._∷_ 108 (List._∷_ 100 (List._∷_ 97 (List._∷_ 114 (List._∷_ 100 (List._∷_ 58 (List._∷_ 58 (List._∷_ 83 (List._∷_ 113 (List._∷_ 108 (List._∷_ 100 (List._∷_ 97 (List._∷_ 114 (List._∷_ 100 (List._∷_ 65 (List._∷_ 110 (List._∷_ 115 (List._∷_ 119 (List._∷_ 101 (List._∷_ 114 List.[])))))))))))))))))))))) (Syntax.tcons (Syntax.tyEnum (List._∷_ 111 (List._∷_ 117 (List._∷_ 116 (List._∷_ 99 (List._∷_ 111 (List._∷_ 109 (List._∷_ 101 (List._∷_ 58 (List._∷_ 58 (List._∷_ 79 (List._∷_ 117 (List._∷_ 116 (List._∷_ 99 (List._∷_ 111 (List._∷_ 109 (List._∷_ 101 List.[])))))))))))))))) (Syntax.ttcons Syntax.tnil (Syntax.ttcons Syntax.tnil (Syntax.ttcons (Syntax.tcons (Syntax.tyInt Syntax.w64) (Syntax.tcons (Syntax.tyInt Syntax.w64) Syntax.tnil)) (Syntax.ttcons Syntax.tnil (Syntax.ttcons (Syntax.tcons (Syntax.tyInt Syntax.w16) Syntax.tnil) (Syntax.ttcons Syntax.tnil (Syntax.ttcons (Syntax.tcons (Syntax.tyInt Syntax.w64) Syntax.tnil) (Syntax.ttcons Syntax.tnil Syntax.ttnil))))))))) (Syntax.tcons (Syntax.tyStruct (List._∷_ 115 (List._∷_ 113 (List._∷_ 108 (List._∷_ 99 (List._∷_ 97 (List._∷_ 114 (List._∷_ 100 (List._∷_ 58 (List._∷_ 58 (List._∷_ 83 (List._∷_ 113 (List._∷_ 108 (List._∷_ 67 (List._∷_ 97 (List._∷_ 114 (List._∷_ 100 List.[])))))))))))))))) (Syntax.tcons Syntax.tyBool (Syntax.tcons (Syntax.tyInt Syntax.w32) (Syntax.tcons (Syntax.tyArray (Syntax.tyInt Syntax.w8) 5) (Syntax.tcons (Syntax.tyArray (Syntax.tyInt Syntax.w8) 8) (Syntax.tcons (Syntax.tyInt Syntax.w8) (Syntax.tcons (Syntax.tyArray (Syntax.tyInt Syntax.w32) 6) (Syntax.tcons (Syntax.tyInt Syntax.w64) (Syntax.tcons (Syntax.tyInt Syntax.w32) (Syntax.tcons (Syntax.tyArray (Syntax.tyInt Syntax.w8) 11) (Syntax.tcons (Syntax.tyInt Syntax.w64) (Syntax.tcons (Syntax.tyInt Syntax.w64) Syntax.tnil)))))))))))) (Syntax.tcons (Syntax.tyInt Syntax.w64) Syntax.tnil))))) (List._∷_ (8, Rows'.any-gone (Syntax.tyEnum (List._∷_ 111 (List._∷_ 117 (List._∷_ 116 (List._∷_ 99 (List._∷_ 111 (List._∷_ 109 (List._∷_ 101 (List._∷_ 58 (List._∷_ 58 (List._∷_ 79 (List._∷_ 117 (List._∷_ 116 (List._∷_ 99 (List._∷_ 111 (List._∷_ 109 (List._∷_ 101 List.[])))))))))))))))) (Syntax.ttcons Syntax.tnil (Syntax.ttcons Syntax.tnil (Syntax.ttcons (Syntax.tcons (Syntax.tyInt Syntax.w64) (Syntax.tcons (Syntax.tyInt Syntax.w64) Syntax.tnil)) (Syntax.ttcons Syntax.tnil (Syntax.ttcons (Syntax.tcons (Syntax.tyInt Syntax.w16) Syntax.tnil) (Syntax.ttcons Syntax.tnil (Syntax.ttcons (Syntax.tcons (Syntax.tyInt Syntax.w64) Syntax.tnil) (Syntax.ttcons Syntax.tnil Syntax.ttnil)))))))))) (List._∷_ (9, Rows'.any-gone (Syntax.tyInt Syntax.w64)) (List._∷_ (10, Rows'.any-gone (Syntax.tyStruct (List._∷_ 115 (List._∷_ 113 (List._∷_ 108 (List._∷_ 99 (List._∷_ 97 (List._∷_ 114 (List._∷_ 100 (List._∷_ 58 (List._∷_ 58 (List._∷_ 83 (List._∷_ 113 (List._∷_ 108 (List._∷_ 67 (List._∷_ 97 (List._∷_ 114 (List._∷_ 100 List.[])))))))))))))))) (Syntax.tcons Syntax.tyBool (Syntax.tcons (Syntax.tyInt Syntax.w32) (Syntax.tcons (Syntax.tyArray (Syntax.tyInt Syntax.w8) 5) (Syntax.tcons (Syntax.tyArray (Syntax.tyInt Syntax.w8) 8) (Syntax.tcons (Syntax.tyInt Syntax.w8) (Syntax.tcons (Syntax.tyArray (Syntax.tyInt Syntax.w32) 6) (Syntax.tcons (Syntax.tyInt Syntax.w64) (Syntax.tcons (Syntax.tyInt Syntax.w32) (Syntax.tcons (Syntax.tyArray (Syntax.tyInt Syntax.w8) 11) (Syntax.tcons (Syntax.tyInt Syntax.w64) (Syntax.tcons (Syntax.tyInt Syntax.w64) Syntax.tnil))))))))))))) (List._∷_ (11, Rows'.whole (Declared'.row Widths.the-type)) (List._∷_ (12, Rows'.sc-here (Row.sInt Syntax.w64)) (List._∷_ (13, Rows'.any-gone (Syntax.tyRef Syntax.erased Syntax.mut (Syntax.tyArray ColumnMetadataRow.named 4096))) (List._∷_ (14, Rows'.any-gone (Syntax.tyStruct (List._∷_ 38 (List._∷_ 91 (List._∷_ 93 List.[]))) (Syntax.tcons (Syntax.tyRef Syntax.erased Syntax.mut ColumnMetadataRow.named) (Syntax.tcons (Syntax.tyInt Syntax.w64) Syntax.tnil)))) (List._∷_ (15, Rows'.any-gone Syntax.tyBool) List.[])))))))))))))))
+t53 = List._∷_ (0, Rows'.sc-here (Row.sInt Syntax.w64)) (List._∷_ (1, Relend.mslice-owed (Referent.rtF (Referent.fInt Syntax.w8)) (Syntax.tyRef (Syntax.named 0) Syntax.mut (Syntax.tyInt Syntax.w8)) 0 8 Row.off) (List._∷_ (2, Rows'.sc-here (Row.sInt Syntax.w64)) (List._∷_ (3, Rows'.sslice (Referent.rtF (Referent.fInt Syntax.w8)) (Syntax.tyRef (Syntax.named 1) Syntax.imm (Syntax.tyInt Syntax.w8)) 1) (List._∷_ (4, Mut.mslice (Referent.rtF (Referent.fInt Syntax.w8)) (Syntax.tyRef (Syntax.named 2) Syntax.mut (Syntax.tyInt Syntax.w8)) 2) (List._∷_ (5, Rows'.any-gone (ColumnMetadataRow.ty)) (List._∷_ (6, Rows.arr-shrP (ColumnMetadataRow.RT) 4096 9) (List._∷_ (7, Rows'.any-gone (Syntax.tyStruct (List._∷_ 115 (List._∷_ 113 (List._∷_ 108 (List._∷_ 100 (List._∷_ 97 (List._∷_ 114 (List._∷_ 100 (List._∷_ 58 (List._∷_ 58 (List._∷_ 83 (List._∷_ 113 (List._∷_ 108 (List._∷_ 100 (List._∷_ 97 (List._∷_ 114 (List._∷_ 100 (List._∷_ 65 (List._∷_ 110 (List._∷_ 115 (List._∷_ 119 (List._∷_ 101 (List._∷_ 114 List.[])))))))))))))))))))))) (Syntax.tcons (Syntax.tyEnum (List._∷_ 111 (List._∷_ 117 (List._∷_ 116 (List._∷_ 99 (List._∷_ 111 (List._∷_ 109 (List._∷_ 101 (List._∷_ 58 (List._∷_ 58 (List._∷_ 79 (List._∷_ 117 (List._∷_ 116 (List._∷_ 99 (List._∷_ 111 (List._∷_ 109 (List._∷_ 101 List.[])))))))))))))))) (Syntax.ttcons Syntax.tnil (Syntax.ttcons Syntax.tnil (Syntax.ttcons (Syntax.tcons (Syntax.tyInt Syntax.w64) (Syntax.tcons (Syntax.tyInt Syntax.w64) Syntax.tnil)) (Syntax.ttcons Syntax.tnil (Syntax.ttcons (Syntax.tcons (Syntax.tyInt Syntax.w16) Syntax.tnil) (Syntax.ttcons Syntax.tnil (Syntax.ttcons (Syntax.tcons (Syntax.tyInt Syntax.w64) Syntax.tnil) (Syntax.ttcons Syntax.tnil (Syntax.ttcons (Syntax.tcons (Syntax.tyInt Syntax.w16) Syntax.tnil) Syntax.ttnil)))))))))) (Syntax.tcons (Syntax.tyStruct (List._∷_ 115 (List._∷_ 113 (List._∷_ 108 (List._∷_ 99 (List._∷_ 97 (List._∷_ 114 (List._∷_ 100 (List._∷_ 58 (List._∷_ 58 (List._∷_ 83 (List._∷_ 113 (List._∷_ 108 (List._∷_ 67 (List._∷_ 97 (List._∷_ 114 (List._∷_ 100 List.[])))))))))))))))) (Syntax.tcons Syntax.tyBool (Syntax.tcons (Syntax.tyInt Syntax.w32) (Syntax.tcons (Syntax.tyArray (Syntax.tyInt Syntax.w8) 5) (Syntax.tcons (Syntax.tyArray (Syntax.tyInt Syntax.w8) 8) (Syntax.tcons (Syntax.tyInt Syntax.w8) (Syntax.tcons (Syntax.tyArray (Syntax.tyInt Syntax.w32) 6) (Syntax.tcons (Syntax.tyInt Syntax.w64) (Syntax.tcons (Syntax.tyInt Syntax.w32) (Syntax.tcons (Syntax.tyArray (Syntax.tyInt Syntax.w8) 11) (Syntax.tcons (Syntax.tyInt Syntax.w64) (Syntax.tcons (Syntax.tyInt Syntax.w64) Syntax.tnil)))))))))))) (Syntax.tcons (Syntax.tyInt Syntax.w64) Syntax.tnil))))) (List._∷_ (8, Rows'.any-gone (Syntax.tyEnum (List._∷_ 111 (List._∷_ 117 (List._∷_ 116 (List._∷_ 99 (List._∷_ 111 (List._∷_ 109 (List._∷_ 101 (List._∷_ 58 (List._∷_ 58 (List._∷_ 79 (List._∷_ 117 (List._∷_ 116 (List._∷_ 99 (List._∷_ 111 (List._∷_ 109 (List._∷_ 101 List.[])))))))))))))))) (Syntax.ttcons Syntax.tnil (Syntax.ttcons Syntax.tnil (Syntax.ttcons (Syntax.tcons (Syntax.tyInt Syntax.w64) (Syntax.tcons (Syntax.tyInt Syntax.w64) Syntax.tnil)) (Syntax.ttcons Syntax.tnil (Syntax.ttcons (Syntax.tcons (Syntax.tyInt Syntax.w16) Syntax.tnil) (Syntax.ttcons Syntax.tnil (Syntax.ttcons (Syntax.tcons (Syntax.tyInt Syntax.w64) Syntax.tnil) (Syntax.ttcons Syntax.tnil (Syntax.ttcons (Syntax.tcons (Syntax.tyInt Syntax.w16) Syntax.tnil) Syntax.ttnil))))))))))) (List._∷_ (9, Rows'.any-gone (Syntax.tyInt Syntax.w64)) (List._∷_ (10, Rows'.any-gone (Syntax.tyStruct (List._∷_ 115 (List._∷_ 113 (List._∷_ 108 (List._∷_ 99 (List._∷_ 97 (List._∷_ 114 (List._∷_ 100 (List._∷_ 58 (List._∷_ 58 (List._∷_ 83 (List._∷_ 113 (List._∷_ 108 (List._∷_ 67 (List._∷_ 97 (List._∷_ 114 (List._∷_ 100 List.[])))))))))))))))) (Syntax.tcons Syntax.tyBool (Syntax.tcons (Syntax.tyInt Syntax.w32) (Syntax.tcons (Syntax.tyArray (Syntax.tyInt Syntax.w8) 5) (Syntax.tcons (Syntax.tyArray (Syntax.tyInt Syntax.w8) 8) (Syntax.tcons (Syntax.tyInt Syntax.w8) (Syntax.tcons (Syntax.tyArray (Syntax.tyInt Syntax.w32) 6) (Syntax.tcons (Syntax.tyInt Syntax.w64) (Syntax.tcons (Syntax.tyInt Syntax.w32) (Syntax.tcons (Syntax.tyArray (Syntax.tyInt Syntax.w8) 11) (Syntax.tcons (Syntax.tyInt Syntax.w64) (Syntax.tcons (Syntax.tyInt Syntax.w64) Syntax.tnil))))))))))))) (List._∷_ (11, Rows'.whole (Declared'.row Widths.the-type)) (List._∷_ (12, Rows'.sc-here (Row.sInt Syntax.w64)) (List._∷_ (13, Rows'.any-gone (Syntax.tyRef Syntax.erased Syntax.mut (Syntax.tyArray ColumnMetadataRow.named 4096))) (List._∷_ (14, Rows'.any-gone (Syntax.tyStruct (List._∷_ 38 (List._∷_ 91 (List._∷_ 93 List.[]))) (Syntax.tcons (Syntax.tyRef Syntax.erased Syntax.mut ColumnMetadataRow.named) (Syntax.tcons (Syntax.tyInt Syntax.w64) Syntax.tnil)))) (List._∷_ (15, Rows'.any-gone Syntax.tyBool) List.[])))))))))))))))
 
 abbrev pub t54 : List.List Row.Entry
-t54 = List._∷_ (0, Rows'.sc-here (Row.sInt Syntax.w64)) (List._∷_ (1, Relend.mslice-owed (Referent.rtF (Referent.fInt Syntax.w8)) (Syntax.tyRef (Syntax.named 0) Syntax.mut (Syntax.tyInt Syntax.w8)) 0 8 Row.off) (List._∷_ (2, Rows'.sc-here (Row.sInt Syntax.w64)) (List._∷_ (3, Rows'.sslice (Referent.rtF (Referent.fInt Syntax.w8)) (Syntax.tyRef (Syntax.named 1) Syntax.imm (Syntax.tyInt Syntax.w8)) 1) (List._∷_ (4, Mut.mslice (Referent.rtF (Referent.fInt Syntax.w8)) (Syntax.tyRef (Syntax.named 2) Syntax.mut (Syntax.tyInt Syntax.w8)) 2) (List._∷_ (5, Rows'.any-gone (ColumnMetadataRow.ty)) (List._∷_ (6, Rows.arr-shrP (ColumnMetadataRow.RT) 4096 9) (List._∷_ (7, Rows'.any-gone (Syntax.tyStruct (List._∷_ 115 (List._∷_ 113 (List._∷_ 108 (List._∷_ 100 (List._∷_ 97 (List._∷_ 114 (List._∷_ 100 (List._∷_ 58 (List._∷_ 58 (List._∷_ 83 (List._∷_ 113 (List._∷_ 108 (List._∷_ 100 (List._∷_ 97 (List._∷_ 114 (List._∷_ 100 (List._∷_ 65 (List._∷_ 110 (List._∷_ 115 (List._∷_ 119 (List._∷_ 101 (List._∷_ 114 List.[])))))))))))))))))))))) (Syntax.tcons (Syntax.tyEnum (List._∷_ 111 (List._∷_ 117 (List._∷_ 116 (List._∷_ 99 (List._∷_ 111 (List._∷_ 109 (List._∷_ 101 (List._∷_ 58 (List._∷_ 58 (List._∷_ 79 (List._∷_ 117 (List._∷_ 116 (List._∷_ 99 (List._∷_ 111 (List._∷_ 109 (List._∷_ 101 List.[])))))))))))))))) (Syntax.ttcons Syntax.tnil (Syntax.ttcons Syntax.tnil (Syntax.ttcons (Syntax.tcons (Syntax.tyInt Syntax.w64) (Syntax.tcons (Syntax.tyInt Syntax.w64) Syntax.tnil)) (Syntax.ttcons Syntax.tnil (Syntax.ttcons (Syntax.tcons (Syntax.tyInt Syntax.w16) Syntax.tnil) (Syntax.ttcons Syntax.tnil (Syntax.ttcons (Syntax.tcons (Syntax.tyInt Syntax.w64) Syntax.tnil) (Syntax.ttcons Syntax.tnil Syntax.ttnil))))))))) (Syntax.tcons (Syntax.tyStruct (List._∷_ 115 (List._∷_ 113 (List._∷_ 108 (List._∷_ 99 (List._∷_ 97 (List._∷_ 114 (List._∷_ 100 (List._∷_ 58 (List._∷_ 58 (List._∷_ 83 (List._∷_ 113 (List._∷_ 108 (List._∷_ 67 (List._∷_ 97 (List._∷_ 114 (List._∷_ 100 List.[])))))))))))))))) (Syntax.tcons Syntax.tyBool (Syntax.tcons (Syntax.tyInt Syntax.w32) (Syntax.tcons (Syntax.tyArray (Syntax.tyInt Syntax.w8) 5) (Syntax.tcons (Syntax.tyArray (Syntax.tyInt Syntax.w8) 8) (Syntax.tcons (Syntax.tyInt Syntax.w8) (Syntax.tcons (Syntax.tyArray (Syntax.tyInt Syntax.w32) 6) (Syntax.tcons (Syntax.tyInt Syntax.w64) (Syntax.tcons (Syntax.tyInt Syntax.w32) (Syntax.tcons (Syntax.tyArray (Syntax.tyInt Syntax.w8) 11) (Syntax.tcons (Syntax.tyInt Syntax.w64) (Syntax.tcons (Syntax.tyInt Syntax.w64) Syntax.tnil)))))))))))) (Syntax.tcons (Syntax.tyInt Syntax.w64) Syntax.tnil))))) (List._∷_ (8, Rows'.any-gone (Syntax.tyEnum (List._∷_ 111 (List._∷_ 117 (List._∷_ 116 (List._∷_ 99 (List._∷_ 111 (List._∷_ 109 (List._∷_ 101 (List._∷_ 58 (List._∷_ 58 (List._∷_ 79 (List._∷_ 117 (List._∷_ 116 (List._∷_ 99 (List._∷_ 111 (List._∷_ 109 (List._∷_ 101 List.[])))))))))))))))) (Syntax.ttcons Syntax.tnil (Syntax.ttcons Syntax.tnil (Syntax.ttcons (Syntax.tcons (Syntax.tyInt Syntax.w64) (Syntax.tcons (Syntax.tyInt Syntax.w64) Syntax.tnil)) (Syntax.ttcons Syntax.tnil (Syntax.ttcons (Syntax.tcons (Syntax.tyInt Syntax.w16) Syntax.tnil) (Syntax.ttcons Syntax.tnil (Syntax.ttcons (Syntax.tcons (Syntax.tyInt Syntax.w64) Syntax.tnil) (Syntax.ttcons Syntax.tnil Syntax.ttnil)))))))))) (List._∷_ (9, Rows'.any-gone (Syntax.tyInt Syntax.w64)) (List._∷_ (10, Rows'.any-gone (Syntax.tyStruct (List._∷_ 115 (List._∷_ 113 (List._∷_ 108 (List._∷_ 99 (List._∷_ 97 (List._∷_ 114 (List._∷_ 100 (List._∷_ 58 (List._∷_ 58 (List._∷_ 83 (List._∷_ 113 (List._∷_ 108 (List._∷_ 67 (List._∷_ 97 (List._∷_ 114 (List._∷_ 100 List.[])))))))))))))))) (Syntax.tcons Syntax.tyBool (Syntax.tcons (Syntax.tyInt Syntax.w32) (Syntax.tcons (Syntax.tyArray (Syntax.tyInt Syntax.w8) 5) (Syntax.tcons (Syntax.tyArray (Syntax.tyInt Syntax.w8) 8) (Syntax.tcons (Syntax.tyInt Syntax.w8) (Syntax.tcons (Syntax.tyArray (Syntax.tyInt Syntax.w32) 6) (Syntax.tcons (Syntax.tyInt Syntax.w64) (Syntax.tcons (Syntax.tyInt Syntax.w32) (Syntax.tcons (Syntax.tyArray (Syntax.tyInt Syntax.w8) 11) (Syntax.tcons (Syntax.tyInt Syntax.w64) (Syntax.tcons (Syntax.tyInt Syntax.w64) Syntax.tnil))))))))))))) (List._∷_ (11, Rows'.any-gone (Syntax.tyStruct (List._∷_ 116 (List._∷_ 97 (List._∷_ 98 (List._∷_ 108 (List._∷_ 101 (List._∷_ 95 (List._∷_ 111 (List._∷_ 117 (List._∷_ 116 (List._∷_ 112 (List._∷_ 117 (List._∷_ 116 (List._∷_ 58 (List._∷_ 58 (List._∷_ 114 (List._∷_ 111 (List._∷_ 119 (List._∷_ 115 (List._∷_ 58 (List._∷_ 58 (List._∷_ 87 (List._∷_ 105 (List._∷_ 100 (List._∷_ 116 (List._∷_ 104 (List._∷_ 115 List.[])))))))))))))))))))))))))) (Syntax.tcons (Syntax.tyInt Syntax.w64) (Syntax.tcons (Syntax.tyInt Syntax.w64) (Syntax.tcons (Syntax.tyInt Syntax.w64) (Syntax.tcons (Syntax.tyInt Syntax.w64) Syntax.tnil)))))) (List._∷_ (12, Rows'.sc-here (Row.sInt Syntax.w64)) (List._∷_ (13, Rows'.any-gone (Syntax.tyRef Syntax.erased Syntax.mut (Syntax.tyArray ColumnMetadataRow.named 4096))) (List._∷_ (14, Rows'.any-gone (Syntax.tyStruct (List._∷_ 38 (List._∷_ 91 (List._∷_ 93 List.[]))) (Syntax.tcons (Syntax.tyRef Syntax.erased Syntax.mut ColumnMetadataRow.named) (Syntax.tcons (Syntax.tyInt Syntax.w64) Syntax.tnil)))) (List._∷_ (15, Rows'.any-gone Syntax.tyBool) List.[])))))))))))))))
+t54 = List._∷_ (0, Rows'.sc-here (Row.sInt Syntax.w64)) (List._∷_ (1, Relend.mslice-owed (Referent.rtF (Referent.fInt Syntax.w8)) (Syntax.tyRef (Syntax.named 0) Syntax.mut (Syntax.tyInt Syntax.w8)) 0 8 Row.off) (List._∷_ (2, Rows'.sc-here (Row.sInt Syntax.w64)) (List._∷_ (3, Rows'.sslice (Referent.rtF (Referent.fInt Syntax.w8)) (Syntax.tyRef (Syntax.named 1) Syntax.imm (Syntax.tyInt Syntax.w8)) 1) (List._∷_ (4, Mut.mslice (Referent.rtF (Referent.fInt Syntax.w8)) (Syntax.tyRef (Syntax.named 2) Syntax.mut (Syntax.tyInt Syntax.w8)) 2) (List._∷_ (5, Rows'.any-gone (ColumnMetadataRow.ty)) (List._∷_ (6, Rows.arr-shrP (ColumnMetadataRow.RT) 4096 9) (List._∷_ (7, Rows'.any-gone (Syntax.tyStruct (List._∷_ 115 (List._∷_ 113 (List._∷_ 108 (List._∷_ 100 (List._∷_ 97 (List._∷_ 114 (List._∷_ 100 (List._∷_ 58 (List._∷_ 58 (List._∷_ 83 (List._∷_ 113 (List._∷_ 108 (List._∷_ 100 (List._∷_ 97 (List._∷_ 114 (List._∷_ 100 (List._∷_ 65 (List._∷_ 110 (List._∷_ 115 (List._∷_ 119 (List._∷_ 101 (List._∷_ 114 List.[])))))))))))))))))))))) (Syntax.tcons (Syntax.tyEnum (List._∷_ 111 (List._∷_ 117 (List._∷_ 116 (List._∷_ 99 (List._∷_ 111 (List._∷_ 109 (List._∷_ 101 (List._∷_ 58 (List._∷_ 58 (List._∷_ 79 (List._∷_ 117 (List._∷_ 116 (List._∷_ 99 (List._∷_ 111 (List._∷_ 109 (List._∷_ 101 List.[])))))))))))))))) (Syntax.ttcons Syntax.tnil (Syntax.ttcons Syntax.tnil (Syntax.ttcons (Syntax.tcons (Syntax.tyInt Syntax.w64) (Syntax.tcons (Syntax.tyInt Syntax.w64) Syntax.tnil)) (Syntax.ttcons Syntax.tnil (Syntax.ttcons (Syntax.tcons (Syntax.tyInt Syntax.w16) Syntax.tnil) (Syntax.ttcons Syntax.tnil (Syntax.ttcons (Syntax.tcons (Syntax.tyInt Syntax.w64) Syntax.tnil) (Syntax.ttcons Syntax.tnil (Syntax.ttcons (Syntax.tcons (Syntax.tyInt Syntax.w16) Syntax.tnil) Syntax.ttnil)))))))))) (Syntax.tcons (Syntax.tyStruct (List._∷_ 115 (List._∷_ 113 (List._∷_ 108 (List._∷_ 99 (List._∷_ 97 (List._∷_ 114 (List._∷_ 100 (List._∷_ 58 (List._∷_ 58 (List._∷_ 83 (List._∷_ 113 (List._∷_ 108 (List._∷_ 67 (List._∷_ 97 (List._∷_ 114 (List._∷_ 100 List.[])))))))))))))))) (Syntax.tcons Syntax.tyBool (Syntax.tcons (Syntax.tyInt Syntax.w32) (Syntax.tcons (Syntax.tyArray (Syntax.tyInt Syntax.w8) 5) (Syntax.tcons (Syntax.tyArray (Syntax.tyInt Syntax.w8) 8) (Syntax.tcons (Syntax.tyInt Syntax.w8) (Syntax.tcons (Syntax.tyArray (Syntax.tyInt Syntax.w32) 6) (Syntax.tcons (Syntax.tyInt Syntax.w64) (Syntax.tcons (Syntax.tyInt Syntax.w32) (Syntax.tcons (Syntax.tyArray (Syntax.tyInt Syntax.w8) 11) (Syntax.tcons (Syntax.tyInt Syntax.w64) (Syntax.tcons (Syntax.tyInt Syntax.w64) Syntax.tnil)))))))))))) (Syntax.tcons (Syntax.tyInt Syntax.w64) Syntax.tnil))))) (List._∷_ (8, Rows'.any-gone (Syntax.tyEnum (List._∷_ 111 (List._∷_ 117 (List._∷_ 116 (List._∷_ 99 (List._∷_ 111 (List._∷_ 109 (List._∷_ 101 (List._∷_ 58 (List._∷_ 58 (List._∷_ 79 (List._∷_ 117 (List._∷_ 116 (List._∷_ 99 (List._∷_ 111 (List._∷_ 109 (List._∷_ 101 List.[])))))))))))))))) (Syntax.ttcons Syntax.tnil (Syntax.ttcons Syntax.tnil (Syntax.ttcons (Syntax.tcons (Syntax.tyInt Syntax.w64) (Syntax.tcons (Syntax.tyInt Syntax.w64) Syntax.tnil)) (Syntax.ttcons Syntax.tnil (Syntax.ttcons (Syntax.tcons (Syntax.tyInt Syntax.w16) Syntax.tnil) (Syntax.ttcons Syntax.tnil (Syntax.ttcons (Syntax.tcons (Syntax.tyInt Syntax.w64) Syntax.tnil) (Syntax.ttcons Syntax.tnil (Syntax.ttcons (Syntax.tcons (Syntax.tyInt Syntax.w16) Syntax.tnil) Syntax.ttnil))))))))))) (List._∷_ (9, Rows'.any-gone (Syntax.tyInt Syntax.w64)) (List._∷_ (10, Rows'.any-gone (Syntax.tyStruct (List._∷_ 115 (List._∷_ 113 (List._∷_ 108 (List._∷_ 99 (List._∷_ 97 (List._∷_ 114 (List._∷_ 100 (List._∷_ 58 (List._∷_ 58 (List._∷_ 83 (List._∷_ 113 (List._∷_ 108 (List._∷_ 67 (List._∷_ 97 (List._∷_ 114 (List._∷_ 100 List.[])))))))))))))))) (Syntax.tcons Syntax.tyBool (Syntax.tcons (Syntax.tyInt Syntax.w32) (Syntax.tcons (Syntax.tyArray (Syntax.tyInt Syntax.w8) 5) (Syntax.tcons (Syntax.tyArray (Syntax.tyInt Syntax.w8) 8) (Syntax.tcons (Syntax.tyInt Syntax.w8) (Syntax.tcons (Syntax.tyArray (Syntax.tyInt Syntax.w32) 6) (Syntax.tcons (Syntax.tyInt Syntax.w64) (Syntax.tcons (Syntax.tyInt Syntax.w32) (Syntax.tcons (Syntax.tyArray (Syntax.tyInt Syntax.w8) 11) (Syntax.tcons (Syntax.tyInt Syntax.w64) (Syntax.tcons (Syntax.tyInt Syntax.w64) Syntax.tnil))))))))))))) (List._∷_ (11, Rows'.any-gone (Syntax.tyStruct (List._∷_ 116 (List._∷_ 97 (List._∷_ 98 (List._∷_ 108 (List._∷_ 101 (List._∷_ 95 (List._∷_ 111 (List._∷_ 117 (List._∷_ 116 (List._∷_ 112 (List._∷_ 117 (List._∷_ 116 (List._∷_ 58 (List._∷_ 58 (List._∷_ 114 (List._∷_ 111 (List._∷_ 119 (List._∷_ 115 (List._∷_ 58 (List._∷_ 58 (List._∷_ 87 (List._∷_ 105 (List._∷_ 100 (List._∷_ 116 (List._∷_ 104 (List._∷_ 115 List.[])))))))))))))))))))))))))) (Syntax.tcons (Syntax.tyInt Syntax.w64) (Syntax.tcons (Syntax.tyInt Syntax.w64) (Syntax.tcons (Syntax.tyInt Syntax.w64) (Syntax.tcons (Syntax.tyInt Syntax.w64) Syntax.tnil)))))) (List._∷_ (12, Rows'.sc-here (Row.sInt Syntax.w64)) (List._∷_ (13, Rows'.any-gone (Syntax.tyRef Syntax.erased Syntax.mut (Syntax.tyArray ColumnMetadataRow.named 4096))) (List._∷_ (14, Rows'.any-gone (Syntax.tyStruct (List._∷_ 38 (List._∷_ 91 (List._∷_ 93 List.[]))) (Syntax.tcons (Syntax.tyRef Syntax.erased Syntax.mut ColumnMetadataRow.named) (Syntax.tcons (Syntax.tyInt Syntax.w64) Syntax.tnil)))) (List._∷_ (15, Rows'.any-gone Syntax.tyBool) List.[])))))))))))))))
 
 abbrev pub t55 : List.List Row.Entry
-t55 = List._∷_ (0, Rows'.sc-here (Row.sInt Syntax.w64)) (List._∷_ (1, Relend.mslice-owed (Referent.rtF (Referent.fInt Syntax.w8)) (Syntax.tyRef (Syntax.named 0) Syntax.mut (Syntax.tyInt Syntax.w8)) 0 8 Row.off) (List._∷_ (2, Rows'.sc-here (Row.sInt Syntax.w64)) (List._∷_ (3, Rows'.sslice (Referent.rtF (Referent.fInt Syntax.w8)) (Syntax.tyRef (Syntax.named 1) Syntax.imm (Syntax.tyInt Syntax.w8)) 1) (List._∷_ (4, Mut.mslice (Referent.rtF (Referent.fInt Syntax.w8)) (Syntax.tyRef (Syntax.named 2) Syntax.mut (Syntax.tyInt Syntax.w8)) 2) (List._∷_ (5, Rows'.any-gone (ColumnMetadataRow.ty)) (List._∷_ (6, Rows.arr-shrP (ColumnMetadataRow.RT) 4096 9) (List._∷_ (7, Rows'.any-gone (Syntax.tyStruct (List._∷_ 115 (List._∷_ 113 (List._∷_ 108 (List._∷_ 100 (List._∷_ 97 (List._∷_ 114 (List._∷_ 100 (List._∷_ 58 (List._∷_ 58 (List._∷_ 83 (List._∷_ 113 (List._∷_ 108 (List._∷_ 100 (List._∷_ 97 (List._∷_ 114 (List._∷_ 100 (List._∷_ 65 (List._∷_ 110 (List._∷_ 115 (List._∷_ 119 (List._∷_ 101 (List._∷_ 114 List.[])))))))))))))))))))))) (Syntax.tcons (Syntax.tyEnum (List._∷_ 111 (List._∷_ 117 (List._∷_ 116 (List._∷_ 99 (List._∷_ 111 (List._∷_ 109 (List._∷_ 101 (List._∷_ 58 (List._∷_ 58 (List._∷_ 79 (List._∷_ 117 (List._∷_ 116 (List._∷_ 99 (List._∷_ 111 (List._∷_ 109 (List._∷_ 101 List.[])))))))))))))))) (Syntax.ttcons Syntax.tnil (Syntax.ttcons Syntax.tnil (Syntax.ttcons (Syntax.tcons (Syntax.tyInt Syntax.w64) (Syntax.tcons (Syntax.tyInt Syntax.w64) Syntax.tnil)) (Syntax.ttcons Syntax.tnil (Syntax.ttcons (Syntax.tcons (Syntax.tyInt Syntax.w16) Syntax.tnil) (Syntax.ttcons Syntax.tnil (Syntax.ttcons (Syntax.tcons (Syntax.tyInt Syntax.w64) Syntax.tnil) (Syntax.ttcons Syntax.tnil Syntax.ttnil))))))))) (Syntax.tcons (Syntax.tyStruct (List._∷_ 115 (List._∷_ 113 (List._∷_ 108 (List._∷_ 99 (List._∷_ 97 (List._∷_ 114 (List._∷_ 100 (List._∷_ 58 (List._∷_ 58 (List._∷_ 83 (List._∷_ 113 (List._∷_ 108 (List._∷_ 67 (List._∷_ 97 (List._∷_ 114 (List._∷_ 100 List.[])))))))))))))))) (Syntax.tcons Syntax.tyBool (Syntax.tcons (Syntax.tyInt Syntax.w32) (Syntax.tcons (Syntax.tyArray (Syntax.tyInt Syntax.w8) 5) (Syntax.tcons (Syntax.tyArray (Syntax.tyInt Syntax.w8) 8) (Syntax.tcons (Syntax.tyInt Syntax.w8) (Syntax.tcons (Syntax.tyArray (Syntax.tyInt Syntax.w32) 6) (Syntax.tcons (Syntax.tyInt Syntax.w64) (Syntax.tcons (Syntax.tyInt Syntax.w32) (Syntax.tcons (Syntax.tyArray (Syntax.tyInt Syntax.w8) 11) (Syntax.tcons (Syntax.tyInt Syntax.w64) (Syntax.tcons (Syntax.tyInt Syntax.w64) Syntax.tnil)))))))))))) (Syntax.tcons (Syntax.tyInt Syntax.w64) Syntax.tnil))))) (List._∷_ (8, Rows'.any-gone (Syntax.tyEnum (List._∷_ 111 (List._∷_ 117 (List._∷_ 116 (List._∷_ 99 (List._∷_ 111 (List._∷_ 109 (List._∷_ 101 (List._∷_ 58 (List._∷_ 58 (List._∷_ 79 (List._∷_ 117 (List._∷_ 116 (List._∷_ 99 (List._∷_ 111 (List._∷_ 109 (List._∷_ 101 List.[])))))))))))))))) (Syntax.ttcons Syntax.tnil (Syntax.ttcons Syntax.tnil (Syntax.ttcons (Syntax.tcons (Syntax.tyInt Syntax.w64) (Syntax.tcons (Syntax.tyInt Syntax.w64) Syntax.tnil)) (Syntax.ttcons Syntax.tnil (Syntax.ttcons (Syntax.tcons (Syntax.tyInt Syntax.w16) Syntax.tnil) (Syntax.ttcons Syntax.tnil (Syntax.ttcons (Syntax.tcons (Syntax.tyInt Syntax.w64) Syntax.tnil) (Syntax.ttcons Syntax.tnil Syntax.ttnil)))))))))) (List._∷_ (9, Rows'.any-gone (Syntax.tyInt Syntax.w64)) (List._∷_ (10, Rows'.any-gone (Syntax.tyStruct (List._∷_ 115 (List._∷_ 113 (List._∷_ 108 (List._∷_ 99 (List._∷_ 97 (List._∷_ 114 (List._∷_ 100 (List._∷_ 58 (List._∷_ 58 (List._∷_ 83 (List._∷_ 113 (List._∷_ 108 (List._∷_ 67 (List._∷_ 97 (List._∷_ 114 (List._∷_ 100 List.[])))))))))))))))) (Syntax.tcons Syntax.tyBool (Syntax.tcons (Syntax.tyInt Syntax.w32) (Syntax.tcons (Syntax.tyArray (Syntax.tyInt Syntax.w8) 5) (Syntax.tcons (Syntax.tyArray (Syntax.tyInt Syntax.w8) 8) (Syntax.tcons (Syntax.tyInt Syntax.w8) (Syntax.tcons (Syntax.tyArray (Syntax.tyInt Syntax.w32) 6) (Syntax.tcons (Syntax.tyInt Syntax.w64) (Syntax.tcons (Syntax.tyInt Syntax.w32) (Syntax.tcons (Syntax.tyArray (Syntax.tyInt Syntax.w8) 11) (Syntax.tcons (Syntax.tyInt Syntax.w64) (Syntax.tcons (Syntax.tyInt Syntax.w64) Syntax.tnil))))))))))))) (List._∷_ (11, Rows'.any-gone (Syntax.tyStruct (List._∷_ 116 (List._∷_ 97 (List._∷_ 98 (List._∷_ 108 (List._∷_ 101 (List._∷_ 95 (List._∷_ 111 (List._∷_ 117 (List._∷_ 116 (List._∷_ 112 (List._∷_ 117 (List._∷_ 116 (List._∷_ 58 (List._∷_ 58 (List._∷_ 114 (List._∷_ 111 (List._∷_ 119 (List._∷_ 115 (List._∷_ 58 (List._∷_ 58 (List._∷_ 87 (List._∷_ 105 (List._∷_ 100 (List._∷_ 116 (List._∷_ 104 (List._∷_ 115 List.[])))))))))))))))))))))))))) (Syntax.tcons (Syntax.tyInt Syntax.w64) (Syntax.tcons (Syntax.tyInt Syntax.w64) (Syntax.tcons (Syntax.tyInt Syntax.w64) (Syntax.tcons (Syntax.tyInt Syntax.w64) Syntax.tnil)))))) (List._∷_ (12, Rows'.any-gone (Syntax.tyInt Syntax.w64)) (List._∷_ (13, Rows'.any-gone (Syntax.tyRef Syntax.erased Syntax.mut (Syntax.tyArray ColumnMetadataRow.named 4096))) (List._∷_ (14, Rows'.any-gone (Syntax.tyStruct (List._∷_ 38 (List._∷_ 91 (List._∷_ 93 List.[]))) (Syntax.tcons (Syntax.tyRef Syntax.erased Syntax.mut ColumnMetadataRow.named) (Syntax.tcons (Syntax.tyInt Syntax.w64) Syntax.tnil)))) (List._∷_ (15, Rows'.any-gone Syntax.tyBool) List.[])))))))))))))))
+t55 = List._∷_ (0, Rows'.sc-here (Row.sInt Syntax.w64)) (List._∷_ (1, Relend.mslice-owed (Referent.rtF (Referent.fInt Syntax.w8)) (Syntax.tyRef (Syntax.named 0) Syntax.mut (Syntax.tyInt Syntax.w8)) 0 8 Row.off) (List._∷_ (2, Rows'.sc-here (Row.sInt Syntax.w64)) (List._∷_ (3, Rows'.sslice (Referent.rtF (Referent.fInt Syntax.w8)) (Syntax.tyRef (Syntax.named 1) Syntax.imm (Syntax.tyInt Syntax.w8)) 1) (List._∷_ (4, Mut.mslice (Referent.rtF (Referent.fInt Syntax.w8)) (Syntax.tyRef (Syntax.named 2) Syntax.mut (Syntax.tyInt Syntax.w8)) 2) (List._∷_ (5, Rows'.any-gone (ColumnMetadataRow.ty)) (List._∷_ (6, Rows.arr-shrP (ColumnMetadataRow.RT) 4096 9) (List._∷_ (7, Rows'.any-gone (Syntax.tyStruct (List._∷_ 115 (List._∷_ 113 (List._∷_ 108 (List._∷_ 100 (List._∷_ 97 (List._∷_ 114 (List._∷_ 100 (List._∷_ 58 (List._∷_ 58 (List._∷_ 83 (List._∷_ 113 (List._∷_ 108 (List._∷_ 100 (List._∷_ 97 (List._∷_ 114 (List._∷_ 100 (List._∷_ 65 (List._∷_ 110 (List._∷_ 115 (List._∷_ 119 (List._∷_ 101 (List._∷_ 114 List.[])))))))))))))))))))))) (Syntax.tcons (Syntax.tyEnum (List._∷_ 111 (List._∷_ 117 (List._∷_ 116 (List._∷_ 99 (List._∷_ 111 (List._∷_ 109 (List._∷_ 101 (List._∷_ 58 (List._∷_ 58 (List._∷_ 79 (List._∷_ 117 (List._∷_ 116 (List._∷_ 99 (List._∷_ 111 (List._∷_ 109 (List._∷_ 101 List.[])))))))))))))))) (Syntax.ttcons Syntax.tnil (Syntax.ttcons Syntax.tnil (Syntax.ttcons (Syntax.tcons (Syntax.tyInt Syntax.w64) (Syntax.tcons (Syntax.tyInt Syntax.w64) Syntax.tnil)) (Syntax.ttcons Syntax.tnil (Syntax.ttcons (Syntax.tcons (Syntax.tyInt Syntax.w16) Syntax.tnil) (Syntax.ttcons Syntax.tnil (Syntax.ttcons (Syntax.tcons (Syntax.tyInt Syntax.w64) Syntax.tnil) (Syntax.ttcons Syntax.tnil (Syntax.ttcons (Syntax.tcons (Syntax.tyInt Syntax.w16) Syntax.tnil) Syntax.ttnil)))))))))) (Syntax.tcons (Syntax.tyStruct (List._∷_ 115 (List._∷_ 113 (List._∷_ 108 (List._∷_ 99 (List._∷_ 97 (List._∷_ 114 (List._∷_ 100 (List._∷_ 58 (List._∷_ 58 (List._∷_ 83 (List._∷_ 113 (List._∷_ 108 (List._∷_ 67 (List._∷_ 97 (List._∷_ 114 (List._∷_ 100 List.[])))))))))))))))) (Syntax.tcons Syntax.tyBool (Syntax.tcons (Syntax.tyInt Syntax.w32) (Syntax.tcons (Syntax.tyArray (Syntax.tyInt Syntax.w8) 5) (Syntax.tcons (Syntax.tyArray (Syntax.tyInt Syntax.w8) 8) (Syntax.tcons (Syntax.tyInt Syntax.w8) (Syntax.tcons (Syntax.tyArray (Syntax.tyInt Syntax.w32) 6) (Syntax.tcons (Syntax.tyInt Syntax.w64) (Syntax.tcons (Syntax.tyInt Syntax.w32) (Syntax.tcons (Syntax.tyArray (Syntax.tyInt Syntax.w8) 11) (Syntax.tcons (Syntax.tyInt Syntax.w64) (Syntax.tcons (Syntax.tyInt Syntax.w64) Syntax.tnil)))))))))))) (Syntax.tcons (Syntax.tyInt Syntax.w64) Syntax.tnil))))) (List._∷_ (8, Rows'.any-gone (Syntax.tyEnum (List._∷_ 111 (List._∷_ 117 (List._∷_ 116 (List._∷_ 99 (List._∷_ 111 (List._∷_ 109 (List._∷_ 101 (List._∷_ 58 (List._∷_ 58 (List._∷_ 79 (List._∷_ 117 (List._∷_ 116 (List._∷_ 99 (List._∷_ 111 (List._∷_ 109 (List._∷_ 101 List.[])))))))))))))))) (Syntax.ttcons Syntax.tnil (Syntax.ttcons Syntax.tnil (Syntax.ttcons (Syntax.tcons (Syntax.tyInt Syntax.w64) (Syntax.tcons (Syntax.tyInt Syntax.w64) Syntax.tnil)) (Syntax.ttcons Syntax.tnil (Syntax.ttcons (Syntax.tcons (Syntax.tyInt Syntax.w16) Syntax.tnil) (Syntax.ttcons Syntax.tnil (Syntax.ttcons (Syntax.tcons (Syntax.tyInt Syntax.w64) Syntax.tnil) (Syntax.ttcons Syntax.tnil (Syntax.ttcons (Syntax.tcons (Syntax.tyInt Syntax.w16) Syntax.tnil) Syntax.ttnil))))))))))) (List._∷_ (9, Rows'.any-gone (Syntax.tyInt Syntax.w64)) (List._∷_ (10, Rows'.any-gone (Syntax.tyStruct (List._∷_ 115 (List._∷_ 113 (List._∷_ 108 (List._∷_ 99 (List._∷_ 97 (List._∷_ 114 (List._∷_ 100 (List._∷_ 58 (List._∷_ 58 (List._∷_ 83 (List._∷_ 113 (List._∷_ 108 (List._∷_ 67 (List._∷_ 97 (List._∷_ 114 (List._∷_ 100 List.[])))))))))))))))) (Syntax.tcons Syntax.tyBool (Syntax.tcons (Syntax.tyInt Syntax.w32) (Syntax.tcons (Syntax.tyArray (Syntax.tyInt Syntax.w8) 5) (Syntax.tcons (Syntax.tyArray (Syntax.tyInt Syntax.w8) 8) (Syntax.tcons (Syntax.tyInt Syntax.w8) (Syntax.tcons (Syntax.tyArray (Syntax.tyInt Syntax.w32) 6) (Syntax.tcons (Syntax.tyInt Syntax.w64) (Syntax.tcons (Syntax.tyInt Syntax.w32) (Syntax.tcons (Syntax.tyArray (Syntax.tyInt Syntax.w8) 11) (Syntax.tcons (Syntax.tyInt Syntax.w64) (Syntax.tcons (Syntax.tyInt Syntax.w64) Syntax.tnil))))))))))))) (List._∷_ (11, Rows'.any-gone (Syntax.tyStruct (List._∷_ 116 (List._∷_ 97 (List._∷_ 98 (List._∷_ 108 (List._∷_ 101 (List._∷_ 95 (List._∷_ 111 (List._∷_ 117 (List._∷_ 116 (List._∷_ 112 (List._∷_ 117 (List._∷_ 116 (List._∷_ 58 (List._∷_ 58 (List._∷_ 114 (List._∷_ 111 (List._∷_ 119 (List._∷_ 115 (List._∷_ 58 (List._∷_ 58 (List._∷_ 87 (List._∷_ 105 (List._∷_ 100 (List._∷_ 116 (List._∷_ 104 (List._∷_ 115 List.[])))))))))))))))))))))))))) (Syntax.tcons (Syntax.tyInt Syntax.w64) (Syntax.tcons (Syntax.tyInt Syntax.w64) (Syntax.tcons (Syntax.tyInt Syntax.w64) (Syntax.tcons (Syntax.tyInt Syntax.w64) Syntax.tnil)))))) (List._∷_ (12, Rows'.any-gone (Syntax.tyInt Syntax.w64)) (List._∷_ (13, Rows'.any-gone (Syntax.tyRef Syntax.erased Syntax.mut (Syntax.tyArray ColumnMetadataRow.named 4096))) (List._∷_ (14, Rows'.any-gone (Syntax.tyStruct (List._∷_ 38 (List._∷_ 91 (List._∷_ 93 List.[]))) (Syntax.tcons (Syntax.tyRef Syntax.erased Syntax.mut ColumnMetadataRow.named) (Syntax.tcons (Syntax.tyInt Syntax.w64) Syntax.tnil)))) (List._∷_ (15, Rows'.any-gone Syntax.tyBool) List.[])))))))))))))))
 
 abbrev pub t56 : List.List Row.Entry
-t56 = List._∷_ (0, Rows'.sc-here (Row.sInt Syntax.w64)) (List._∷_ (1, Mut.mslice (Referent.rtF (Referent.fInt Syntax.w8)) (Syntax.tyRef (Syntax.named 0) Syntax.mut (Syntax.tyInt Syntax.w8)) 0) (List._∷_ (2, Rows'.sc-here (Row.sInt Syntax.w64)) (List._∷_ (3, Rows'.sslice (Referent.rtF (Referent.fInt Syntax.w8)) (Syntax.tyRef (Syntax.named 1) Syntax.imm (Syntax.tyInt Syntax.w8)) 1) (List._∷_ (4, Mut.mslice (Referent.rtF (Referent.fInt Syntax.w8)) (Syntax.tyRef (Syntax.named 2) Syntax.mut (Syntax.tyInt Syntax.w8)) 2) (List._∷_ (5, Rows'.any-gone (ColumnMetadataRow.ty)) (List._∷_ (6, Rows.arr-shrP (ColumnMetadataRow.RT) 4096 9) (List._∷_ (7, Rows'.any-gone (Syntax.tyStruct (List._∷_ 115 (List._∷_ 113 (List._∷_ 108 (List._∷_ 100 (List._∷_ 97 (List._∷_ 114 (List._∷_ 100 (List._∷_ 58 (List._∷_ 58 (List._∷_ 83 (List._∷_ 113 (List._∷_ 108 (List._∷_ 100 (List._∷_ 97 (List._∷_ 114 (List._∷_ 100 (List._∷_ 65 (List._∷_ 110 (List._∷_ 115 (List._∷_ 119 (List._∷_ 101 (List._∷_ 114 List.[])))))))))))))))))))))) (Syntax.tcons (Syntax.tyEnum (List._∷_ 111 (List._∷_ 117 (List._∷_ 116 (List._∷_ 99 (List._∷_ 111 (List._∷_ 109 (List._∷_ 101 (List._∷_ 58 (List._∷_ 58 (List._∷_ 79 (List._∷_ 117 (List._∷_ 116 (List._∷_ 99 (List._∷_ 111 (List._∷_ 109 (List._∷_ 101 List.[])))))))))))))))) (Syntax.ttcons Syntax.tnil (Syntax.ttcons Syntax.tnil (Syntax.ttcons (Syntax.tcons (Syntax.tyInt Syntax.w64) (Syntax.tcons (Syntax.tyInt Syntax.w64) Syntax.tnil)) (Syntax.ttcons Syntax.tnil (Syntax.ttcons (Syntax.tcons (Syntax.tyInt Syntax.w16) Syntax.tnil) (Syntax.ttcons Syntax.tnil (Syntax.ttcons (Syntax.tcons (Syntax.tyInt Syntax.w64) Syntax.tnil) (Syntax.ttcons Syntax.tnil Syntax.ttnil))))))))) (Syntax.tcons (Syntax.tyStruct (List._∷_ 115 (List._∷_ 113 (List._∷_ 108 (List._∷_ 99 (List._∷_ 97 (List._∷_ 114 (List._∷_ 100 (List._∷_ 58 (List._∷_ 58 (List._∷_ 83 (List._∷_ 113 (List._∷_ 108 (List._∷_ 67 (List._∷_ 97 (List._∷_ 114 (List._∷_ 100 List.[])))))))))))))))) (Syntax.tcons Syntax.tyBool (Syntax.tcons (Syntax.tyInt Syntax.w32) (Syntax.tcons (Syntax.tyArray (Syntax.tyInt Syntax.w8) 5) (Syntax.tcons (Syntax.tyArray (Syntax.tyInt Syntax.w8) 8) (Syntax.tcons (Syntax.tyInt Syntax.w8) (Syntax.tcons (Syntax.tyArray (Syntax.tyInt Syntax.w32) 6) (Syntax.tcons (Syntax.tyInt Syntax.w64) (Syntax.tcons (Syntax.tyInt Syntax.w32) (Syntax.tcons (Syntax.tyArray (Syntax.tyInt Syntax.w8) 11) (Syntax.tcons (Syntax.tyInt Syntax.w64) (Syntax.tcons (Syntax.tyInt Syntax.w64) Syntax.tnil)))))))))))) (Syntax.tcons (Syntax.tyInt Syntax.w64) Syntax.tnil))))) (List._∷_ (8, Rows'.any-gone (Syntax.tyEnum (List._∷_ 111 (List._∷_ 117 (List._∷_ 116 (List._∷_ 99 (List._∷_ 111 (List._∷_ 109 (List._∷_ 101 (List._∷_ 58 (List._∷_ 58 (List._∷_ 79 (List._∷_ 117 (List._∷_ 116 (List._∷_ 99 (List._∷_ 111 (List._∷_ 109 (List._∷_ 101 List.[])))))))))))))))) (Syntax.ttcons Syntax.tnil (Syntax.ttcons Syntax.tnil (Syntax.ttcons (Syntax.tcons (Syntax.tyInt Syntax.w64) (Syntax.tcons (Syntax.tyInt Syntax.w64) Syntax.tnil)) (Syntax.ttcons Syntax.tnil (Syntax.ttcons (Syntax.tcons (Syntax.tyInt Syntax.w16) Syntax.tnil) (Syntax.ttcons Syntax.tnil (Syntax.ttcons (Syntax.tcons (Syntax.tyInt Syntax.w64) Syntax.tnil) (Syntax.ttcons Syntax.tnil Syntax.ttnil)))))))))) (List._∷_ (9, Rows'.any-gone (Syntax.tyInt Syntax.w64)) (List._∷_ (10, Rows'.any-gone (Syntax.tyStruct (List._∷_ 115 (List._∷_ 113 (List._∷_ 108 (List._∷_ 99 (List._∷_ 97 (List._∷_ 114 (List._∷_ 100 (List._∷_ 58 (List._∷_ 58 (List._∷_ 83 (List._∷_ 113 (List._∷_ 108 (List._∷_ 67 (List._∷_ 97 (List._∷_ 114 (List._∷_ 100 List.[])))))))))))))))) (Syntax.tcons Syntax.tyBool (Syntax.tcons (Syntax.tyInt Syntax.w32) (Syntax.tcons (Syntax.tyArray (Syntax.tyInt Syntax.w8) 5) (Syntax.tcons (Syntax.tyArray (Syntax.tyInt Syntax.w8) 8) (Syntax.tcons (Syntax.tyInt Syntax.w8) (Syntax.tcons (Syntax.tyArray (Syntax.tyInt Syntax.w32) 6) (Syntax.tcons (Syntax.tyInt Syntax.w64) (Syntax.tcons (Syntax.tyInt Syntax.w32) (Syntax.tcons (Syntax.tyArray (Syntax.tyInt Syntax.w8) 11) (Syntax.tcons (Syntax.tyInt Syntax.w64) (Syntax.tcons (Syntax.tyInt Syntax.w64) Syntax.tnil))))))))))))) (List._∷_ (11, Rows'.any-gone (Syntax.tyStruct (List._∷_ 116 (List._∷_ 97 (List._∷_ 98 (List._∷_ 108 (List._∷_ 101 (List._∷_ 95 (List._∷_ 111 (List._∷_ 117 (List._∷_ 116 (List._∷_ 112 (List._∷_ 117 (List._∷_ 116 (List._∷_ 58 (List._∷_ 58 (List._∷_ 114 (List._∷_ 111 (List._∷_ 119 (List._∷_ 115 (List._∷_ 58 (List._∷_ 58 (List._∷_ 87 (List._∷_ 105 (List._∷_ 100 (List._∷_ 116 (List._∷_ 104 (List._∷_ 115 List.[])))))))))))))))))))))))))) (Syntax.tcons (Syntax.tyInt Syntax.w64) (Syntax.tcons (Syntax.tyInt Syntax.w64) (Syntax.tcons (Syntax.tyInt Syntax.w64) (Syntax.tcons (Syntax.tyInt Syntax.w64) Syntax.tnil)))))) (List._∷_ (12, Rows'.any-gone (Syntax.tyInt Syntax.w64)) (List._∷_ (13, Rows'.any-gone (Syntax.tyRef Syntax.erased Syntax.mut (Syntax.tyArray ColumnMetadataRow.named 4096))) (List._∷_ (14, Rows'.any-gone (Syntax.tyStruct (List._∷_ 38 (List._∷_ 91 (List._∷_ 93 List.[]))) (Syntax.tcons (Syntax.tyRef Syntax.erased Syntax.mut ColumnMetadataRow.named) (Syntax.tcons (Syntax.tyInt Syntax.w64) Syntax.tnil)))) (List._∷_ (15, Rows'.any-gone Syntax.tyBool) List.[])))))))))))))))
+t56 = List._∷_ (0, Rows'.sc-here (Row.sInt Syntax.w64)) (List._∷_ (1, Mut.mslice (Referent.rtF (Referent.fInt Syntax.w8)) (Syntax.tyRef (Syntax.named 0) Syntax.mut (Syntax.tyInt Syntax.w8)) 0) (List._∷_ (2, Rows'.sc-here (Row.sInt Syntax.w64)) (List._∷_ (3, Rows'.sslice (Referent.rtF (Referent.fInt Syntax.w8)) (Syntax.tyRef (Syntax.named 1) Syntax.imm (Syntax.tyInt Syntax.w8)) 1) (List._∷_ (4, Mut.mslice (Referent.rtF (Referent.fInt Syntax.w8)) (Syntax.tyRef (Syntax.named 2) Syntax.mut (Syntax.tyInt Syntax.w8)) 2) (List._∷_ (5, Rows'.any-gone (ColumnMetadataRow.ty)) (List._∷_ (6, Rows.arr-shrP (ColumnMetadataRow.RT) 4096 9) (List._∷_ (7, Rows'.any-gone (Syntax.tyStruct (List._∷_ 115 (List._∷_ 113 (List._∷_ 108 (List._∷_ 100 (List._∷_ 97 (List._∷_ 114 (List._∷_ 100 (List._∷_ 58 (List._∷_ 58 (List._∷_ 83 (List._∷_ 113 (List._∷_ 108 (List._∷_ 100 (List._∷_ 97 (List._∷_ 114 (List._∷_ 100 (List._∷_ 65 (List._∷_ 110 (List._∷_ 115 (List._∷_ 119 (List._∷_ 101 (List._∷_ 114 List.[])))))))))))))))))))))) (Syntax.tcons (Syntax.tyEnum (List._∷_ 111 (List._∷_ 117 (List._∷_ 116 (List._∷_ 99 (List._∷_ 111 (List._∷_ 109 (List._∷_ 101 (List._∷_ 58 (List._∷_ 58 (List._∷_ 79 (List._∷_ 117 (List._∷_ 116 (List._∷_ 99 (List._∷_ 111 (List._∷_ 109 (List._∷_ 101 List.[])))))))))))))))) (Syntax.ttcons Syntax.tnil (Syntax.ttcons Syntax.tnil (Syntax.ttcons (Syntax.tcons (Syntax.tyInt Syntax.w64) (Syntax.tcons (Syntax.tyInt Syntax.w64) Syntax.tnil)) (Syntax.ttcons Syntax.tnil (Syntax.ttcons (Syntax.tcons (Syntax.tyInt Syntax.w16) Syntax.tnil) (Syntax.ttcons Syntax.tnil (Syntax.ttcons (Syntax.tcons (Syntax.tyInt Syntax.w64) Syntax.tnil) (Syntax.ttcons Syntax.tnil (Syntax.ttcons (Syntax.tcons (Syntax.tyInt Syntax.w16) Syntax.tnil) Syntax.ttnil)))))))))) (Syntax.tcons (Syntax.tyStruct (List._∷_ 115 (List._∷_ 113 (List._∷_ 108 (List._∷_ 99 (List._∷_ 97 (List._∷_ 114 (List._∷_ 100 (List._∷_ 58 (List._∷_ 58 (List._∷_ 83 (List._∷_ 113 (List._∷_ 108 (List._∷_ 67 (List._∷_ 97 (List._∷_ 114 (List._∷_ 100 List.[])))))))))))))))) (Syntax.tcons Syntax.tyBool (Syntax.tcons (Syntax.tyInt Syntax.w32) (Syntax.tcons (Syntax.tyArray (Syntax.tyInt Syntax.w8) 5) (Syntax.tcons (Syntax.tyArray (Syntax.tyInt Syntax.w8) 8) (Syntax.tcons (Syntax.tyInt Syntax.w8) (Syntax.tcons (Syntax.tyArray (Syntax.tyInt Syntax.w32) 6) (Syntax.tcons (Syntax.tyInt Syntax.w64) (Syntax.tcons (Syntax.tyInt Syntax.w32) (Syntax.tcons (Syntax.tyArray (Syntax.tyInt Syntax.w8) 11) (Syntax.tcons (Syntax.tyInt Syntax.w64) (Syntax.tcons (Syntax.tyInt Syntax.w64) Syntax.tnil)))))))))))) (Syntax.tcons (Syntax.tyInt Syntax.w64) Syntax.tnil))))) (List._∷_ (8, Rows'.any-gone (Syntax.tyEnum (List._∷_ 111 (List._∷_ 117 (List._∷_ 116 (List._∷_ 99 (List._∷_ 111 (List._∷_ 109 (List._∷_ 101 (List._∷_ 58 (List._∷_ 58 (List._∷_ 79 (List._∷_ 117 (List._∷_ 116 (List._∷_ 99 (List._∷_ 111 (List._∷_ 109 (List._∷_ 101 List.[])))))))))))))))) (Syntax.ttcons Syntax.tnil (Syntax.ttcons Syntax.tnil (Syntax.ttcons (Syntax.tcons (Syntax.tyInt Syntax.w64) (Syntax.tcons (Syntax.tyInt Syntax.w64) Syntax.tnil)) (Syntax.ttcons Syntax.tnil (Syntax.ttcons (Syntax.tcons (Syntax.tyInt Syntax.w16) Syntax.tnil) (Syntax.ttcons Syntax.tnil (Syntax.ttcons (Syntax.tcons (Syntax.tyInt Syntax.w64) Syntax.tnil) (Syntax.ttcons Syntax.tnil (Syntax.ttcons (Syntax.tcons (Syntax.tyInt Syntax.w16) Syntax.tnil) Syntax.ttnil))))))))))) (List._∷_ (9, Rows'.any-gone (Syntax.tyInt Syntax.w64)) (List._∷_ (10, Rows'.any-gone (Syntax.tyStruct (List._∷_ 115 (List._∷_ 113 (List._∷_ 108 (List._∷_ 99 (List._∷_ 97 (List._∷_ 114 (List._∷_ 100 (List._∷_ 58 (List._∷_ 58 (List._∷_ 83 (List._∷_ 113 (List._∷_ 108 (List._∷_ 67 (List._∷_ 97 (List._∷_ 114 (List._∷_ 100 List.[])))))))))))))))) (Syntax.tcons Syntax.tyBool (Syntax.tcons (Syntax.tyInt Syntax.w32) (Syntax.tcons (Syntax.tyArray (Syntax.tyInt Syntax.w8) 5) (Syntax.tcons (Syntax.tyArray (Syntax.tyInt Syntax.w8) 8) (Syntax.tcons (Syntax.tyInt Syntax.w8) (Syntax.tcons (Syntax.tyArray (Syntax.tyInt Syntax.w32) 6) (Syntax.tcons (Syntax.tyInt Syntax.w64) (Syntax.tcons (Syntax.tyInt Syntax.w32) (Syntax.tcons (Syntax.tyArray (Syntax.tyInt Syntax.w8) 11) (Syntax.tcons (Syntax.tyInt Syntax.w64) (Syntax.tcons (Syntax.tyInt Syntax.w64) Syntax.tnil))))))))))))) (List._∷_ (11, Rows'.any-gone (Syntax.tyStruct (List._∷_ 116 (List._∷_ 97 (List._∷_ 98 (List._∷_ 108 (List._∷_ 101 (List._∷_ 95 (List._∷_ 111 (List._∷_ 117 (List._∷_ 116 (List._∷_ 112 (List._∷_ 117 (List._∷_ 116 (List._∷_ 58 (List._∷_ 58 (List._∷_ 114 (List._∷_ 111 (List._∷_ 119 (List._∷_ 115 (List._∷_ 58 (List._∷_ 58 (List._∷_ 87 (List._∷_ 105 (List._∷_ 100 (List._∷_ 116 (List._∷_ 104 (List._∷_ 115 List.[])))))))))))))))))))))))))) (Syntax.tcons (Syntax.tyInt Syntax.w64) (Syntax.tcons (Syntax.tyInt Syntax.w64) (Syntax.tcons (Syntax.tyInt Syntax.w64) (Syntax.tcons (Syntax.tyInt Syntax.w64) Syntax.tnil)))))) (List._∷_ (12, Rows'.any-gone (Syntax.tyInt Syntax.w64)) (List._∷_ (13, Rows'.any-gone (Syntax.tyRef Syntax.erased Syntax.mut (Syntax.tyArray ColumnMetadataRow.named 4096))) (List._∷_ (14, Rows'.any-gone (Syntax.tyStruct (List._∷_ 38 (List._∷_ 91 (List._∷_ 93 List.[]))) (Syntax.tcons (Syntax.tyRef Syntax.erased Syntax.mut ColumnMetadataRow.named) (Syntax.tcons (Syntax.tyInt Syntax.w64) Syntax.tnil)))) (List._∷_ (15, Rows'.any-gone Syntax.tyBool) List.[])))))))))))))))
 
 abbrev pub t57 : List.List Row.Entry
-t57 = List._∷_ (0, Rows'.sc-here (Row.sInt Syntax.w64)) (List._∷_ (1, Mut.mslice (Referent.rtF (Referent.fInt Syntax.w8)) (Syntax.tyRef (Syntax.named 0) Syntax.mut (Syntax.tyInt Syntax.w8)) 0) (List._∷_ (2, Rows'.sc-here (Row.sInt Syntax.w64)) (List._∷_ (3, Rows'.sslice (Referent.rtF (Referent.fInt Syntax.w8)) (Syntax.tyRef (Syntax.named 1) Syntax.imm (Syntax.tyInt Syntax.w8)) 1) (List._∷_ (4, Mut.mslice (Referent.rtF (Referent.fInt Syntax.w8)) (Syntax.tyRef (Syntax.named 2) Syntax.mut (Syntax.tyInt Syntax.w8)) 2) (List._∷_ (5, Rows'.any-gone (ColumnMetadataRow.ty)) (List._∷_ (6, Rows.arrF (ColumnMetadataRow.RT) 4096 0) (List._∷_ (7, Rows'.any-gone (Syntax.tyStruct (List._∷_ 115 (List._∷_ 113 (List._∷_ 108 (List._∷_ 100 (List._∷_ 97 (List._∷_ 114 (List._∷_ 100 (List._∷_ 58 (List._∷_ 58 (List._∷_ 83 (List._∷_ 113 (List._∷_ 108 (List._∷_ 100 (List._∷_ 97 (List._∷_ 114 (List._∷_ 100 (List._∷_ 65 (List._∷_ 110 (List._∷_ 115 (List._∷_ 119 (List._∷_ 101 (List._∷_ 114 List.[])))))))))))))))))))))) (Syntax.tcons (Syntax.tyEnum (List._∷_ 111 (List._∷_ 117 (List._∷_ 116 (List._∷_ 99 (List._∷_ 111 (List._∷_ 109 (List._∷_ 101 (List._∷_ 58 (List._∷_ 58 (List._∷_ 79 (List._∷_ 117 (List._∷_ 116 (List._∷_ 99 (List._∷_ 111 (List._∷_ 109 (List._∷_ 101 List.[])))))))))))))))) (Syntax.ttcons Syntax.tnil (Syntax.ttcons Syntax.tnil (Syntax.ttcons (Syntax.tcons (Syntax.tyInt Syntax.w64) (Syntax.tcons (Syntax.tyInt Syntax.w64) Syntax.tnil)) (Syntax.ttcons Syntax.tnil (Syntax.ttcons (Syntax.tcons (Syntax.tyInt Syntax.w16) Syntax.tnil) (Syntax.ttcons Syntax.tnil (Syntax.ttcons (Syntax.tcons (Syntax.tyInt Syntax.w64) Syntax.tnil) (Syntax.ttcons Syntax.tnil Syntax.ttnil))))))))) (Syntax.tcons (Syntax.tyStruct (List._∷_ 115 (List._∷_ 113 (List._∷_ 108 (List._∷_ 99 (List._∷_ 97 (List._∷_ 114 (List._∷_ 100 (List._∷_ 58 (List._∷_ 58 (List._∷_ 83 (List._∷_ 113 (List._∷_ 108 (List._∷_ 67 (List._∷_ 97 (List._∷_ 114 (List._∷_ 100 List.[])))))))))))))))) (Syntax.tcons Syntax.tyBool (Syntax.tcons (Syntax.tyInt Syntax.w32) (Syntax.tcons (Syntax.tyArray (Syntax.tyInt Syntax.w8) 5) (Syntax.tcons (Syntax.tyArray (Syntax.tyInt Syntax.w8) 8) (Syntax.tcons (Syntax.tyInt Syntax.w8) (Syntax.tcons (Syntax.tyArray (Syntax.tyInt Syntax.w32) 6) (Syntax.tcons (Syntax.tyInt Syntax.w64) (Syntax.tcons (Syntax.tyInt Syntax.w32) (Syntax.tcons (Syntax.tyArray (Syntax.tyInt Syntax.w8) 11) (Syntax.tcons (Syntax.tyInt Syntax.w64) (Syntax.tcons (Syntax.tyInt Syntax.w64) Syntax.tnil)))))))))))) (Syntax.tcons (Syntax.tyInt Syntax.w64) Syntax.tnil))))) (List._∷_ (8, Rows'.any-gone (Syntax.tyEnum (List._∷_ 111 (List._∷_ 117 (List._∷_ 116 (List._∷_ 99 (List._∷_ 111 (List._∷_ 109 (List._∷_ 101 (List._∷_ 58 (List._∷_ 58 (List._∷_ 79 (List._∷_ 117 (List._∷_ 116 (List._∷_ 99 (List._∷_ 111 (List._∷_ 109 (List._∷_ 101 List.[])))))))))))))))) (Syntax.ttcons Syntax.tnil (Syntax.ttcons Syntax.tnil (Syntax.ttcons (Syntax.tcons (Syntax.tyInt Syntax.w64) (Syntax.tcons (Syntax.tyInt Syntax.w64) Syntax.tnil)) (Syntax.ttcons Syntax.tnil (Syntax.ttcons (Syntax.tcons (Syntax.tyInt Syntax.w16) Syntax.tnil) (Syntax.ttcons Syntax.tnil (Syntax.ttcons (Syntax.tcons (Syntax.tyInt Syntax.w64) Syntax.tnil) (Syntax.ttcons Syntax.tnil Syntax.ttnil)))))))))) (List._∷_ (9, Rows'.any-gone (Syntax.tyInt Syntax.w64)) (List._∷_ (10, Rows'.any-gone (Syntax.tyStruct (List._∷_ 115 (List._∷_ 113 (List._∷_ 108 (List._∷_ 99 (List._∷_ 97 (List._∷_ 114 (List._∷_ 100 (List._∷_ 58 (List._∷_ 58 (List._∷_ 83 (List._∷_ 113 (List._∷_ 108 (List._∷_ 67 (List._∷_ 97 (List._∷_ 114 (List._∷_ 100 List.[])))))))))))))))) (Syntax.tcons Syntax.tyBool (Syntax.tcons (Syntax.tyInt Syntax.w32) (Syntax.tcons (Syntax.tyArray (Syntax.tyInt Syntax.w8) 5) (Syntax.tcons (Syntax.tyArray (Syntax.tyInt Syntax.w8) 8) (Syntax.tcons (Syntax.tyInt Syntax.w8) (Syntax.tcons (Syntax.tyArray (Syntax.tyInt Syntax.w32) 6) (Syntax.tcons (Syntax.tyInt Syntax.w64) (Syntax.tcons (Syntax.tyInt Syntax.w32) (Syntax.tcons (Syntax.tyArray (Syntax.tyInt Syntax.w8) 11) (Syntax.tcons (Syntax.tyInt Syntax.w64) (Syntax.tcons (Syntax.tyInt Syntax.w64) Syntax.tnil))))))))))))) (List._∷_ (11, Rows'.any-gone (Syntax.tyStruct (List._∷_ 116 (List._∷_ 97 (List._∷_ 98 (List._∷_ 108 (List._∷_ 101 (List._∷_ 95 (List._∷_ 111 (List._∷_ 117 (List._∷_ 116 (List._∷_ 112 (List._∷_ 117 (List._∷_ 116 (List._∷_ 58 (List._∷_ 58 (List._∷_ 114 (List._∷_ 111 (List._∷_ 119 (List._∷_ 115 (List._∷_ 58 (List._∷_ 58 (List._∷_ 87 (List._∷_ 105 (List._∷_ 100 (List._∷_ 116 (List._∷_ 104 (List._∷_ 115 List.[])))))))))))))))))))))))))) (Syntax.tcons (Syntax.tyInt Syntax.w64) (Syntax.tcons (Syntax.tyInt Syntax.w64) (Syntax.tcons (Syntax.tyInt Syntax.w64) (Syntax.tcons (Syntax.tyInt Syntax.w64) Syntax.tnil)))))) (List._∷_ (12, Rows'.any-gone (Syntax.tyInt Syntax.w64)) (List._∷_ (13, Rows'.any-gone (Syntax.tyRef Syntax.erased Syntax.mut (Syntax.tyArray ColumnMetadataRow.named 4096))) (List._∷_ (14, Rows'.any-gone (Syntax.tyStruct (List._∷_ 38 (List._∷_ 91 (List._∷_ 93 List.[]))) (Syntax.tcons (Syntax.tyRef Syntax.erased Syntax.mut ColumnMetadataRow.named) (Syntax.tcons (Syntax.tyInt Syntax.w64) Syntax.tnil)))) (List._∷_ (15, Rows'.any-gone Syntax.tyBool) List.[])))))))))))))))
+t57 = List._∷_ (0, Rows'.sc-here (Row.sInt Syntax.w64)) (List._∷_ (1, Mut.mslice (Referent.rtF (Referent.fInt Syntax.w8)) (Syntax.tyRef (Syntax.named 0) Syntax.mut (Syntax.tyInt Syntax.w8)) 0) (List._∷_ (2, Rows'.sc-here (Row.sInt Syntax.w64)) (List._∷_ (3, Rows'.sslice (Referent.rtF (Referent.fInt Syntax.w8)) (Syntax.tyRef (Syntax.named 1) Syntax.imm (Syntax.tyInt Syntax.w8)) 1) (List._∷_ (4, Mut.mslice (Referent.rtF (Referent.fInt Syntax.w8)) (Syntax.tyRef (Syntax.named 2) Syntax.mut (Syntax.tyInt Syntax.w8)) 2) (List._∷_ (5, Rows'.any-gone (ColumnMetadataRow.ty)) (List._∷_ (6, Rows.arrF (ColumnMetadataRow.RT) 4096 0) (List._∷_ (7, Rows'.any-gone (Syntax.tyStruct (List._∷_ 115 (List._∷_ 113 (List._∷_ 108 (List._∷_ 100 (List._∷_ 97 (List._∷_ 114 (List._∷_ 100 (List._∷_ 58 (List._∷_ 58 (List._∷_ 83 (List._∷_ 113 (List._∷_ 108 (List._∷_ 100 (List._∷_ 97 (List._∷_ 114 (List._∷_ 100 (List._∷_ 65 (List._∷_ 110 (List._∷_ 115 (List._∷_ 119 (List._∷_ 101 (List._∷_ 114 List.[])))))))))))))))))))))) (Syntax.tcons (Syntax.tyEnum (List._∷_ 111 (List._∷_ 117 (List._∷_ 116 (List._∷_ 99 (List._∷_ 111 (List._∷_ 109 (List._∷_ 101 (List._∷_ 58 (List._∷_ 58 (List._∷_ 79 (List._∷_ 117 (List._∷_ 116 (List._∷_ 99 (List._∷_ 111 (List._∷_ 109 (List._∷_ 101 List.[])))))))))))))))) (Syntax.ttcons Syntax.tnil (Syntax.ttcons Syntax.tnil (Syntax.ttcons (Syntax.tcons (Syntax.tyInt Syntax.w64) (Syntax.tcons (Syntax.tyInt Syntax.w64) Syntax.tnil)) (Syntax.ttcons Syntax.tnil (Syntax.ttcons (Syntax.tcons (Syntax.tyInt Syntax.w16) Syntax.tnil) (Syntax.ttcons Syntax.tnil (Syntax.ttcons (Syntax.tcons (Syntax.tyInt Syntax.w64) Syntax.tnil) (Syntax.ttcons Syntax.tnil (Syntax.ttcons (Syntax.tcons (Syntax.tyInt Syntax.w16) Syntax.tnil) Syntax.ttnil)))))))))) (Syntax.tcons (Syntax.tyStruct (List._∷_ 115 (List._∷_ 113 (List._∷_ 108 (List._∷_ 99 (List._∷_ 97 (List._∷_ 114 (List._∷_ 100 (List._∷_ 58 (List._∷_ 58 (List._∷_ 83 (List._∷_ 113 (List._∷_ 108 (List._∷_ 67 (List._∷_ 97 (List._∷_ 114 (List._∷_ 100 List.[])))))))))))))))) (Syntax.tcons Syntax.tyBool (Syntax.tcons (Syntax.tyInt Syntax.w32) (Syntax.tcons (Syntax.tyArray (Syntax.tyInt Syntax.w8) 5) (Syntax.tcons (Syntax.tyArray (Syntax.tyInt Syntax.w8) 8) (Syntax.tcons (Syntax.tyInt Syntax.w8) (Syntax.tcons (Syntax.tyArray (Syntax.tyInt Syntax.w32) 6) (Syntax.tcons (Syntax.tyInt Syntax.w64) (Syntax.tcons (Syntax.tyInt Syntax.w32) (Syntax.tcons (Syntax.tyArray (Syntax.tyInt Syntax.w8) 11) (Syntax.tcons (Syntax.tyInt Syntax.w64) (Syntax.tcons (Syntax.tyInt Syntax.w64) Syntax.tnil)))))))))))) (Syntax.tcons (Syntax.tyInt Syntax.w64) Syntax.tnil))))) (List._∷_ (8, Rows'.any-gone (Syntax.tyEnum (List._∷_ 111 (List._∷_ 117 (List._∷_ 116 (List._∷_ 99 (List._∷_ 111 (List._∷_ 109 (List._∷_ 101 (List._∷_ 58 (List._∷_ 58 (List._∷_ 79 (List._∷_ 117 (List._∷_ 116 (List._∷_ 99 (List._∷_ 111 (List._∷_ 109 (List._∷_ 101 List.[])))))))))))))))) (Syntax.ttcons Syntax.tnil (Syntax.ttcons Syntax.tnil (Syntax.ttcons (Syntax.tcons (Syntax.tyInt Syntax.w64) (Syntax.tcons (Syntax.tyInt Syntax.w64) Syntax.tnil)) (Syntax.ttcons Syntax.tnil (Syntax.ttcons (Syntax.tcons (Syntax.tyInt Syntax.w16) Syntax.tnil) (Syntax.ttcons Syntax.tnil (Syntax.ttcons (Syntax.tcons (Syntax.tyInt Syntax.w64) Syntax.tnil) (Syntax.ttcons Syntax.tnil (Syntax.ttcons (Syntax.tcons (Syntax.tyInt Syntax.w16) Syntax.tnil) Syntax.ttnil))))))))))) (List._∷_ (9, Rows'.any-gone (Syntax.tyInt Syntax.w64)) (List._∷_ (10, Rows'.any-gone (Syntax.tyStruct (List._∷_ 115 (List._∷_ 113 (List._∷_ 108 (List._∷_ 99 (List._∷_ 97 (List._∷_ 114 (List._∷_ 100 (List._∷_ 58 (List._∷_ 58 (List._∷_ 83 (List._∷_ 113 (List._∷_ 108 (List._∷_ 67 (List._∷_ 97 (List._∷_ 114 (List._∷_ 100 List.[])))))))))))))))) (Syntax.tcons Syntax.tyBool (Syntax.tcons (Syntax.tyInt Syntax.w32) (Syntax.tcons (Syntax.tyArray (Syntax.tyInt Syntax.w8) 5) (Syntax.tcons (Syntax.tyArray (Syntax.tyInt Syntax.w8) 8) (Syntax.tcons (Syntax.tyInt Syntax.w8) (Syntax.tcons (Syntax.tyArray (Syntax.tyInt Syntax.w32) 6) (Syntax.tcons (Syntax.tyInt Syntax.w64) (Syntax.tcons (Syntax.tyInt Syntax.w32) (Syntax.tcons (Syntax.tyArray (Syntax.tyInt Syntax.w8) 11) (Syntax.tcons (Syntax.tyInt Syntax.w64) (Syntax.tcons (Syntax.tyInt Syntax.w64) Syntax.tnil))))))))))))) (List._∷_ (11, Rows'.any-gone (Syntax.tyStruct (List._∷_ 116 (List._∷_ 97 (List._∷_ 98 (List._∷_ 108 (List._∷_ 101 (List._∷_ 95 (List._∷_ 111 (List._∷_ 117 (List._∷_ 116 (List._∷_ 112 (List._∷_ 117 (List._∷_ 116 (List._∷_ 58 (List._∷_ 58 (List._∷_ 114 (List._∷_ 111 (List._∷_ 119 (List._∷_ 115 (List._∷_ 58 (List._∷_ 58 (List._∷_ 87 (List._∷_ 105 (List._∷_ 100 (List._∷_ 116 (List._∷_ 104 (List._∷_ 115 List.[])))))))))))))))))))))))))) (Syntax.tcons (Syntax.tyInt Syntax.w64) (Syntax.tcons (Syntax.tyInt Syntax.w64) (Syntax.tcons (Syntax.tyInt Syntax.w64) (Syntax.tcons (Syntax.tyInt Syntax.w64) Syntax.tnil)))))) (List._∷_ (12, Rows'.any-gone (Syntax.tyInt Syntax.w64)) (List._∷_ (13, Rows'.any-gone (Syntax.tyRef Syntax.erased Syntax.mut (Syntax.tyArray ColumnMetadataRow.named 4096))) (List._∷_ (14, Rows'.any-gone (Syntax.tyStruct (List._∷_ 38 (List._∷_ 91 (List._∷_ 93 List.[]))) (Syntax.tcons (Syntax.tyRef Syntax.erased Syntax.mut ColumnMetadataRow.named) (Syntax.tcons (Syntax.tyInt Syntax.w64) Syntax.tnil)))) (List._∷_ (15, Rows'.any-gone Syntax.tyBool) List.[])))))))))))))))
 
 abbrev pub T0 : Row.Cx
 T0 = record { locals = List._++_ t0 t1; slots = List.[] }
@@ -697,7 +697,7 @@ module _ (claims· : Claims) where
   s9 = λ bs. Relend.k-sl-aggregate (ColumnMetadataRow.RT) (Relend.asMut (ColumnMetadataRow.RT)) T10 13 14 3 (Syntax.tyRef Syntax.erased Syntax.mut (Syntax.tyArray ColumnMetadataRow.named 4096)) (Syntax.tyRef Syntax.erased Syntax.mut ColumnMetadataRow.named) (λ x. x) (Scalar.oBig Syntax.w64 4096)
 
   abbrev s10 : (bs : List.List Nat.ℕ) → Typed.Both T11 T12
-  s10 = λ bs. Call.callB ps·1 r·1 (claims· .2) (claims· .3) T11 (record { pos = 3; ty = Syntax.tyRef (Syntax.named 1) Syntax.imm (Syntax.tyInt Syntax.w8); ref = λ x. x }, (record { pos = 14; ty = Syntax.tyRef Syntax.erased Syntax.mut ColumnMetadataRow.named; ref = λ x. x }, tt)) 7 (List._∷_ 1 (List._∷_ 3 List.[])) (Syntax.tyStruct (List._∷_ 115 (List._∷_ 113 (List._∷_ 108 (List._∷_ 100 (List._∷_ 97 (List._∷_ 114 (List._∷_ 100 (List._∷_ 58 (List._∷_ 58 (List._∷_ 83 (List._∷_ 113 (List._∷_ 108 (List._∷_ 100 (List._∷_ 97 (List._∷_ 114 (List._∷_ 100 (List._∷_ 65 (List._∷_ 110 (List._∷_ 115 (List._∷_ 119 (List._∷_ 101 (List._∷_ 114 List.[])))))))))))))))))))))) (Syntax.tcons (Syntax.tyEnum (List._∷_ 111 (List._∷_ 117 (List._∷_ 116 (List._∷_ 99 (List._∷_ 111 (List._∷_ 109 (List._∷_ 101 (List._∷_ 58 (List._∷_ 58 (List._∷_ 79 (List._∷_ 117 (List._∷_ 116 (List._∷_ 99 (List._∷_ 111 (List._∷_ 109 (List._∷_ 101 List.[])))))))))))))))) (Syntax.ttcons Syntax.tnil (Syntax.ttcons Syntax.tnil (Syntax.ttcons (Syntax.tcons (Syntax.tyInt Syntax.w64) (Syntax.tcons (Syntax.tyInt Syntax.w64) Syntax.tnil)) (Syntax.ttcons Syntax.tnil (Syntax.ttcons (Syntax.tcons (Syntax.tyInt Syntax.w16) Syntax.tnil) (Syntax.ttcons Syntax.tnil (Syntax.ttcons (Syntax.tcons (Syntax.tyInt Syntax.w64) Syntax.tnil) (Syntax.ttcons Syntax.tnil Syntax.ttnil))))))))) (Syntax.tcons (Syntax.tyStruct (List._∷_ 115 (List._∷_ 113 (List._∷_ 108 (List._∷_ 99 (List._∷_ 97 (List._∷_ 114 (List._∷_ 100 (List._∷_ 58 (List._∷_ 58 (List._∷_ 83 (List._∷_ 113 (List._∷_ 108 (List._∷_ 67 (List._∷_ 97 (List._∷_ 114 (List._∷_ 100 List.[])))))))))))))))) (Syntax.tcons Syntax.tyBool (Syntax.tcons (Syntax.tyInt Syntax.w32) (Syntax.tcons (Syntax.tyArray (Syntax.tyInt Syntax.w8) 5) (Syntax.tcons (Syntax.tyArray (Syntax.tyInt Syntax.w8) 8) (Syntax.tcons (Syntax.tyInt Syntax.w8) (Syntax.tcons (Syntax.tyArray (Syntax.tyInt Syntax.w32) 6) (Syntax.tcons (Syntax.tyInt Syntax.w64) (Syntax.tcons (Syntax.tyInt Syntax.w32) (Syntax.tcons (Syntax.tyArray (Syntax.tyInt Syntax.w8) 11) (Syntax.tcons (Syntax.tyInt Syntax.w64) (Syntax.tcons (Syntax.tyInt Syntax.w64) Syntax.tnil)))))))))))) (Syntax.tcons (Syntax.tyInt Syntax.w64) Syntax.tnil))))
+  s10 = λ bs. Call.callB ps·1 r·1 (claims· .2) (claims· .3) T11 (record { pos = 3; ty = Syntax.tyRef (Syntax.named 1) Syntax.imm (Syntax.tyInt Syntax.w8); ref = λ x. x }, (record { pos = 14; ty = Syntax.tyRef Syntax.erased Syntax.mut ColumnMetadataRow.named; ref = λ x. x }, tt)) 7 (List._∷_ 1 (List._∷_ 3 List.[])) (Syntax.tyStruct (List._∷_ 115 (List._∷_ 113 (List._∷_ 108 (List._∷_ 100 (List._∷_ 97 (List._∷_ 114 (List._∷_ 100 (List._∷_ 58 (List._∷_ 58 (List._∷_ 83 (List._∷_ 113 (List._∷_ 108 (List._∷_ 100 (List._∷_ 97 (List._∷_ 114 (List._∷_ 100 (List._∷_ 65 (List._∷_ 110 (List._∷_ 115 (List._∷_ 119 (List._∷_ 101 (List._∷_ 114 List.[])))))))))))))))))))))) (Syntax.tcons (Syntax.tyEnum (List._∷_ 111 (List._∷_ 117 (List._∷_ 116 (List._∷_ 99 (List._∷_ 111 (List._∷_ 109 (List._∷_ 101 (List._∷_ 58 (List._∷_ 58 (List._∷_ 79 (List._∷_ 117 (List._∷_ 116 (List._∷_ 99 (List._∷_ 111 (List._∷_ 109 (List._∷_ 101 List.[])))))))))))))))) (Syntax.ttcons Syntax.tnil (Syntax.ttcons Syntax.tnil (Syntax.ttcons (Syntax.tcons (Syntax.tyInt Syntax.w64) (Syntax.tcons (Syntax.tyInt Syntax.w64) Syntax.tnil)) (Syntax.ttcons Syntax.tnil (Syntax.ttcons (Syntax.tcons (Syntax.tyInt Syntax.w16) Syntax.tnil) (Syntax.ttcons Syntax.tnil (Syntax.ttcons (Syntax.tcons (Syntax.tyInt Syntax.w64) Syntax.tnil) (Syntax.ttcons Syntax.tnil (Syntax.ttcons (Syntax.tcons (Syntax.tyInt Syntax.w16) Syntax.tnil) Syntax.ttnil)))))))))) (Syntax.tcons (Syntax.tyStruct (List._∷_ 115 (List._∷_ 113 (List._∷_ 108 (List._∷_ 99 (List._∷_ 97 (List._∷_ 114 (List._∷_ 100 (List._∷_ 58 (List._∷_ 58 (List._∷_ 83 (List._∷_ 113 (List._∷_ 108 (List._∷_ 67 (List._∷_ 97 (List._∷_ 114 (List._∷_ 100 List.[])))))))))))))))) (Syntax.tcons Syntax.tyBool (Syntax.tcons (Syntax.tyInt Syntax.w32) (Syntax.tcons (Syntax.tyArray (Syntax.tyInt Syntax.w8) 5) (Syntax.tcons (Syntax.tyArray (Syntax.tyInt Syntax.w8) 8) (Syntax.tcons (Syntax.tyInt Syntax.w8) (Syntax.tcons (Syntax.tyArray (Syntax.tyInt Syntax.w32) 6) (Syntax.tcons (Syntax.tyInt Syntax.w64) (Syntax.tcons (Syntax.tyInt Syntax.w32) (Syntax.tcons (Syntax.tyArray (Syntax.tyInt Syntax.w8) 11) (Syntax.tcons (Syntax.tyInt Syntax.w64) (Syntax.tcons (Syntax.tyInt Syntax.w64) Syntax.tnil)))))))))))) (Syntax.tcons (Syntax.tyInt Syntax.w64) Syntax.tnil))))
 
   abbrev s12 : (bs : List.List Nat.ℕ) → Typed.Both T12 T14
   s12 = λ bs. Borrow.k-back-arr (ColumnMetadataRow.RT) T12 14 6 3 4096 (Syntax.tyRef Syntax.erased Syntax.mut ColumnMetadataRow.named) (λ x. x) λ x. x
@@ -712,7 +712,7 @@ module _ (claims· : Claims) where
   s16 = λ bs. Scalar.n-room T17 6 (Syntax.tyArray (ColumnMetadataRow.ty) 4096)
 
   abbrev s17 : (bs : List.List Nat.ℕ) → Typed.Mo T19 → Typed.Mo T20
-  s17 = λ bs. Scalar.n-room T19 7 (Syntax.tyStruct (List._∷_ 115 (List._∷_ 113 (List._∷_ 108 (List._∷_ 100 (List._∷_ 97 (List._∷_ 114 (List._∷_ 100 (List._∷_ 58 (List._∷_ 58 (List._∷_ 83 (List._∷_ 113 (List._∷_ 108 (List._∷_ 100 (List._∷_ 97 (List._∷_ 114 (List._∷_ 100 (List._∷_ 65 (List._∷_ 110 (List._∷_ 115 (List._∷_ 119 (List._∷_ 101 (List._∷_ 114 List.[])))))))))))))))))))))) (Syntax.tcons (Syntax.tyEnum (List._∷_ 111 (List._∷_ 117 (List._∷_ 116 (List._∷_ 99 (List._∷_ 111 (List._∷_ 109 (List._∷_ 101 (List._∷_ 58 (List._∷_ 58 (List._∷_ 79 (List._∷_ 117 (List._∷_ 116 (List._∷_ 99 (List._∷_ 111 (List._∷_ 109 (List._∷_ 101 List.[])))))))))))))))) (Syntax.ttcons Syntax.tnil (Syntax.ttcons Syntax.tnil (Syntax.ttcons (Syntax.tcons (Syntax.tyInt Syntax.w64) (Syntax.tcons (Syntax.tyInt Syntax.w64) Syntax.tnil)) (Syntax.ttcons Syntax.tnil (Syntax.ttcons (Syntax.tcons (Syntax.tyInt Syntax.w16) Syntax.tnil) (Syntax.ttcons Syntax.tnil (Syntax.ttcons (Syntax.tcons (Syntax.tyInt Syntax.w64) Syntax.tnil) (Syntax.ttcons Syntax.tnil Syntax.ttnil))))))))) (Syntax.tcons (Syntax.tyStruct (List._∷_ 115 (List._∷_ 113 (List._∷_ 108 (List._∷_ 99 (List._∷_ 97 (List._∷_ 114 (List._∷_ 100 (List._∷_ 58 (List._∷_ 58 (List._∷_ 83 (List._∷_ 113 (List._∷_ 108 (List._∷_ 67 (List._∷_ 97 (List._∷_ 114 (List._∷_ 100 List.[])))))))))))))))) (Syntax.tcons Syntax.tyBool (Syntax.tcons (Syntax.tyInt Syntax.w32) (Syntax.tcons (Syntax.tyArray (Syntax.tyInt Syntax.w8) 5) (Syntax.tcons (Syntax.tyArray (Syntax.tyInt Syntax.w8) 8) (Syntax.tcons (Syntax.tyInt Syntax.w8) (Syntax.tcons (Syntax.tyArray (Syntax.tyInt Syntax.w32) 6) (Syntax.tcons (Syntax.tyInt Syntax.w64) (Syntax.tcons (Syntax.tyInt Syntax.w32) (Syntax.tcons (Syntax.tyArray (Syntax.tyInt Syntax.w8) 11) (Syntax.tcons (Syntax.tyInt Syntax.w64) (Syntax.tcons (Syntax.tyInt Syntax.w64) Syntax.tnil)))))))))))) (Syntax.tcons (Syntax.tyInt Syntax.w64) Syntax.tnil))))
+  s17 = λ bs. Scalar.n-room T19 7 (Syntax.tyStruct (List._∷_ 115 (List._∷_ 113 (List._∷_ 108 (List._∷_ 100 (List._∷_ 97 (List._∷_ 114 (List._∷_ 100 (List._∷_ 58 (List._∷_ 58 (List._∷_ 83 (List._∷_ 113 (List._∷_ 108 (List._∷_ 100 (List._∷_ 97 (List._∷_ 114 (List._∷_ 100 (List._∷_ 65 (List._∷_ 110 (List._∷_ 115 (List._∷_ 119 (List._∷_ 101 (List._∷_ 114 List.[])))))))))))))))))))))) (Syntax.tcons (Syntax.tyEnum (List._∷_ 111 (List._∷_ 117 (List._∷_ 116 (List._∷_ 99 (List._∷_ 111 (List._∷_ 109 (List._∷_ 101 (List._∷_ 58 (List._∷_ 58 (List._∷_ 79 (List._∷_ 117 (List._∷_ 116 (List._∷_ 99 (List._∷_ 111 (List._∷_ 109 (List._∷_ 101 List.[])))))))))))))))) (Syntax.ttcons Syntax.tnil (Syntax.ttcons Syntax.tnil (Syntax.ttcons (Syntax.tcons (Syntax.tyInt Syntax.w64) (Syntax.tcons (Syntax.tyInt Syntax.w64) Syntax.tnil)) (Syntax.ttcons Syntax.tnil (Syntax.ttcons (Syntax.tcons (Syntax.tyInt Syntax.w16) Syntax.tnil) (Syntax.ttcons Syntax.tnil (Syntax.ttcons (Syntax.tcons (Syntax.tyInt Syntax.w64) Syntax.tnil) (Syntax.ttcons Syntax.tnil (Syntax.ttcons (Syntax.tcons (Syntax.tyInt Syntax.w16) Syntax.tnil) Syntax.ttnil)))))))))) (Syntax.tcons (Syntax.tyStruct (List._∷_ 115 (List._∷_ 113 (List._∷_ 108 (List._∷_ 99 (List._∷_ 97 (List._∷_ 114 (List._∷_ 100 (List._∷_ 58 (List._∷_ 58 (List._∷_ 83 (List._∷_ 113 (List._∷_ 108 (List._∷_ 67 (List._∷_ 97 (List._∷_ 114 (List._∷_ 100 List.[])))))))))))))))) (Syntax.tcons Syntax.tyBool (Syntax.tcons (Syntax.tyInt Syntax.w32) (Syntax.tcons (Syntax.tyArray (Syntax.tyInt Syntax.w8) 5) (Syntax.tcons (Syntax.tyArray (Syntax.tyInt Syntax.w8) 8) (Syntax.tcons (Syntax.tyInt Syntax.w8) (Syntax.tcons (Syntax.tyArray (Syntax.tyInt Syntax.w32) 6) (Syntax.tcons (Syntax.tyInt Syntax.w64) (Syntax.tcons (Syntax.tyInt Syntax.w32) (Syntax.tcons (Syntax.tyArray (Syntax.tyInt Syntax.w8) 11) (Syntax.tcons (Syntax.tyInt Syntax.w64) (Syntax.tcons (Syntax.tyInt Syntax.w64) Syntax.tnil)))))))))))) (Syntax.tcons (Syntax.tyInt Syntax.w64) Syntax.tnil))))
 
   abbrev s18 : (bs : List.List Nat.ℕ) → Typed.Mo T20 → Typed.Mo T21
   s18 = λ bs. Scalar.n-room T20 15 Syntax.tyBool
@@ -727,7 +727,7 @@ module _ (claims· : Claims) where
   s22 = λ bs. Call.callB ps·3 r·3 (claims· .6) (claims· .7) T24 (record { pos = 17; ty = Syntax.tyRef Syntax.erased Syntax.mut (Syntax.tyInt Syntax.w8); ref = λ x. x }, (Num.vAt 2 λ x. x, (record { pos = 8; st = List.[]; d = 0; at = λ x. x }, tt))) 0 (List._∷_ 4 List.[]) (Syntax.tyInt Syntax.w64)
 
   abbrev s23 : (bs : List.List Nat.ℕ) → Typed.Mo T25 → Typed.Mo T26
-  s23 = λ bs. Scalar.n-room T25 8 (Syntax.tyEnum (List._∷_ 111 (List._∷_ 117 (List._∷_ 116 (List._∷_ 99 (List._∷_ 111 (List._∷_ 109 (List._∷_ 101 (List._∷_ 58 (List._∷_ 58 (List._∷_ 79 (List._∷_ 117 (List._∷_ 116 (List._∷_ 99 (List._∷_ 111 (List._∷_ 109 (List._∷_ 101 List.[])))))))))))))))) (Syntax.ttcons Syntax.tnil (Syntax.ttcons Syntax.tnil (Syntax.ttcons (Syntax.tcons (Syntax.tyInt Syntax.w64) (Syntax.tcons (Syntax.tyInt Syntax.w64) Syntax.tnil)) (Syntax.ttcons Syntax.tnil (Syntax.ttcons (Syntax.tcons (Syntax.tyInt Syntax.w16) Syntax.tnil) (Syntax.ttcons Syntax.tnil (Syntax.ttcons (Syntax.tcons (Syntax.tyInt Syntax.w64) Syntax.tnil) (Syntax.ttcons Syntax.tnil Syntax.ttnil)))))))))
+  s23 = λ bs. Scalar.n-room T25 8 (Syntax.tyEnum (List._∷_ 111 (List._∷_ 117 (List._∷_ 116 (List._∷_ 99 (List._∷_ 111 (List._∷_ 109 (List._∷_ 101 (List._∷_ 58 (List._∷_ 58 (List._∷_ 79 (List._∷_ 117 (List._∷_ 116 (List._∷_ 99 (List._∷_ 111 (List._∷_ 109 (List._∷_ 101 List.[])))))))))))))))) (Syntax.ttcons Syntax.tnil (Syntax.ttcons Syntax.tnil (Syntax.ttcons (Syntax.tcons (Syntax.tyInt Syntax.w64) (Syntax.tcons (Syntax.tyInt Syntax.w64) Syntax.tnil)) (Syntax.ttcons Syntax.tnil (Syntax.ttcons (Syntax.tcons (Syntax.tyInt Syntax.w16) Syntax.tnil) (Syntax.ttcons Syntax.tnil (Syntax.ttcons (Syntax.tcons (Syntax.tyInt Syntax.w64) Syntax.tnil) (Syntax.ttcons Syntax.tnil (Syntax.ttcons (Syntax.tcons (Syntax.tyInt Syntax.w16) Syntax.tnil) Syntax.ttnil))))))))))
 
   abbrev s25 : (bs : List.List Nat.ℕ) → Typed.Both T26 T28
   s25 = λ bs. Relend.k-back-sl (Referent.rtF (Referent.fInt Syntax.w8)) T26 17 1 0 4 (Syntax.tyRef (Syntax.named 0) Syntax.mut (Syntax.tyInt Syntax.w8)) (Syntax.tyRef Syntax.erased Syntax.mut (Syntax.tyInt Syntax.w8)) Row.off (λ x. x) λ x. x
@@ -739,7 +739,7 @@ module _ (claims· : Claims) where
   s28 = λ bs. Scalar.n-room T29 2 (Syntax.tyInt Syntax.w64)
 
   abbrev s29 : (bs : List.List Nat.ℕ) → Typed.Mo T17 → Typed.Mo T32
-  s29 = λ bs. Scalar.n-room T17 8 (Syntax.tyEnum (List._∷_ 111 (List._∷_ 117 (List._∷_ 116 (List._∷_ 99 (List._∷_ 111 (List._∷_ 109 (List._∷_ 101 (List._∷_ 58 (List._∷_ 58 (List._∷_ 79 (List._∷_ 117 (List._∷_ 116 (List._∷_ 99 (List._∷_ 111 (List._∷_ 109 (List._∷_ 101 List.[])))))))))))))))) (Syntax.ttcons Syntax.tnil (Syntax.ttcons Syntax.tnil (Syntax.ttcons (Syntax.tcons (Syntax.tyInt Syntax.w64) (Syntax.tcons (Syntax.tyInt Syntax.w64) Syntax.tnil)) (Syntax.ttcons Syntax.tnil (Syntax.ttcons (Syntax.tcons (Syntax.tyInt Syntax.w16) Syntax.tnil) (Syntax.ttcons Syntax.tnil (Syntax.ttcons (Syntax.tcons (Syntax.tyInt Syntax.w64) Syntax.tnil) (Syntax.ttcons Syntax.tnil Syntax.ttnil)))))))))
+  s29 = λ bs. Scalar.n-room T17 8 (Syntax.tyEnum (List._∷_ 111 (List._∷_ 117 (List._∷_ 116 (List._∷_ 99 (List._∷_ 111 (List._∷_ 109 (List._∷_ 101 (List._∷_ 58 (List._∷_ 58 (List._∷_ 79 (List._∷_ 117 (List._∷_ 116 (List._∷_ 99 (List._∷_ 111 (List._∷_ 109 (List._∷_ 101 List.[])))))))))))))))) (Syntax.ttcons Syntax.tnil (Syntax.ttcons Syntax.tnil (Syntax.ttcons (Syntax.tcons (Syntax.tyInt Syntax.w64) (Syntax.tcons (Syntax.tyInt Syntax.w64) Syntax.tnil)) (Syntax.ttcons Syntax.tnil (Syntax.ttcons (Syntax.tcons (Syntax.tyInt Syntax.w16) Syntax.tnil) (Syntax.ttcons Syntax.tnil (Syntax.ttcons (Syntax.tcons (Syntax.tyInt Syntax.w64) Syntax.tnil) (Syntax.ttcons Syntax.tnil (Syntax.ttcons (Syntax.tcons (Syntax.tyInt Syntax.w16) Syntax.tnil) Syntax.ttnil))))))))))
 
   abbrev s30 : (bs : List.List Nat.ℕ) → Typed.Mo T32 → Typed.Mo T33
   s30 = λ bs. Scalar.n-room T32 15 Syntax.tyBool
@@ -751,7 +751,7 @@ module _ (claims· : Claims) where
   s32 = λ bs. WayStmt.k-way-copy-out T34 (Row.out 7 (T34 .locals)) (λ u. Row.drop 7 (T34 .locals) u) 10 (Rows'.whole (Declared'.row SqlCard.the-type)) (λ u. At.getAt (SqldardAnswer.the-type .parts) 1 (SqldardAnswer.struct .as-values (u .1 .1 .1 .1 .1 .1 .1 .0))) (λ T′. record { locals = Row.setRow 7 (7, Rows'.whole (Declared'.row SqldardAnswer.the-type)) T′; slots = List.[] }) (λ u T′ m′. Row.set 7 (7, Rows'.whole (Declared'.row SqldardAnswer.the-type)) (u .1 .1 .1 .1 .1 .1 .1 .0) T′ m′) (λ u. Unit) λ u. Unit
 
   abbrev s33 : (bs : List.List Nat.ℕ) → Typed.Mo T35 → Typed.Mo T36
-  s33 = λ bs. Scalar.n-room T35 7 (Syntax.tyStruct (List._∷_ 115 (List._∷_ 113 (List._∷_ 108 (List._∷_ 100 (List._∷_ 97 (List._∷_ 114 (List._∷_ 100 (List._∷_ 58 (List._∷_ 58 (List._∷_ 83 (List._∷_ 113 (List._∷_ 108 (List._∷_ 100 (List._∷_ 97 (List._∷_ 114 (List._∷_ 100 (List._∷_ 65 (List._∷_ 110 (List._∷_ 115 (List._∷_ 119 (List._∷_ 101 (List._∷_ 114 List.[])))))))))))))))))))))) (Syntax.tcons (Syntax.tyEnum (List._∷_ 111 (List._∷_ 117 (List._∷_ 116 (List._∷_ 99 (List._∷_ 111 (List._∷_ 109 (List._∷_ 101 (List._∷_ 58 (List._∷_ 58 (List._∷_ 79 (List._∷_ 117 (List._∷_ 116 (List._∷_ 99 (List._∷_ 111 (List._∷_ 109 (List._∷_ 101 List.[])))))))))))))))) (Syntax.ttcons Syntax.tnil (Syntax.ttcons Syntax.tnil (Syntax.ttcons (Syntax.tcons (Syntax.tyInt Syntax.w64) (Syntax.tcons (Syntax.tyInt Syntax.w64) Syntax.tnil)) (Syntax.ttcons Syntax.tnil (Syntax.ttcons (Syntax.tcons (Syntax.tyInt Syntax.w16) Syntax.tnil) (Syntax.ttcons Syntax.tnil (Syntax.ttcons (Syntax.tcons (Syntax.tyInt Syntax.w64) Syntax.tnil) (Syntax.ttcons Syntax.tnil Syntax.ttnil))))))))) (Syntax.tcons (Syntax.tyStruct (List._∷_ 115 (List._∷_ 113 (List._∷_ 108 (List._∷_ 99 (List._∷_ 97 (List._∷_ 114 (List._∷_ 100 (List._∷_ 58 (List._∷_ 58 (List._∷_ 83 (List._∷_ 113 (List._∷_ 108 (List._∷_ 67 (List._∷_ 97 (List._∷_ 114 (List._∷_ 100 List.[])))))))))))))))) (Syntax.tcons Syntax.tyBool (Syntax.tcons (Syntax.tyInt Syntax.w32) (Syntax.tcons (Syntax.tyArray (Syntax.tyInt Syntax.w8) 5) (Syntax.tcons (Syntax.tyArray (Syntax.tyInt Syntax.w8) 8) (Syntax.tcons (Syntax.tyInt Syntax.w8) (Syntax.tcons (Syntax.tyArray (Syntax.tyInt Syntax.w32) 6) (Syntax.tcons (Syntax.tyInt Syntax.w64) (Syntax.tcons (Syntax.tyInt Syntax.w32) (Syntax.tcons (Syntax.tyArray (Syntax.tyInt Syntax.w8) 11) (Syntax.tcons (Syntax.tyInt Syntax.w64) (Syntax.tcons (Syntax.tyInt Syntax.w64) Syntax.tnil)))))))))))) (Syntax.tcons (Syntax.tyInt Syntax.w64) Syntax.tnil))))
+  s33 = λ bs. Scalar.n-room T35 7 (Syntax.tyStruct (List._∷_ 115 (List._∷_ 113 (List._∷_ 108 (List._∷_ 100 (List._∷_ 97 (List._∷_ 114 (List._∷_ 100 (List._∷_ 58 (List._∷_ 58 (List._∷_ 83 (List._∷_ 113 (List._∷_ 108 (List._∷_ 100 (List._∷_ 97 (List._∷_ 114 (List._∷_ 100 (List._∷_ 65 (List._∷_ 110 (List._∷_ 115 (List._∷_ 119 (List._∷_ 101 (List._∷_ 114 List.[])))))))))))))))))))))) (Syntax.tcons (Syntax.tyEnum (List._∷_ 111 (List._∷_ 117 (List._∷_ 116 (List._∷_ 99 (List._∷_ 111 (List._∷_ 109 (List._∷_ 101 (List._∷_ 58 (List._∷_ 58 (List._∷_ 79 (List._∷_ 117 (List._∷_ 116 (List._∷_ 99 (List._∷_ 111 (List._∷_ 109 (List._∷_ 101 List.[])))))))))))))))) (Syntax.ttcons Syntax.tnil (Syntax.ttcons Syntax.tnil (Syntax.ttcons (Syntax.tcons (Syntax.tyInt Syntax.w64) (Syntax.tcons (Syntax.tyInt Syntax.w64) Syntax.tnil)) (Syntax.ttcons Syntax.tnil (Syntax.ttcons (Syntax.tcons (Syntax.tyInt Syntax.w16) Syntax.tnil) (Syntax.ttcons Syntax.tnil (Syntax.ttcons (Syntax.tcons (Syntax.tyInt Syntax.w64) Syntax.tnil) (Syntax.ttcons Syntax.tnil (Syntax.ttcons (Syntax.tcons (Syntax.tyInt Syntax.w16) Syntax.tnil) Syntax.ttnil)))))))))) (Syntax.tcons (Syntax.tyStruct (List._∷_ 115 (List._∷_ 113 (List._∷_ 108 (List._∷_ 99 (List._∷_ 97 (List._∷_ 114 (List._∷_ 100 (List._∷_ 58 (List._∷_ 58 (List._∷_ 83 (List._∷_ 113 (List._∷_ 108 (List._∷_ 67 (List._∷_ 97 (List._∷_ 114 (List._∷_ 100 List.[])))))))))))))))) (Syntax.tcons Syntax.tyBool (Syntax.tcons (Syntax.tyInt Syntax.w32) (Syntax.tcons (Syntax.tyArray (Syntax.tyInt Syntax.w8) 5) (Syntax.tcons (Syntax.tyArray (Syntax.tyInt Syntax.w8) 8) (Syntax.tcons (Syntax.tyInt Syntax.w8) (Syntax.tcons (Syntax.tyArray (Syntax.tyInt Syntax.w32) 6) (Syntax.tcons (Syntax.tyInt Syntax.w64) (Syntax.tcons (Syntax.tyInt Syntax.w32) (Syntax.tcons (Syntax.tyArray (Syntax.tyInt Syntax.w8) 11) (Syntax.tcons (Syntax.tyInt Syntax.w64) (Syntax.tcons (Syntax.tyInt Syntax.w64) Syntax.tnil)))))))))))) (Syntax.tcons (Syntax.tyInt Syntax.w64) Syntax.tnil))))
 
   abbrev s35 : (bs : List.List Nat.ℕ) → Typed.Both T36 T38
   s35 = λ bs. Share.k-arr-shareᵖ (ColumnMetadataRow.RT) T36 6 18 4096 5 (Syntax.tyRef Syntax.erased Syntax.imm (Syntax.tyArray ColumnMetadataRow.named 4096)) (λ x. x) λ u. u .1 .1 .1 .1 .1 .1 .1 .1 .1 .0
@@ -1104,46 +1104,46 @@ module _ (claims· : Claims) where
 
       module _ (κs : Lifetimes.Lfts 3) (qs : Lifetimes.Shares 3) where
         abbrev g16 : List.List Row.Entry
-        g16 = List._∷_ (0, Rows'.any-gone (Syntax.tyInt Syntax.w64)) (List._∷_ (1, Relend.mslice-owed (Referent.rtF (Referent.fInt Syntax.w8)) (Syntax.tyRef (Syntax.named 0) Syntax.mut (Syntax.tyInt Syntax.w8)) 0 4 (Row.lease (κs .0) (qs .0))) (List._∷_ (2, Rows'.sc-here (Row.sInt Syntax.w64)) (List._∷_ (3, Rows'.sslice (Referent.rtF (Referent.fInt Syntax.w8)) (Syntax.tyRef (Syntax.named 1) Syntax.imm (Syntax.tyInt Syntax.w8)) 1) (List._∷_ (4, Mut.mslice (Referent.rtF (Referent.fInt Syntax.w8)) (Syntax.tyRef (Syntax.named 2) Syntax.mut (Syntax.tyInt Syntax.w8)) 2) (List._∷_ (5, Rows'.any-gone (ColumnMetadataRow.ty)) (List._∷_ (6, Rows'.any-gone (Syntax.tyArray (ColumnMetadataRow.ty) 4096)) (List._∷_ (7, Rows'.any-gone (Syntax.tyStruct (List._∷_ 115 (List._∷_ 113 (List._∷_ 108 (List._∷_ 100 (List._∷_ 97 (List._∷_ 114 (List._∷_ 100 (List._∷_ 58 (List._∷_ 58 (List._∷_ 83 (List._∷_ 113 (List._∷_ 108 (List._∷_ 100 (List._∷_ 97 (List._∷_ 114 (List._∷_ 100 (List._∷_ 65 (List._∷_ 110 (List._∷_ 115 (List._∷_ 119 (List._∷_ 101 (List._∷_ 114 List.[])))))))))))))))))))))) (Syntax.tcons (Syntax.tyEnum (List._∷_ 111 (List._∷_ 117 (List._∷_ 116 (List._∷_ 99 (List._∷_ 111 (List._∷_ 109 (List._∷_ 101 (List._∷_ 58 (List._∷_ 58 (List._∷_ 79 (List._∷_ 117 (List._∷_ 116 (List._∷_ 99 (List._∷_ 111 (List._∷_ 109 (List._∷_ 101 List.[])))))))))))))))) (Syntax.ttcons Syntax.tnil (Syntax.ttcons Syntax.tnil (Syntax.ttcons (Syntax.tcons (Syntax.tyInt Syntax.w64) (Syntax.tcons (Syntax.tyInt Syntax.w64) Syntax.tnil)) (Syntax.ttcons Syntax.tnil (Syntax.ttcons (Syntax.tcons (Syntax.tyInt Syntax.w16) Syntax.tnil) (Syntax.ttcons Syntax.tnil (Syntax.ttcons (Syntax.tcons (Syntax.tyInt Syntax.w64) Syntax.tnil) (Syntax.ttcons Syntax.tnil Syntax.ttnil))))))))) (Syntax.tcons (Syntax.tyStruct (List._∷_ 115 (List._∷_ 113 (List._∷_ 108 (List._∷_ 99 (List._∷_ 97 (List._∷_ 114 (List._∷_ 100 (List._∷_ 58 (List._∷_ 58 (List._∷_ 83 (List._∷_ 113 (List._∷_ 108 (List._∷_ 67 (List._∷_ 97 (List._∷_ 114 (List._∷_ 100 List.[])))))))))))))))) (Syntax.tcons Syntax.tyBool (Syntax.tcons (Syntax.tyInt Syntax.w32) (Syntax.tcons (Syntax.tyArray (Syntax.tyInt Syntax.w8) 5) (Syntax.tcons (Syntax.tyArray (Syntax.tyInt Syntax.w8) 8) (Syntax.tcons (Syntax.tyInt Syntax.w8) (Syntax.tcons (Syntax.tyArray (Syntax.tyInt Syntax.w32) 6) (Syntax.tcons (Syntax.tyInt Syntax.w64) (Syntax.tcons (Syntax.tyInt Syntax.w32) (Syntax.tcons (Syntax.tyArray (Syntax.tyInt Syntax.w8) 11) (Syntax.tcons (Syntax.tyInt Syntax.w64) (Syntax.tcons (Syntax.tyInt Syntax.w64) Syntax.tnil)))))))))))) (Syntax.tcons (Syntax.tyInt Syntax.w64) Syntax.tnil))))) (List._∷_ (8, Rows'.whole (Declared.row Outcome.the-type)) (List._∷_ (9, Rows'.any-gone (Syntax.tyInt Syntax.w64)) (List._∷_ (10, Rows'.any-gone (Syntax.tyStruct (List._∷_ 115 (List._∷_ 113 (List._∷_ 108 (List._∷_ 99 (List._∷_ 97 (List._∷_ 114 (List._∷_ 100 (List._∷_ 58 (List._∷_ 58 (List._∷_ 83 (List._∷_ 113 (List._∷_ 108 (List._∷_ 67 (List._∷_ 97 (List._∷_ 114 (List._∷_ 100 List.[])))))))))))))))) (Syntax.tcons Syntax.tyBool (Syntax.tcons (Syntax.tyInt Syntax.w32) (Syntax.tcons (Syntax.tyArray (Syntax.tyInt Syntax.w8) 5) (Syntax.tcons (Syntax.tyArray (Syntax.tyInt Syntax.w8) 8) (Syntax.tcons (Syntax.tyInt Syntax.w8) (Syntax.tcons (Syntax.tyArray (Syntax.tyInt Syntax.w32) 6) (Syntax.tcons (Syntax.tyInt Syntax.w64) (Syntax.tcons (Syntax.tyInt Syntax.w32) (Syntax.tcons (Syntax.tyArray (Syntax.tyInt Syntax.w8) 11) (Syntax.tcons (Syntax.tyInt Syntax.w64) (Syntax.tcons (Syntax.tyInt Syntax.w64) Syntax.tnil))))))))))))) (List._∷_ (11, Rows'.any-gone (Syntax.tyStruct (List._∷_ 116 (List._∷_ 97 (List._∷_ 98 (List._∷_ 108 (List._∷_ 101 (List._∷_ 95 (List._∷_ 111 (List._∷_ 117 (List._∷_ 116 (List._∷_ 112 (List._∷_ 117 (List._∷_ 116 (List._∷_ 58 (List._∷_ 58 (List._∷_ 114 (List._∷_ 111 (List._∷_ 119 (List._∷_ 115 (List._∷_ 58 (List._∷_ 58 (List._∷_ 87 (List._∷_ 105 (List._∷_ 100 (List._∷_ 116 (List._∷_ 104 (List._∷_ 115 List.[])))))))))))))))))))))))))) (Syntax.tcons (Syntax.tyInt Syntax.w64) (Syntax.tcons (Syntax.tyInt Syntax.w64) (Syntax.tcons (Syntax.tyInt Syntax.w64) (Syntax.tcons (Syntax.tyInt Syntax.w64) Syntax.tnil)))))) (List._∷_ (12, Rows'.any-gone (Syntax.tyInt Syntax.w64)) (List._∷_ (13, Rows'.any-gone (Syntax.tyRef Syntax.erased Syntax.mut (Syntax.tyArray ColumnMetadataRow.named 4096))) (List._∷_ (14, Rows'.any-gone (Syntax.tyStruct (List._∷_ 38 (List._∷_ 91 (List._∷_ 93 List.[]))) (Syntax.tcons (Syntax.tyRef Syntax.erased Syntax.mut ColumnMetadataRow.named) (Syntax.tcons (Syntax.tyInt Syntax.w64) Syntax.tnil)))) (List._∷_ (15, Rows'.any-gone Syntax.tyBool) List.[])))))))))))))))
+        g16 = List._∷_ (0, Rows'.any-gone (Syntax.tyInt Syntax.w64)) (List._∷_ (1, Relend.mslice-owed (Referent.rtF (Referent.fInt Syntax.w8)) (Syntax.tyRef (Syntax.named 0) Syntax.mut (Syntax.tyInt Syntax.w8)) 0 4 (Row.lease (κs .0) (qs .0))) (List._∷_ (2, Rows'.sc-here (Row.sInt Syntax.w64)) (List._∷_ (3, Rows'.sslice (Referent.rtF (Referent.fInt Syntax.w8)) (Syntax.tyRef (Syntax.named 1) Syntax.imm (Syntax.tyInt Syntax.w8)) 1) (List._∷_ (4, Mut.mslice (Referent.rtF (Referent.fInt Syntax.w8)) (Syntax.tyRef (Syntax.named 2) Syntax.mut (Syntax.tyInt Syntax.w8)) 2) (List._∷_ (5, Rows'.any-gone (ColumnMetadataRow.ty)) (List._∷_ (6, Rows'.any-gone (Syntax.tyArray (ColumnMetadataRow.ty) 4096)) (List._∷_ (7, Rows'.any-gone (Syntax.tyStruct (List._∷_ 115 (List._∷_ 113 (List._∷_ 108 (List._∷_ 100 (List._∷_ 97 (List._∷_ 114 (List._∷_ 100 (List._∷_ 58 (List._∷_ 58 (List._∷_ 83 (List._∷_ 113 (List._∷_ 108 (List._∷_ 100 (List._∷_ 97 (List._∷_ 114 (List._∷_ 100 (List._∷_ 65 (List._∷_ 110 (List._∷_ 115 (List._∷_ 119 (List._∷_ 101 (List._∷_ 114 List.[])))))))))))))))))))))) (Syntax.tcons (Syntax.tyEnum (List._∷_ 111 (List._∷_ 117 (List._∷_ 116 (List._∷_ 99 (List._∷_ 111 (List._∷_ 109 (List._∷_ 101 (List._∷_ 58 (List._∷_ 58 (List._∷_ 79 (List._∷_ 117 (List._∷_ 116 (List._∷_ 99 (List._∷_ 111 (List._∷_ 109 (List._∷_ 101 List.[])))))))))))))))) (Syntax.ttcons Syntax.tnil (Syntax.ttcons Syntax.tnil (Syntax.ttcons (Syntax.tcons (Syntax.tyInt Syntax.w64) (Syntax.tcons (Syntax.tyInt Syntax.w64) Syntax.tnil)) (Syntax.ttcons Syntax.tnil (Syntax.ttcons (Syntax.tcons (Syntax.tyInt Syntax.w16) Syntax.tnil) (Syntax.ttcons Syntax.tnil (Syntax.ttcons (Syntax.tcons (Syntax.tyInt Syntax.w64) Syntax.tnil) (Syntax.ttcons Syntax.tnil (Syntax.ttcons (Syntax.tcons (Syntax.tyInt Syntax.w16) Syntax.tnil) Syntax.ttnil)))))))))) (Syntax.tcons (Syntax.tyStruct (List._∷_ 115 (List._∷_ 113 (List._∷_ 108 (List._∷_ 99 (List._∷_ 97 (List._∷_ 114 (List._∷_ 100 (List._∷_ 58 (List._∷_ 58 (List._∷_ 83 (List._∷_ 113 (List._∷_ 108 (List._∷_ 67 (List._∷_ 97 (List._∷_ 114 (List._∷_ 100 List.[])))))))))))))))) (Syntax.tcons Syntax.tyBool (Syntax.tcons (Syntax.tyInt Syntax.w32) (Syntax.tcons (Syntax.tyArray (Syntax.tyInt Syntax.w8) 5) (Syntax.tcons (Syntax.tyArray (Syntax.tyInt Syntax.w8) 8) (Syntax.tcons (Syntax.tyInt Syntax.w8) (Syntax.tcons (Syntax.tyArray (Syntax.tyInt Syntax.w32) 6) (Syntax.tcons (Syntax.tyInt Syntax.w64) (Syntax.tcons (Syntax.tyInt Syntax.w32) (Syntax.tcons (Syntax.tyArray (Syntax.tyInt Syntax.w8) 11) (Syntax.tcons (Syntax.tyInt Syntax.w64) (Syntax.tcons (Syntax.tyInt Syntax.w64) Syntax.tnil)))))))))))) (Syntax.tcons (Syntax.tyInt Syntax.w64) Syntax.tnil))))) (List._∷_ (8, Rows'.whole (Declared.row Outcome.the-type)) (List._∷_ (9, Rows'.any-gone (Syntax.tyInt Syntax.w64)) (List._∷_ (10, Rows'.any-gone (Syntax.tyStruct (List._∷_ 115 (List._∷_ 113 (List._∷_ 108 (List._∷_ 99 (List._∷_ 97 (List._∷_ 114 (List._∷_ 100 (List._∷_ 58 (List._∷_ 58 (List._∷_ 83 (List._∷_ 113 (List._∷_ 108 (List._∷_ 67 (List._∷_ 97 (List._∷_ 114 (List._∷_ 100 List.[])))))))))))))))) (Syntax.tcons Syntax.tyBool (Syntax.tcons (Syntax.tyInt Syntax.w32) (Syntax.tcons (Syntax.tyArray (Syntax.tyInt Syntax.w8) 5) (Syntax.tcons (Syntax.tyArray (Syntax.tyInt Syntax.w8) 8) (Syntax.tcons (Syntax.tyInt Syntax.w8) (Syntax.tcons (Syntax.tyArray (Syntax.tyInt Syntax.w32) 6) (Syntax.tcons (Syntax.tyInt Syntax.w64) (Syntax.tcons (Syntax.tyInt Syntax.w32) (Syntax.tcons (Syntax.tyArray (Syntax.tyInt Syntax.w8) 11) (Syntax.tcons (Syntax.tyInt Syntax.w64) (Syntax.tcons (Syntax.tyInt Syntax.w64) Syntax.tnil))))))))))))) (List._∷_ (11, Rows'.any-gone (Syntax.tyStruct (List._∷_ 116 (List._∷_ 97 (List._∷_ 98 (List._∷_ 108 (List._∷_ 101 (List._∷_ 95 (List._∷_ 111 (List._∷_ 117 (List._∷_ 116 (List._∷_ 112 (List._∷_ 117 (List._∷_ 116 (List._∷_ 58 (List._∷_ 58 (List._∷_ 114 (List._∷_ 111 (List._∷_ 119 (List._∷_ 115 (List._∷_ 58 (List._∷_ 58 (List._∷_ 87 (List._∷_ 105 (List._∷_ 100 (List._∷_ 116 (List._∷_ 104 (List._∷_ 115 List.[])))))))))))))))))))))))))) (Syntax.tcons (Syntax.tyInt Syntax.w64) (Syntax.tcons (Syntax.tyInt Syntax.w64) (Syntax.tcons (Syntax.tyInt Syntax.w64) (Syntax.tcons (Syntax.tyInt Syntax.w64) Syntax.tnil)))))) (List._∷_ (12, Rows'.any-gone (Syntax.tyInt Syntax.w64)) (List._∷_ (13, Rows'.any-gone (Syntax.tyRef Syntax.erased Syntax.mut (Syntax.tyArray ColumnMetadataRow.named 4096))) (List._∷_ (14, Rows'.any-gone (Syntax.tyStruct (List._∷_ 38 (List._∷_ 91 (List._∷_ 93 List.[]))) (Syntax.tcons (Syntax.tyRef Syntax.erased Syntax.mut ColumnMetadataRow.named) (Syntax.tcons (Syntax.tyInt Syntax.w64) Syntax.tnil)))) (List._∷_ (15, Rows'.any-gone Syntax.tyBool) List.[])))))))))))))))
 
         abbrev g19 : List.List Row.Entry
-        g19 = List._∷_ (0, Rows'.sc-here (Row.sInt Syntax.w64)) (List._∷_ (1, Relend.mslice-owed (Referent.rtF (Referent.fInt Syntax.w8)) (Syntax.tyRef (Syntax.named 0) Syntax.mut (Syntax.tyInt Syntax.w8)) 0 4 (Row.lease (κs .0) (qs .0))) (List._∷_ (2, Rows'.sc-here (Row.sInt Syntax.w64)) (List._∷_ (3, Rows'.sslice (Referent.rtF (Referent.fInt Syntax.w8)) (Syntax.tyRef (Syntax.named 1) Syntax.imm (Syntax.tyInt Syntax.w8)) 1) (List._∷_ (4, Mut.mslice (Referent.rtF (Referent.fInt Syntax.w8)) (Syntax.tyRef (Syntax.named 2) Syntax.mut (Syntax.tyInt Syntax.w8)) 2) (List._∷_ (5, Rows'.any-gone (ColumnMetadataRow.ty)) (List._∷_ (6, Rows'.any-gone (Syntax.tyArray (ColumnMetadataRow.ty) 4096)) (List._∷_ (7, Rows'.any-gone (Syntax.tyStruct (List._∷_ 115 (List._∷_ 113 (List._∷_ 108 (List._∷_ 100 (List._∷_ 97 (List._∷_ 114 (List._∷_ 100 (List._∷_ 58 (List._∷_ 58 (List._∷_ 83 (List._∷_ 113 (List._∷_ 108 (List._∷_ 100 (List._∷_ 97 (List._∷_ 114 (List._∷_ 100 (List._∷_ 65 (List._∷_ 110 (List._∷_ 115 (List._∷_ 119 (List._∷_ 101 (List._∷_ 114 List.[])))))))))))))))))))))) (Syntax.tcons (Syntax.tyEnum (List._∷_ 111 (List._∷_ 117 (List._∷_ 116 (List._∷_ 99 (List._∷_ 111 (List._∷_ 109 (List._∷_ 101 (List._∷_ 58 (List._∷_ 58 (List._∷_ 79 (List._∷_ 117 (List._∷_ 116 (List._∷_ 99 (List._∷_ 111 (List._∷_ 109 (List._∷_ 101 List.[])))))))))))))))) (Syntax.ttcons Syntax.tnil (Syntax.ttcons Syntax.tnil (Syntax.ttcons (Syntax.tcons (Syntax.tyInt Syntax.w64) (Syntax.tcons (Syntax.tyInt Syntax.w64) Syntax.tnil)) (Syntax.ttcons Syntax.tnil (Syntax.ttcons (Syntax.tcons (Syntax.tyInt Syntax.w16) Syntax.tnil) (Syntax.ttcons Syntax.tnil (Syntax.ttcons (Syntax.tcons (Syntax.tyInt Syntax.w64) Syntax.tnil) (Syntax.ttcons Syntax.tnil Syntax.ttnil))))))))) (Syntax.tcons (Syntax.tyStruct (List._∷_ 115 (List._∷_ 113 (List._∷_ 108 (List._∷_ 99 (List._∷_ 97 (List._∷_ 114 (List._∷_ 100 (List._∷_ 58 (List._∷_ 58 (List._∷_ 83 (List._∷_ 113 (List._∷_ 108 (List._∷_ 67 (List._∷_ 97 (List._∷_ 114 (List._∷_ 100 List.[])))))))))))))))) (Syntax.tcons Syntax.tyBool (Syntax.tcons (Syntax.tyInt Syntax.w32) (Syntax.tcons (Syntax.tyArray (Syntax.tyInt Syntax.w8) 5) (Syntax.tcons (Syntax.tyArray (Syntax.tyInt Syntax.w8) 8) (Syntax.tcons (Syntax.tyInt Syntax.w8) (Syntax.tcons (Syntax.tyArray (Syntax.tyInt Syntax.w32) 6) (Syntax.tcons (Syntax.tyInt Syntax.w64) (Syntax.tcons (Syntax.tyInt Syntax.w32) (Syntax.tcons (Syntax.tyArray (Syntax.tyInt Syntax.w8) 11) (Syntax.tcons (Syntax.tyInt Syntax.w64) (Syntax.tcons (Syntax.tyInt Syntax.w64) Syntax.tnil)))))))))))) (Syntax.tcons (Syntax.tyInt Syntax.w64) Syntax.tnil))))) (List._∷_ (8, Rows'.whole (Declared.row Outcome.the-type)) (List._∷_ (9, Rows'.any-gone (Syntax.tyInt Syntax.w64)) (List._∷_ (10, Rows'.any-gone (Syntax.tyStruct (List._∷_ 115 (List._∷_ 113 (List._∷_ 108 (List._∷_ 99 (List._∷_ 97 (List._∷_ 114 (List._∷_ 100 (List._∷_ 58 (List._∷_ 58 (List._∷_ 83 (List._∷_ 113 (List._∷_ 108 (List._∷_ 67 (List._∷_ 97 (List._∷_ 114 (List._∷_ 100 List.[])))))))))))))))) (Syntax.tcons Syntax.tyBool (Syntax.tcons (Syntax.tyInt Syntax.w32) (Syntax.tcons (Syntax.tyArray (Syntax.tyInt Syntax.w8) 5) (Syntax.tcons (Syntax.tyArray (Syntax.tyInt Syntax.w8) 8) (Syntax.tcons (Syntax.tyInt Syntax.w8) (Syntax.tcons (Syntax.tyArray (Syntax.tyInt Syntax.w32) 6) (Syntax.tcons (Syntax.tyInt Syntax.w64) (Syntax.tcons (Syntax.tyInt Syntax.w32) (Syntax.tcons (Syntax.tyArray (Syntax.tyInt Syntax.w8) 11) (Syntax.tcons (Syntax.tyInt Syntax.w64) (Syntax.tcons (Syntax.tyInt Syntax.w64) Syntax.tnil))))))))))))) (List._∷_ (11, Rows'.any-gone (Syntax.tyStruct (List._∷_ 116 (List._∷_ 97 (List._∷_ 98 (List._∷_ 108 (List._∷_ 101 (List._∷_ 95 (List._∷_ 111 (List._∷_ 117 (List._∷_ 116 (List._∷_ 112 (List._∷_ 117 (List._∷_ 116 (List._∷_ 58 (List._∷_ 58 (List._∷_ 114 (List._∷_ 111 (List._∷_ 119 (List._∷_ 115 (List._∷_ 58 (List._∷_ 58 (List._∷_ 87 (List._∷_ 105 (List._∷_ 100 (List._∷_ 116 (List._∷_ 104 (List._∷_ 115 List.[])))))))))))))))))))))))))) (Syntax.tcons (Syntax.tyInt Syntax.w64) (Syntax.tcons (Syntax.tyInt Syntax.w64) (Syntax.tcons (Syntax.tyInt Syntax.w64) (Syntax.tcons (Syntax.tyInt Syntax.w64) Syntax.tnil)))))) (List._∷_ (12, Rows'.any-gone (Syntax.tyInt Syntax.w64)) (List._∷_ (13, Rows'.any-gone (Syntax.tyRef Syntax.erased Syntax.mut (Syntax.tyArray ColumnMetadataRow.named 4096))) (List._∷_ (14, Rows'.any-gone (Syntax.tyStruct (List._∷_ 38 (List._∷_ 91 (List._∷_ 93 List.[]))) (Syntax.tcons (Syntax.tyRef Syntax.erased Syntax.mut ColumnMetadataRow.named) (Syntax.tcons (Syntax.tyInt Syntax.w64) Syntax.tnil)))) (List._∷_ (15, Rows'.any-gone Syntax.tyBool) List.[])))))))))))))))
+        g19 = List._∷_ (0, Rows'.sc-here (Row.sInt Syntax.w64)) (List._∷_ (1, Relend.mslice-owed (Referent.rtF (Referent.fInt Syntax.w8)) (Syntax.tyRef (Syntax.named 0) Syntax.mut (Syntax.tyInt Syntax.w8)) 0 4 (Row.lease (κs .0) (qs .0))) (List._∷_ (2, Rows'.sc-here (Row.sInt Syntax.w64)) (List._∷_ (3, Rows'.sslice (Referent.rtF (Referent.fInt Syntax.w8)) (Syntax.tyRef (Syntax.named 1) Syntax.imm (Syntax.tyInt Syntax.w8)) 1) (List._∷_ (4, Mut.mslice (Referent.rtF (Referent.fInt Syntax.w8)) (Syntax.tyRef (Syntax.named 2) Syntax.mut (Syntax.tyInt Syntax.w8)) 2) (List._∷_ (5, Rows'.any-gone (ColumnMetadataRow.ty)) (List._∷_ (6, Rows'.any-gone (Syntax.tyArray (ColumnMetadataRow.ty) 4096)) (List._∷_ (7, Rows'.any-gone (Syntax.tyStruct (List._∷_ 115 (List._∷_ 113 (List._∷_ 108 (List._∷_ 100 (List._∷_ 97 (List._∷_ 114 (List._∷_ 100 (List._∷_ 58 (List._∷_ 58 (List._∷_ 83 (List._∷_ 113 (List._∷_ 108 (List._∷_ 100 (List._∷_ 97 (List._∷_ 114 (List._∷_ 100 (List._∷_ 65 (List._∷_ 110 (List._∷_ 115 (List._∷_ 119 (List._∷_ 101 (List._∷_ 114 List.[])))))))))))))))))))))) (Syntax.tcons (Syntax.tyEnum (List._∷_ 111 (List._∷_ 117 (List._∷_ 116 (List._∷_ 99 (List._∷_ 111 (List._∷_ 109 (List._∷_ 101 (List._∷_ 58 (List._∷_ 58 (List._∷_ 79 (List._∷_ 117 (List._∷_ 116 (List._∷_ 99 (List._∷_ 111 (List._∷_ 109 (List._∷_ 101 List.[])))))))))))))))) (Syntax.ttcons Syntax.tnil (Syntax.ttcons Syntax.tnil (Syntax.ttcons (Syntax.tcons (Syntax.tyInt Syntax.w64) (Syntax.tcons (Syntax.tyInt Syntax.w64) Syntax.tnil)) (Syntax.ttcons Syntax.tnil (Syntax.ttcons (Syntax.tcons (Syntax.tyInt Syntax.w16) Syntax.tnil) (Syntax.ttcons Syntax.tnil (Syntax.ttcons (Syntax.tcons (Syntax.tyInt Syntax.w64) Syntax.tnil) (Syntax.ttcons Syntax.tnil (Syntax.ttcons (Syntax.tcons (Syntax.tyInt Syntax.w16) Syntax.tnil) Syntax.ttnil)))))))))) (Syntax.tcons (Syntax.tyStruct (List._∷_ 115 (List._∷_ 113 (List._∷_ 108 (List._∷_ 99 (List._∷_ 97 (List._∷_ 114 (List._∷_ 100 (List._∷_ 58 (List._∷_ 58 (List._∷_ 83 (List._∷_ 113 (List._∷_ 108 (List._∷_ 67 (List._∷_ 97 (List._∷_ 114 (List._∷_ 100 List.[])))))))))))))))) (Syntax.tcons Syntax.tyBool (Syntax.tcons (Syntax.tyInt Syntax.w32) (Syntax.tcons (Syntax.tyArray (Syntax.tyInt Syntax.w8) 5) (Syntax.tcons (Syntax.tyArray (Syntax.tyInt Syntax.w8) 8) (Syntax.tcons (Syntax.tyInt Syntax.w8) (Syntax.tcons (Syntax.tyArray (Syntax.tyInt Syntax.w32) 6) (Syntax.tcons (Syntax.tyInt Syntax.w64) (Syntax.tcons (Syntax.tyInt Syntax.w32) (Syntax.tcons (Syntax.tyArray (Syntax.tyInt Syntax.w8) 11) (Syntax.tcons (Syntax.tyInt Syntax.w64) (Syntax.tcons (Syntax.tyInt Syntax.w64) Syntax.tnil)))))))))))) (Syntax.tcons (Syntax.tyInt Syntax.w64) Syntax.tnil))))) (List._∷_ (8, Rows'.whole (Declared.row Outcome.the-type)) (List._∷_ (9, Rows'.any-gone (Syntax.tyInt Syntax.w64)) (List._∷_ (10, Rows'.any-gone (Syntax.tyStruct (List._∷_ 115 (List._∷_ 113 (List._∷_ 108 (List._∷_ 99 (List._∷_ 97 (List._∷_ 114 (List._∷_ 100 (List._∷_ 58 (List._∷_ 58 (List._∷_ 83 (List._∷_ 113 (List._∷_ 108 (List._∷_ 67 (List._∷_ 97 (List._∷_ 114 (List._∷_ 100 List.[])))))))))))))))) (Syntax.tcons Syntax.tyBool (Syntax.tcons (Syntax.tyInt Syntax.w32) (Syntax.tcons (Syntax.tyArray (Syntax.tyInt Syntax.w8) 5) (Syntax.tcons (Syntax.tyArray (Syntax.tyInt Syntax.w8) 8) (Syntax.tcons (Syntax.tyInt Syntax.w8) (Syntax.tcons (Syntax.tyArray (Syntax.tyInt Syntax.w32) 6) (Syntax.tcons (Syntax.tyInt Syntax.w64) (Syntax.tcons (Syntax.tyInt Syntax.w32) (Syntax.tcons (Syntax.tyArray (Syntax.tyInt Syntax.w8) 11) (Syntax.tcons (Syntax.tyInt Syntax.w64) (Syntax.tcons (Syntax.tyInt Syntax.w64) Syntax.tnil))))))))))))) (List._∷_ (11, Rows'.any-gone (Syntax.tyStruct (List._∷_ 116 (List._∷_ 97 (List._∷_ 98 (List._∷_ 108 (List._∷_ 101 (List._∷_ 95 (List._∷_ 111 (List._∷_ 117 (List._∷_ 116 (List._∷_ 112 (List._∷_ 117 (List._∷_ 116 (List._∷_ 58 (List._∷_ 58 (List._∷_ 114 (List._∷_ 111 (List._∷_ 119 (List._∷_ 115 (List._∷_ 58 (List._∷_ 58 (List._∷_ 87 (List._∷_ 105 (List._∷_ 100 (List._∷_ 116 (List._∷_ 104 (List._∷_ 115 List.[])))))))))))))))))))))))))) (Syntax.tcons (Syntax.tyInt Syntax.w64) (Syntax.tcons (Syntax.tyInt Syntax.w64) (Syntax.tcons (Syntax.tyInt Syntax.w64) (Syntax.tcons (Syntax.tyInt Syntax.w64) Syntax.tnil)))))) (List._∷_ (12, Rows'.any-gone (Syntax.tyInt Syntax.w64)) (List._∷_ (13, Rows'.any-gone (Syntax.tyRef Syntax.erased Syntax.mut (Syntax.tyArray ColumnMetadataRow.named 4096))) (List._∷_ (14, Rows'.any-gone (Syntax.tyStruct (List._∷_ 38 (List._∷_ 91 (List._∷_ 93 List.[]))) (Syntax.tcons (Syntax.tyRef Syntax.erased Syntax.mut ColumnMetadataRow.named) (Syntax.tcons (Syntax.tyInt Syntax.w64) Syntax.tnil)))) (List._∷_ (15, Rows'.any-gone Syntax.tyBool) List.[])))))))))))))))
 
         abbrev g21 : List.List Row.Entry
-        g21 = List._∷_ (0, Rows'.sc-here (Row.sInt Syntax.w64)) (List._∷_ (1, Relend.mslice-owed (Referent.rtF (Referent.fInt Syntax.w8)) (Syntax.tyRef (Syntax.named 0) Syntax.mut (Syntax.tyInt Syntax.w8)) 0 4 (Row.lease (κs .0) (qs .0))) (List._∷_ (2, Rows'.sc-here (Row.sInt Syntax.w64)) (List._∷_ (3, Rows'.sslice (Referent.rtF (Referent.fInt Syntax.w8)) (Syntax.tyRef (Syntax.named 1) Syntax.imm (Syntax.tyInt Syntax.w8)) 1) (List._∷_ (4, Mut.mslice (Referent.rtF (Referent.fInt Syntax.w8)) (Syntax.tyRef (Syntax.named 2) Syntax.mut (Syntax.tyInt Syntax.w8)) 2) (List._∷_ (5, Rows'.any-gone (ColumnMetadataRow.ty)) (List._∷_ (6, Rows'.any-gone (Syntax.tyArray (ColumnMetadataRow.ty) 4096)) (List._∷_ (7, Rows'.any-gone (Syntax.tyStruct (List._∷_ 115 (List._∷_ 113 (List._∷_ 108 (List._∷_ 100 (List._∷_ 97 (List._∷_ 114 (List._∷_ 100 (List._∷_ 58 (List._∷_ 58 (List._∷_ 83 (List._∷_ 113 (List._∷_ 108 (List._∷_ 100 (List._∷_ 97 (List._∷_ 114 (List._∷_ 100 (List._∷_ 65 (List._∷_ 110 (List._∷_ 115 (List._∷_ 119 (List._∷_ 101 (List._∷_ 114 List.[])))))))))))))))))))))) (Syntax.tcons (Syntax.tyEnum (List._∷_ 111 (List._∷_ 117 (List._∷_ 116 (List._∷_ 99 (List._∷_ 111 (List._∷_ 109 (List._∷_ 101 (List._∷_ 58 (List._∷_ 58 (List._∷_ 79 (List._∷_ 117 (List._∷_ 116 (List._∷_ 99 (List._∷_ 111 (List._∷_ 109 (List._∷_ 101 List.[])))))))))))))))) (Syntax.ttcons Syntax.tnil (Syntax.ttcons Syntax.tnil (Syntax.ttcons (Syntax.tcons (Syntax.tyInt Syntax.w64) (Syntax.tcons (Syntax.tyInt Syntax.w64) Syntax.tnil)) (Syntax.ttcons Syntax.tnil (Syntax.ttcons (Syntax.tcons (Syntax.tyInt Syntax.w16) Syntax.tnil) (Syntax.ttcons Syntax.tnil (Syntax.ttcons (Syntax.tcons (Syntax.tyInt Syntax.w64) Syntax.tnil) (Syntax.ttcons Syntax.tnil Syntax.ttnil))))))))) (Syntax.tcons (Syntax.tyStruct (List._∷_ 115 (List._∷_ 113 (List._∷_ 108 (List._∷_ 99 (List._∷_ 97 (List._∷_ 114 (List._∷_ 100 (List._∷_ 58 (List._∷_ 58 (List._∷_ 83 (List._∷_ 113 (List._∷_ 108 (List._∷_ 67 (List._∷_ 97 (List._∷_ 114 (List._∷_ 100 List.[])))))))))))))))) (Syntax.tcons Syntax.tyBool (Syntax.tcons (Syntax.tyInt Syntax.w32) (Syntax.tcons (Syntax.tyArray (Syntax.tyInt Syntax.w8) 5) (Syntax.tcons (Syntax.tyArray (Syntax.tyInt Syntax.w8) 8) (Syntax.tcons (Syntax.tyInt Syntax.w8) (Syntax.tcons (Syntax.tyArray (Syntax.tyInt Syntax.w32) 6) (Syntax.tcons (Syntax.tyInt Syntax.w64) (Syntax.tcons (Syntax.tyInt Syntax.w32) (Syntax.tcons (Syntax.tyArray (Syntax.tyInt Syntax.w8) 11) (Syntax.tcons (Syntax.tyInt Syntax.w64) (Syntax.tcons (Syntax.tyInt Syntax.w64) Syntax.tnil)))))))))))) (Syntax.tcons (Syntax.tyInt Syntax.w64) Syntax.tnil))))) (List._∷_ (8, Rows'.any-gone (Syntax.tyEnum (List._∷_ 111 (List._∷_ 117 (List._∷_ 116 (List._∷_ 99 (List._∷_ 111 (List._∷_ 109 (List._∷_ 101 (List._∷_ 58 (List._∷_ 58 (List._∷_ 79 (List._∷_ 117 (List._∷_ 116 (List._∷_ 99 (List._∷_ 111 (List._∷_ 109 (List._∷_ 101 List.[])))))))))))))))) (Syntax.ttcons Syntax.tnil (Syntax.ttcons Syntax.tnil (Syntax.ttcons (Syntax.tcons (Syntax.tyInt Syntax.w64) (Syntax.tcons (Syntax.tyInt Syntax.w64) Syntax.tnil)) (Syntax.ttcons Syntax.tnil (Syntax.ttcons (Syntax.tcons (Syntax.tyInt Syntax.w16) Syntax.tnil) (Syntax.ttcons Syntax.tnil (Syntax.ttcons (Syntax.tcons (Syntax.tyInt Syntax.w64) Syntax.tnil) (Syntax.ttcons Syntax.tnil Syntax.ttnil)))))))))) (List._∷_ (9, Rows'.any-gone (Syntax.tyInt Syntax.w64)) (List._∷_ (10, Rows'.any-gone (Syntax.tyStruct (List._∷_ 115 (List._∷_ 113 (List._∷_ 108 (List._∷_ 99 (List._∷_ 97 (List._∷_ 114 (List._∷_ 100 (List._∷_ 58 (List._∷_ 58 (List._∷_ 83 (List._∷_ 113 (List._∷_ 108 (List._∷_ 67 (List._∷_ 97 (List._∷_ 114 (List._∷_ 100 List.[])))))))))))))))) (Syntax.tcons Syntax.tyBool (Syntax.tcons (Syntax.tyInt Syntax.w32) (Syntax.tcons (Syntax.tyArray (Syntax.tyInt Syntax.w8) 5) (Syntax.tcons (Syntax.tyArray (Syntax.tyInt Syntax.w8) 8) (Syntax.tcons (Syntax.tyInt Syntax.w8) (Syntax.tcons (Syntax.tyArray (Syntax.tyInt Syntax.w32) 6) (Syntax.tcons (Syntax.tyInt Syntax.w64) (Syntax.tcons (Syntax.tyInt Syntax.w32) (Syntax.tcons (Syntax.tyArray (Syntax.tyInt Syntax.w8) 11) (Syntax.tcons (Syntax.tyInt Syntax.w64) (Syntax.tcons (Syntax.tyInt Syntax.w64) Syntax.tnil))))))))))))) (List._∷_ (11, Rows'.any-gone (Syntax.tyStruct (List._∷_ 116 (List._∷_ 97 (List._∷_ 98 (List._∷_ 108 (List._∷_ 101 (List._∷_ 95 (List._∷_ 111 (List._∷_ 117 (List._∷_ 116 (List._∷_ 112 (List._∷_ 117 (List._∷_ 116 (List._∷_ 58 (List._∷_ 58 (List._∷_ 114 (List._∷_ 111 (List._∷_ 119 (List._∷_ 115 (List._∷_ 58 (List._∷_ 58 (List._∷_ 87 (List._∷_ 105 (List._∷_ 100 (List._∷_ 116 (List._∷_ 104 (List._∷_ 115 List.[])))))))))))))))))))))))))) (Syntax.tcons (Syntax.tyInt Syntax.w64) (Syntax.tcons (Syntax.tyInt Syntax.w64) (Syntax.tcons (Syntax.tyInt Syntax.w64) (Syntax.tcons (Syntax.tyInt Syntax.w64) Syntax.tnil)))))) (List._∷_ (12, Rows'.any-gone (Syntax.tyInt Syntax.w64)) (List._∷_ (13, Rows'.any-gone (Syntax.tyRef Syntax.erased Syntax.mut (Syntax.tyArray ColumnMetadataRow.named 4096))) (List._∷_ (14, Rows'.any-gone (Syntax.tyStruct (List._∷_ 38 (List._∷_ 91 (List._∷_ 93 List.[]))) (Syntax.tcons (Syntax.tyRef Syntax.erased Syntax.mut ColumnMetadataRow.named) (Syntax.tcons (Syntax.tyInt Syntax.w64) Syntax.tnil)))) (List._∷_ (15, Rows'.any-gone Syntax.tyBool) List.[])))))))))))))))
+        g21 = List._∷_ (0, Rows'.sc-here (Row.sInt Syntax.w64)) (List._∷_ (1, Relend.mslice-owed (Referent.rtF (Referent.fInt Syntax.w8)) (Syntax.tyRef (Syntax.named 0) Syntax.mut (Syntax.tyInt Syntax.w8)) 0 4 (Row.lease (κs .0) (qs .0))) (List._∷_ (2, Rows'.sc-here (Row.sInt Syntax.w64)) (List._∷_ (3, Rows'.sslice (Referent.rtF (Referent.fInt Syntax.w8)) (Syntax.tyRef (Syntax.named 1) Syntax.imm (Syntax.tyInt Syntax.w8)) 1) (List._∷_ (4, Mut.mslice (Referent.rtF (Referent.fInt Syntax.w8)) (Syntax.tyRef (Syntax.named 2) Syntax.mut (Syntax.tyInt Syntax.w8)) 2) (List._∷_ (5, Rows'.any-gone (ColumnMetadataRow.ty)) (List._∷_ (6, Rows'.any-gone (Syntax.tyArray (ColumnMetadataRow.ty) 4096)) (List._∷_ (7, Rows'.any-gone (Syntax.tyStruct (List._∷_ 115 (List._∷_ 113 (List._∷_ 108 (List._∷_ 100 (List._∷_ 97 (List._∷_ 114 (List._∷_ 100 (List._∷_ 58 (List._∷_ 58 (List._∷_ 83 (List._∷_ 113 (List._∷_ 108 (List._∷_ 100 (List._∷_ 97 (List._∷_ 114 (List._∷_ 100 (List._∷_ 65 (List._∷_ 110 (List._∷_ 115 (List._∷_ 119 (List._∷_ 101 (List._∷_ 114 List.[])))))))))))))))))))))) (Syntax.tcons (Syntax.tyEnum (List._∷_ 111 (List._∷_ 117 (List._∷_ 116 (List._∷_ 99 (List._∷_ 111 (List._∷_ 109 (List._∷_ 101 (List._∷_ 58 (List._∷_ 58 (List._∷_ 79 (List._∷_ 117 (List._∷_ 116 (List._∷_ 99 (List._∷_ 111 (List._∷_ 109 (List._∷_ 101 List.[])))))))))))))))) (Syntax.ttcons Syntax.tnil (Syntax.ttcons Syntax.tnil (Syntax.ttcons (Syntax.tcons (Syntax.tyInt Syntax.w64) (Syntax.tcons (Syntax.tyInt Syntax.w64) Syntax.tnil)) (Syntax.ttcons Syntax.tnil (Syntax.ttcons (Syntax.tcons (Syntax.tyInt Syntax.w16) Syntax.tnil) (Syntax.ttcons Syntax.tnil (Syntax.ttcons (Syntax.tcons (Syntax.tyInt Syntax.w64) Syntax.tnil) (Syntax.ttcons Syntax.tnil (Syntax.ttcons (Syntax.tcons (Syntax.tyInt Syntax.w16) Syntax.tnil) Syntax.ttnil)))))))))) (Syntax.tcons (Syntax.tyStruct (List._∷_ 115 (List._∷_ 113 (List._∷_ 108 (List._∷_ 99 (List._∷_ 97 (List._∷_ 114 (List._∷_ 100 (List._∷_ 58 (List._∷_ 58 (List._∷_ 83 (List._∷_ 113 (List._∷_ 108 (List._∷_ 67 (List._∷_ 97 (List._∷_ 114 (List._∷_ 100 List.[])))))))))))))))) (Syntax.tcons Syntax.tyBool (Syntax.tcons (Syntax.tyInt Syntax.w32) (Syntax.tcons (Syntax.tyArray (Syntax.tyInt Syntax.w8) 5) (Syntax.tcons (Syntax.tyArray (Syntax.tyInt Syntax.w8) 8) (Syntax.tcons (Syntax.tyInt Syntax.w8) (Syntax.tcons (Syntax.tyArray (Syntax.tyInt Syntax.w32) 6) (Syntax.tcons (Syntax.tyInt Syntax.w64) (Syntax.tcons (Syntax.tyInt Syntax.w32) (Syntax.tcons (Syntax.tyArray (Syntax.tyInt Syntax.w8) 11) (Syntax.tcons (Syntax.tyInt Syntax.w64) (Syntax.tcons (Syntax.tyInt Syntax.w64) Syntax.tnil)))))))))))) (Syntax.tcons (Syntax.tyInt Syntax.w64) Syntax.tnil))))) (List._∷_ (8, Rows'.any-gone (Syntax.tyEnum (List._∷_ 111 (List._∷_ 117 (List._∷_ 116 (List._∷_ 99 (List._∷_ 111 (List._∷_ 109 (List._∷_ 101 (List._∷_ 58 (List._∷_ 58 (List._∷_ 79 (List._∷_ 117 (List._∷_ 116 (List._∷_ 99 (List._∷_ 111 (List._∷_ 109 (List._∷_ 101 List.[])))))))))))))))) (Syntax.ttcons Syntax.tnil (Syntax.ttcons Syntax.tnil (Syntax.ttcons (Syntax.tcons (Syntax.tyInt Syntax.w64) (Syntax.tcons (Syntax.tyInt Syntax.w64) Syntax.tnil)) (Syntax.ttcons Syntax.tnil (Syntax.ttcons (Syntax.tcons (Syntax.tyInt Syntax.w16) Syntax.tnil) (Syntax.ttcons Syntax.tnil (Syntax.ttcons (Syntax.tcons (Syntax.tyInt Syntax.w64) Syntax.tnil) (Syntax.ttcons Syntax.tnil (Syntax.ttcons (Syntax.tcons (Syntax.tyInt Syntax.w16) Syntax.tnil) Syntax.ttnil))))))))))) (List._∷_ (9, Rows'.any-gone (Syntax.tyInt Syntax.w64)) (List._∷_ (10, Rows'.any-gone (Syntax.tyStruct (List._∷_ 115 (List._∷_ 113 (List._∷_ 108 (List._∷_ 99 (List._∷_ 97 (List._∷_ 114 (List._∷_ 100 (List._∷_ 58 (List._∷_ 58 (List._∷_ 83 (List._∷_ 113 (List._∷_ 108 (List._∷_ 67 (List._∷_ 97 (List._∷_ 114 (List._∷_ 100 List.[])))))))))))))))) (Syntax.tcons Syntax.tyBool (Syntax.tcons (Syntax.tyInt Syntax.w32) (Syntax.tcons (Syntax.tyArray (Syntax.tyInt Syntax.w8) 5) (Syntax.tcons (Syntax.tyArray (Syntax.tyInt Syntax.w8) 8) (Syntax.tcons (Syntax.tyInt Syntax.w8) (Syntax.tcons (Syntax.tyArray (Syntax.tyInt Syntax.w32) 6) (Syntax.tcons (Syntax.tyInt Syntax.w64) (Syntax.tcons (Syntax.tyInt Syntax.w32) (Syntax.tcons (Syntax.tyArray (Syntax.tyInt Syntax.w8) 11) (Syntax.tcons (Syntax.tyInt Syntax.w64) (Syntax.tcons (Syntax.tyInt Syntax.w64) Syntax.tnil))))))))))))) (List._∷_ (11, Rows'.any-gone (Syntax.tyStruct (List._∷_ 116 (List._∷_ 97 (List._∷_ 98 (List._∷_ 108 (List._∷_ 101 (List._∷_ 95 (List._∷_ 111 (List._∷_ 117 (List._∷_ 116 (List._∷_ 112 (List._∷_ 117 (List._∷_ 116 (List._∷_ 58 (List._∷_ 58 (List._∷_ 114 (List._∷_ 111 (List._∷_ 119 (List._∷_ 115 (List._∷_ 58 (List._∷_ 58 (List._∷_ 87 (List._∷_ 105 (List._∷_ 100 (List._∷_ 116 (List._∷_ 104 (List._∷_ 115 List.[])))))))))))))))))))))))))) (Syntax.tcons (Syntax.tyInt Syntax.w64) (Syntax.tcons (Syntax.tyInt Syntax.w64) (Syntax.tcons (Syntax.tyInt Syntax.w64) (Syntax.tcons (Syntax.tyInt Syntax.w64) Syntax.tnil)))))) (List._∷_ (12, Rows'.any-gone (Syntax.tyInt Syntax.w64)) (List._∷_ (13, Rows'.any-gone (Syntax.tyRef Syntax.erased Syntax.mut (Syntax.tyArray ColumnMetadataRow.named 4096))) (List._∷_ (14, Rows'.any-gone (Syntax.tyStruct (List._∷_ 38 (List._∷_ 91 (List._∷_ 93 List.[]))) (Syntax.tcons (Syntax.tyRef Syntax.erased Syntax.mut ColumnMetadataRow.named) (Syntax.tcons (Syntax.tyInt Syntax.w64) Syntax.tnil)))) (List._∷_ (15, Rows'.any-gone Syntax.tyBool) List.[])))))))))))))))
 
         abbrev g32 : List.List Row.Entry
-        g32 = List._∷_ (0, Rows'.any-gone (Syntax.tyInt Syntax.w64)) (List._∷_ (1, Relend.mslice-owed (Referent.rtF (Referent.fInt Syntax.w8)) (Syntax.tyRef (Syntax.named 0) Syntax.mut (Syntax.tyInt Syntax.w8)) 0 6 (Row.lease (κs .0) (qs .0))) (List._∷_ (2, Rows'.sc-here (Row.sInt Syntax.w64)) (List._∷_ (3, Rows'.sslice (Referent.rtF (Referent.fInt Syntax.w8)) (Syntax.tyRef (Syntax.named 1) Syntax.imm (Syntax.tyInt Syntax.w8)) 1) (List._∷_ (4, Mut.mslice (Referent.rtF (Referent.fInt Syntax.w8)) (Syntax.tyRef (Syntax.named 2) Syntax.mut (Syntax.tyInt Syntax.w8)) 2) (List._∷_ (5, Rows'.any-gone (ColumnMetadataRow.ty)) (List._∷_ (6, Rows.arrF (ColumnMetadataRow.RT) 4096 0) (List._∷_ (7, Rows'.any-gone (Syntax.tyStruct (List._∷_ 115 (List._∷_ 113 (List._∷_ 108 (List._∷_ 100 (List._∷_ 97 (List._∷_ 114 (List._∷_ 100 (List._∷_ 58 (List._∷_ 58 (List._∷_ 83 (List._∷_ 113 (List._∷_ 108 (List._∷_ 100 (List._∷_ 97 (List._∷_ 114 (List._∷_ 100 (List._∷_ 65 (List._∷_ 110 (List._∷_ 115 (List._∷_ 119 (List._∷_ 101 (List._∷_ 114 List.[])))))))))))))))))))))) (Syntax.tcons (Syntax.tyEnum (List._∷_ 111 (List._∷_ 117 (List._∷_ 116 (List._∷_ 99 (List._∷_ 111 (List._∷_ 109 (List._∷_ 101 (List._∷_ 58 (List._∷_ 58 (List._∷_ 79 (List._∷_ 117 (List._∷_ 116 (List._∷_ 99 (List._∷_ 111 (List._∷_ 109 (List._∷_ 101 List.[])))))))))))))))) (Syntax.ttcons Syntax.tnil (Syntax.ttcons Syntax.tnil (Syntax.ttcons (Syntax.tcons (Syntax.tyInt Syntax.w64) (Syntax.tcons (Syntax.tyInt Syntax.w64) Syntax.tnil)) (Syntax.ttcons Syntax.tnil (Syntax.ttcons (Syntax.tcons (Syntax.tyInt Syntax.w16) Syntax.tnil) (Syntax.ttcons Syntax.tnil (Syntax.ttcons (Syntax.tcons (Syntax.tyInt Syntax.w64) Syntax.tnil) (Syntax.ttcons Syntax.tnil Syntax.ttnil))))))))) (Syntax.tcons (Syntax.tyStruct (List._∷_ 115 (List._∷_ 113 (List._∷_ 108 (List._∷_ 99 (List._∷_ 97 (List._∷_ 114 (List._∷_ 100 (List._∷_ 58 (List._∷_ 58 (List._∷_ 83 (List._∷_ 113 (List._∷_ 108 (List._∷_ 67 (List._∷_ 97 (List._∷_ 114 (List._∷_ 100 List.[])))))))))))))))) (Syntax.tcons Syntax.tyBool (Syntax.tcons (Syntax.tyInt Syntax.w32) (Syntax.tcons (Syntax.tyArray (Syntax.tyInt Syntax.w8) 5) (Syntax.tcons (Syntax.tyArray (Syntax.tyInt Syntax.w8) 8) (Syntax.tcons (Syntax.tyInt Syntax.w8) (Syntax.tcons (Syntax.tyArray (Syntax.tyInt Syntax.w32) 6) (Syntax.tcons (Syntax.tyInt Syntax.w64) (Syntax.tcons (Syntax.tyInt Syntax.w32) (Syntax.tcons (Syntax.tyArray (Syntax.tyInt Syntax.w8) 11) (Syntax.tcons (Syntax.tyInt Syntax.w64) (Syntax.tcons (Syntax.tyInt Syntax.w64) Syntax.tnil)))))))))))) (Syntax.tcons (Syntax.tyInt Syntax.w64) Syntax.tnil))))) (List._∷_ (8, Rows'.any-gone (Syntax.tyEnum (List._∷_ 111 (List._∷_ 117 (List._∷_ 116 (List._∷_ 99 (List._∷_ 111 (List._∷_ 109 (List._∷_ 101 (List._∷_ 58 (List._∷_ 58 (List._∷_ 79 (List._∷_ 117 (List._∷_ 116 (List._∷_ 99 (List._∷_ 111 (List._∷_ 109 (List._∷_ 101 List.[])))))))))))))))) (Syntax.ttcons Syntax.tnil (Syntax.ttcons Syntax.tnil (Syntax.ttcons (Syntax.tcons (Syntax.tyInt Syntax.w64) (Syntax.tcons (Syntax.tyInt Syntax.w64) Syntax.tnil)) (Syntax.ttcons Syntax.tnil (Syntax.ttcons (Syntax.tcons (Syntax.tyInt Syntax.w16) Syntax.tnil) (Syntax.ttcons Syntax.tnil (Syntax.ttcons (Syntax.tcons (Syntax.tyInt Syntax.w64) Syntax.tnil) (Syntax.ttcons Syntax.tnil Syntax.ttnil)))))))))) (List._∷_ (9, Rows'.sc-here (Row.sInt Syntax.w64)) (List._∷_ (10, Rows'.whole (Declared'.row SqlCard.the-type)) (List._∷_ (11, Rows'.whole (Declared'.row Widths.the-type)) (List._∷_ (12, Rows'.any-gone (Syntax.tyInt Syntax.w64)) (List._∷_ (13, Rows'.any-gone (Syntax.tyRef Syntax.erased Syntax.mut (Syntax.tyArray ColumnMetadataRow.named 4096))) (List._∷_ (14, Rows'.any-gone (Syntax.tyStruct (List._∷_ 38 (List._∷_ 91 (List._∷_ 93 List.[]))) (Syntax.tcons (Syntax.tyRef Syntax.erased Syntax.mut ColumnMetadataRow.named) (Syntax.tcons (Syntax.tyInt Syntax.w64) Syntax.tnil)))) (List._∷_ (15, Rows'.any-gone Syntax.tyBool) List.[])))))))))))))))
+        g32 = List._∷_ (0, Rows'.any-gone (Syntax.tyInt Syntax.w64)) (List._∷_ (1, Relend.mslice-owed (Referent.rtF (Referent.fInt Syntax.w8)) (Syntax.tyRef (Syntax.named 0) Syntax.mut (Syntax.tyInt Syntax.w8)) 0 6 (Row.lease (κs .0) (qs .0))) (List._∷_ (2, Rows'.sc-here (Row.sInt Syntax.w64)) (List._∷_ (3, Rows'.sslice (Referent.rtF (Referent.fInt Syntax.w8)) (Syntax.tyRef (Syntax.named 1) Syntax.imm (Syntax.tyInt Syntax.w8)) 1) (List._∷_ (4, Mut.mslice (Referent.rtF (Referent.fInt Syntax.w8)) (Syntax.tyRef (Syntax.named 2) Syntax.mut (Syntax.tyInt Syntax.w8)) 2) (List._∷_ (5, Rows'.any-gone (ColumnMetadataRow.ty)) (List._∷_ (6, Rows.arrF (ColumnMetadataRow.RT) 4096 0) (List._∷_ (7, Rows'.any-gone (Syntax.tyStruct (List._∷_ 115 (List._∷_ 113 (List._∷_ 108 (List._∷_ 100 (List._∷_ 97 (List._∷_ 114 (List._∷_ 100 (List._∷_ 58 (List._∷_ 58 (List._∷_ 83 (List._∷_ 113 (List._∷_ 108 (List._∷_ 100 (List._∷_ 97 (List._∷_ 114 (List._∷_ 100 (List._∷_ 65 (List._∷_ 110 (List._∷_ 115 (List._∷_ 119 (List._∷_ 101 (List._∷_ 114 List.[])))))))))))))))))))))) (Syntax.tcons (Syntax.tyEnum (List._∷_ 111 (List._∷_ 117 (List._∷_ 116 (List._∷_ 99 (List._∷_ 111 (List._∷_ 109 (List._∷_ 101 (List._∷_ 58 (List._∷_ 58 (List._∷_ 79 (List._∷_ 117 (List._∷_ 116 (List._∷_ 99 (List._∷_ 111 (List._∷_ 109 (List._∷_ 101 List.[])))))))))))))))) (Syntax.ttcons Syntax.tnil (Syntax.ttcons Syntax.tnil (Syntax.ttcons (Syntax.tcons (Syntax.tyInt Syntax.w64) (Syntax.tcons (Syntax.tyInt Syntax.w64) Syntax.tnil)) (Syntax.ttcons Syntax.tnil (Syntax.ttcons (Syntax.tcons (Syntax.tyInt Syntax.w16) Syntax.tnil) (Syntax.ttcons Syntax.tnil (Syntax.ttcons (Syntax.tcons (Syntax.tyInt Syntax.w64) Syntax.tnil) (Syntax.ttcons Syntax.tnil (Syntax.ttcons (Syntax.tcons (Syntax.tyInt Syntax.w16) Syntax.tnil) Syntax.ttnil)))))))))) (Syntax.tcons (Syntax.tyStruct (List._∷_ 115 (List._∷_ 113 (List._∷_ 108 (List._∷_ 99 (List._∷_ 97 (List._∷_ 114 (List._∷_ 100 (List._∷_ 58 (List._∷_ 58 (List._∷_ 83 (List._∷_ 113 (List._∷_ 108 (List._∷_ 67 (List._∷_ 97 (List._∷_ 114 (List._∷_ 100 List.[])))))))))))))))) (Syntax.tcons Syntax.tyBool (Syntax.tcons (Syntax.tyInt Syntax.w32) (Syntax.tcons (Syntax.tyArray (Syntax.tyInt Syntax.w8) 5) (Syntax.tcons (Syntax.tyArray (Syntax.tyInt Syntax.w8) 8) (Syntax.tcons (Syntax.tyInt Syntax.w8) (Syntax.tcons (Syntax.tyArray (Syntax.tyInt Syntax.w32) 6) (Syntax.tcons (Syntax.tyInt Syntax.w64) (Syntax.tcons (Syntax.tyInt Syntax.w32) (Syntax.tcons (Syntax.tyArray (Syntax.tyInt Syntax.w8) 11) (Syntax.tcons (Syntax.tyInt Syntax.w64) (Syntax.tcons (Syntax.tyInt Syntax.w64) Syntax.tnil)))))))))))) (Syntax.tcons (Syntax.tyInt Syntax.w64) Syntax.tnil))))) (List._∷_ (8, Rows'.any-gone (Syntax.tyEnum (List._∷_ 111 (List._∷_ 117 (List._∷_ 116 (List._∷_ 99 (List._∷_ 111 (List._∷_ 109 (List._∷_ 101 (List._∷_ 58 (List._∷_ 58 (List._∷_ 79 (List._∷_ 117 (List._∷_ 116 (List._∷_ 99 (List._∷_ 111 (List._∷_ 109 (List._∷_ 101 List.[])))))))))))))))) (Syntax.ttcons Syntax.tnil (Syntax.ttcons Syntax.tnil (Syntax.ttcons (Syntax.tcons (Syntax.tyInt Syntax.w64) (Syntax.tcons (Syntax.tyInt Syntax.w64) Syntax.tnil)) (Syntax.ttcons Syntax.tnil (Syntax.ttcons (Syntax.tcons (Syntax.tyInt Syntax.w16) Syntax.tnil) (Syntax.ttcons Syntax.tnil (Syntax.ttcons (Syntax.tcons (Syntax.tyInt Syntax.w64) Syntax.tnil) (Syntax.ttcons Syntax.tnil (Syntax.ttcons (Syntax.tcons (Syntax.tyInt Syntax.w16) Syntax.tnil) Syntax.ttnil))))))))))) (List._∷_ (9, Rows'.sc-here (Row.sInt Syntax.w64)) (List._∷_ (10, Rows'.whole (Declared'.row SqlCard.the-type)) (List._∷_ (11, Rows'.whole (Declared'.row Widths.the-type)) (List._∷_ (12, Rows'.any-gone (Syntax.tyInt Syntax.w64)) (List._∷_ (13, Rows'.any-gone (Syntax.tyRef Syntax.erased Syntax.mut (Syntax.tyArray ColumnMetadataRow.named 4096))) (List._∷_ (14, Rows'.any-gone (Syntax.tyStruct (List._∷_ 38 (List._∷_ 91 (List._∷_ 93 List.[]))) (Syntax.tcons (Syntax.tyRef Syntax.erased Syntax.mut ColumnMetadataRow.named) (Syntax.tcons (Syntax.tyInt Syntax.w64) Syntax.tnil)))) (List._∷_ (15, Rows'.any-gone Syntax.tyBool) List.[])))))))))))))))
 
         abbrev g35 : List.List Row.Entry
-        g35 = List._∷_ (0, Rows'.any-gone (Syntax.tyInt Syntax.w64)) (List._∷_ (1, Relend.mslice-owed (Referent.rtF (Referent.fInt Syntax.w8)) (Syntax.tyRef (Syntax.named 0) Syntax.mut (Syntax.tyInt Syntax.w8)) 0 6 (Row.lease (κs .0) (qs .0))) (List._∷_ (2, Rows'.sc-here (Row.sInt Syntax.w64)) (List._∷_ (3, Rows'.sslice (Referent.rtF (Referent.fInt Syntax.w8)) (Syntax.tyRef (Syntax.named 1) Syntax.imm (Syntax.tyInt Syntax.w8)) 1) (List._∷_ (4, Relend.mslice-owed (Referent.rtF (Referent.fInt Syntax.w8)) (Syntax.tyRef (Syntax.named 2) Syntax.mut (Syntax.tyInt Syntax.w8)) 2 7 (Row.lease (κs .1 .1 .0) (qs .1 .1 .0))) (List._∷_ (5, Rows'.any-gone (ColumnMetadataRow.ty)) (List._∷_ (6, Rows.arrF (ColumnMetadataRow.RT) 4096 0) (List._∷_ (7, Rows'.any-gone (Syntax.tyStruct (List._∷_ 115 (List._∷_ 113 (List._∷_ 108 (List._∷_ 100 (List._∷_ 97 (List._∷_ 114 (List._∷_ 100 (List._∷_ 58 (List._∷_ 58 (List._∷_ 83 (List._∷_ 113 (List._∷_ 108 (List._∷_ 100 (List._∷_ 97 (List._∷_ 114 (List._∷_ 100 (List._∷_ 65 (List._∷_ 110 (List._∷_ 115 (List._∷_ 119 (List._∷_ 101 (List._∷_ 114 List.[])))))))))))))))))))))) (Syntax.tcons (Syntax.tyEnum (List._∷_ 111 (List._∷_ 117 (List._∷_ 116 (List._∷_ 99 (List._∷_ 111 (List._∷_ 109 (List._∷_ 101 (List._∷_ 58 (List._∷_ 58 (List._∷_ 79 (List._∷_ 117 (List._∷_ 116 (List._∷_ 99 (List._∷_ 111 (List._∷_ 109 (List._∷_ 101 List.[])))))))))))))))) (Syntax.ttcons Syntax.tnil (Syntax.ttcons Syntax.tnil (Syntax.ttcons (Syntax.tcons (Syntax.tyInt Syntax.w64) (Syntax.tcons (Syntax.tyInt Syntax.w64) Syntax.tnil)) (Syntax.ttcons Syntax.tnil (Syntax.ttcons (Syntax.tcons (Syntax.tyInt Syntax.w16) Syntax.tnil) (Syntax.ttcons Syntax.tnil (Syntax.ttcons (Syntax.tcons (Syntax.tyInt Syntax.w64) Syntax.tnil) (Syntax.ttcons Syntax.tnil Syntax.ttnil))))))))) (Syntax.tcons (Syntax.tyStruct (List._∷_ 115 (List._∷_ 113 (List._∷_ 108 (List._∷_ 99 (List._∷_ 97 (List._∷_ 114 (List._∷_ 100 (List._∷_ 58 (List._∷_ 58 (List._∷_ 83 (List._∷_ 113 (List._∷_ 108 (List._∷_ 67 (List._∷_ 97 (List._∷_ 114 (List._∷_ 100 List.[])))))))))))))))) (Syntax.tcons Syntax.tyBool (Syntax.tcons (Syntax.tyInt Syntax.w32) (Syntax.tcons (Syntax.tyArray (Syntax.tyInt Syntax.w8) 5) (Syntax.tcons (Syntax.tyArray (Syntax.tyInt Syntax.w8) 8) (Syntax.tcons (Syntax.tyInt Syntax.w8) (Syntax.tcons (Syntax.tyArray (Syntax.tyInt Syntax.w32) 6) (Syntax.tcons (Syntax.tyInt Syntax.w64) (Syntax.tcons (Syntax.tyInt Syntax.w32) (Syntax.tcons (Syntax.tyArray (Syntax.tyInt Syntax.w8) 11) (Syntax.tcons (Syntax.tyInt Syntax.w64) (Syntax.tcons (Syntax.tyInt Syntax.w64) Syntax.tnil)))))))))))) (Syntax.tcons (Syntax.tyInt Syntax.w64) Syntax.tnil))))) (List._∷_ (8, Rows'.any-gone (Syntax.tyEnum (List._∷_ 111 (List._∷_ 117 (List._∷_ 116 (List._∷_ 99 (List._∷_ 111 (List._∷_ 109 (List._∷_ 101 (List._∷_ 58 (List._∷_ 58 (List._∷_ 79 (List._∷_ 117 (List._∷_ 116 (List._∷_ 99 (List._∷_ 111 (List._∷_ 109 (List._∷_ 101 List.[])))))))))))))))) (Syntax.ttcons Syntax.tnil (Syntax.ttcons Syntax.tnil (Syntax.ttcons (Syntax.tcons (Syntax.tyInt Syntax.w64) (Syntax.tcons (Syntax.tyInt Syntax.w64) Syntax.tnil)) (Syntax.ttcons Syntax.tnil (Syntax.ttcons (Syntax.tcons (Syntax.tyInt Syntax.w16) Syntax.tnil) (Syntax.ttcons Syntax.tnil (Syntax.ttcons (Syntax.tcons (Syntax.tyInt Syntax.w64) Syntax.tnil) (Syntax.ttcons Syntax.tnil Syntax.ttnil)))))))))) (List._∷_ (9, Rows'.sc-here (Row.sInt Syntax.w64)) (List._∷_ (10, Rows'.whole (Declared'.row SqlCard.the-type)) (List._∷_ (11, Rows'.whole (Declared'.row Widths.the-type)) (List._∷_ (12, Rows'.any-gone (Syntax.tyInt Syntax.w64)) (List._∷_ (13, Rows'.any-gone (Syntax.tyRef Syntax.erased Syntax.mut (Syntax.tyArray ColumnMetadataRow.named 4096))) (List._∷_ (14, Rows'.any-gone (Syntax.tyStruct (List._∷_ 38 (List._∷_ 91 (List._∷_ 93 List.[]))) (Syntax.tcons (Syntax.tyRef Syntax.erased Syntax.mut ColumnMetadataRow.named) (Syntax.tcons (Syntax.tyInt Syntax.w64) Syntax.tnil)))) (List._∷_ (15, Rows'.any-gone Syntax.tyBool) List.[])))))))))))))))
+        g35 = List._∷_ (0, Rows'.any-gone (Syntax.tyInt Syntax.w64)) (List._∷_ (1, Relend.mslice-owed (Referent.rtF (Referent.fInt Syntax.w8)) (Syntax.tyRef (Syntax.named 0) Syntax.mut (Syntax.tyInt Syntax.w8)) 0 6 (Row.lease (κs .0) (qs .0))) (List._∷_ (2, Rows'.sc-here (Row.sInt Syntax.w64)) (List._∷_ (3, Rows'.sslice (Referent.rtF (Referent.fInt Syntax.w8)) (Syntax.tyRef (Syntax.named 1) Syntax.imm (Syntax.tyInt Syntax.w8)) 1) (List._∷_ (4, Relend.mslice-owed (Referent.rtF (Referent.fInt Syntax.w8)) (Syntax.tyRef (Syntax.named 2) Syntax.mut (Syntax.tyInt Syntax.w8)) 2 7 (Row.lease (κs .1 .1 .0) (qs .1 .1 .0))) (List._∷_ (5, Rows'.any-gone (ColumnMetadataRow.ty)) (List._∷_ (6, Rows.arrF (ColumnMetadataRow.RT) 4096 0) (List._∷_ (7, Rows'.any-gone (Syntax.tyStruct (List._∷_ 115 (List._∷_ 113 (List._∷_ 108 (List._∷_ 100 (List._∷_ 97 (List._∷_ 114 (List._∷_ 100 (List._∷_ 58 (List._∷_ 58 (List._∷_ 83 (List._∷_ 113 (List._∷_ 108 (List._∷_ 100 (List._∷_ 97 (List._∷_ 114 (List._∷_ 100 (List._∷_ 65 (List._∷_ 110 (List._∷_ 115 (List._∷_ 119 (List._∷_ 101 (List._∷_ 114 List.[])))))))))))))))))))))) (Syntax.tcons (Syntax.tyEnum (List._∷_ 111 (List._∷_ 117 (List._∷_ 116 (List._∷_ 99 (List._∷_ 111 (List._∷_ 109 (List._∷_ 101 (List._∷_ 58 (List._∷_ 58 (List._∷_ 79 (List._∷_ 117 (List._∷_ 116 (List._∷_ 99 (List._∷_ 111 (List._∷_ 109 (List._∷_ 101 List.[])))))))))))))))) (Syntax.ttcons Syntax.tnil (Syntax.ttcons Syntax.tnil (Syntax.ttcons (Syntax.tcons (Syntax.tyInt Syntax.w64) (Syntax.tcons (Syntax.tyInt Syntax.w64) Syntax.tnil)) (Syntax.ttcons Syntax.tnil (Syntax.ttcons (Syntax.tcons (Syntax.tyInt Syntax.w16) Syntax.tnil) (Syntax.ttcons Syntax.tnil (Syntax.ttcons (Syntax.tcons (Syntax.tyInt Syntax.w64) Syntax.tnil) (Syntax.ttcons Syntax.tnil (Syntax.ttcons (Syntax.tcons (Syntax.tyInt Syntax.w16) Syntax.tnil) Syntax.ttnil)))))))))) (Syntax.tcons (Syntax.tyStruct (List._∷_ 115 (List._∷_ 113 (List._∷_ 108 (List._∷_ 99 (List._∷_ 97 (List._∷_ 114 (List._∷_ 100 (List._∷_ 58 (List._∷_ 58 (List._∷_ 83 (List._∷_ 113 (List._∷_ 108 (List._∷_ 67 (List._∷_ 97 (List._∷_ 114 (List._∷_ 100 List.[])))))))))))))))) (Syntax.tcons Syntax.tyBool (Syntax.tcons (Syntax.tyInt Syntax.w32) (Syntax.tcons (Syntax.tyArray (Syntax.tyInt Syntax.w8) 5) (Syntax.tcons (Syntax.tyArray (Syntax.tyInt Syntax.w8) 8) (Syntax.tcons (Syntax.tyInt Syntax.w8) (Syntax.tcons (Syntax.tyArray (Syntax.tyInt Syntax.w32) 6) (Syntax.tcons (Syntax.tyInt Syntax.w64) (Syntax.tcons (Syntax.tyInt Syntax.w32) (Syntax.tcons (Syntax.tyArray (Syntax.tyInt Syntax.w8) 11) (Syntax.tcons (Syntax.tyInt Syntax.w64) (Syntax.tcons (Syntax.tyInt Syntax.w64) Syntax.tnil)))))))))))) (Syntax.tcons (Syntax.tyInt Syntax.w64) Syntax.tnil))))) (List._∷_ (8, Rows'.any-gone (Syntax.tyEnum (List._∷_ 111 (List._∷_ 117 (List._∷_ 116 (List._∷_ 99 (List._∷_ 111 (List._∷_ 109 (List._∷_ 101 (List._∷_ 58 (List._∷_ 58 (List._∷_ 79 (List._∷_ 117 (List._∷_ 116 (List._∷_ 99 (List._∷_ 111 (List._∷_ 109 (List._∷_ 101 List.[])))))))))))))))) (Syntax.ttcons Syntax.tnil (Syntax.ttcons Syntax.tnil (Syntax.ttcons (Syntax.tcons (Syntax.tyInt Syntax.w64) (Syntax.tcons (Syntax.tyInt Syntax.w64) Syntax.tnil)) (Syntax.ttcons Syntax.tnil (Syntax.ttcons (Syntax.tcons (Syntax.tyInt Syntax.w16) Syntax.tnil) (Syntax.ttcons Syntax.tnil (Syntax.ttcons (Syntax.tcons (Syntax.tyInt Syntax.w64) Syntax.tnil) (Syntax.ttcons Syntax.tnil (Syntax.ttcons (Syntax.tcons (Syntax.tyInt Syntax.w16) Syntax.tnil) Syntax.ttnil))))))))))) (List._∷_ (9, Rows'.sc-here (Row.sInt Syntax.w64)) (List._∷_ (10, Rows'.whole (Declared'.row SqlCard.the-type)) (List._∷_ (11, Rows'.whole (Declared'.row Widths.the-type)) (List._∷_ (12, Rows'.any-gone (Syntax.tyInt Syntax.w64)) (List._∷_ (13, Rows'.any-gone (Syntax.tyRef Syntax.erased Syntax.mut (Syntax.tyArray ColumnMetadataRow.named 4096))) (List._∷_ (14, Rows'.any-gone (Syntax.tyStruct (List._∷_ 38 (List._∷_ 91 (List._∷_ 93 List.[]))) (Syntax.tcons (Syntax.tyRef Syntax.erased Syntax.mut ColumnMetadataRow.named) (Syntax.tcons (Syntax.tyInt Syntax.w64) Syntax.tnil)))) (List._∷_ (15, Rows'.any-gone Syntax.tyBool) List.[])))))))))))))))
 
         abbrev g38 : List.List Row.Entry
-        g38 = List._∷_ (0, Rows'.any-gone (Syntax.tyInt Syntax.w64)) (List._∷_ (1, Relend.mslice-owed (Referent.rtF (Referent.fInt Syntax.w8)) (Syntax.tyRef (Syntax.named 0) Syntax.mut (Syntax.tyInt Syntax.w8)) 0 6 (Row.lease (κs .0) (qs .0))) (List._∷_ (2, Rows'.sc-here (Row.sInt Syntax.w64)) (List._∷_ (3, Rows'.sslice (Referent.rtF (Referent.fInt Syntax.w8)) (Syntax.tyRef (Syntax.named 1) Syntax.imm (Syntax.tyInt Syntax.w8)) 1) (List._∷_ (4, Relend.mslice-owed (Referent.rtF (Referent.fInt Syntax.w8)) (Syntax.tyRef (Syntax.named 2) Syntax.mut (Syntax.tyInt Syntax.w8)) 2 7 (Row.lease (κs .1 .1 .0) (qs .1 .1 .0))) (List._∷_ (5, Rows'.any-gone (ColumnMetadataRow.ty)) (List._∷_ (6, Rows.arrF (ColumnMetadataRow.RT) 4096 0) (List._∷_ (7, Rows'.any-gone (Syntax.tyStruct (List._∷_ 115 (List._∷_ 113 (List._∷_ 108 (List._∷_ 100 (List._∷_ 97 (List._∷_ 114 (List._∷_ 100 (List._∷_ 58 (List._∷_ 58 (List._∷_ 83 (List._∷_ 113 (List._∷_ 108 (List._∷_ 100 (List._∷_ 97 (List._∷_ 114 (List._∷_ 100 (List._∷_ 65 (List._∷_ 110 (List._∷_ 115 (List._∷_ 119 (List._∷_ 101 (List._∷_ 114 List.[])))))))))))))))))))))) (Syntax.tcons (Syntax.tyEnum (List._∷_ 111 (List._∷_ 117 (List._∷_ 116 (List._∷_ 99 (List._∷_ 111 (List._∷_ 109 (List._∷_ 101 (List._∷_ 58 (List._∷_ 58 (List._∷_ 79 (List._∷_ 117 (List._∷_ 116 (List._∷_ 99 (List._∷_ 111 (List._∷_ 109 (List._∷_ 101 List.[])))))))))))))))) (Syntax.ttcons Syntax.tnil (Syntax.ttcons Syntax.tnil (Syntax.ttcons (Syntax.tcons (Syntax.tyInt Syntax.w64) (Syntax.tcons (Syntax.tyInt Syntax.w64) Syntax.tnil)) (Syntax.ttcons Syntax.tnil (Syntax.ttcons (Syntax.tcons (Syntax.tyInt Syntax.w16) Syntax.tnil) (Syntax.ttcons Syntax.tnil (Syntax.ttcons (Syntax.tcons (Syntax.tyInt Syntax.w64) Syntax.tnil) (Syntax.ttcons Syntax.tnil Syntax.ttnil))))))))) (Syntax.tcons (Syntax.tyStruct (List._∷_ 115 (List._∷_ 113 (List._∷_ 108 (List._∷_ 99 (List._∷_ 97 (List._∷_ 114 (List._∷_ 100 (List._∷_ 58 (List._∷_ 58 (List._∷_ 83 (List._∷_ 113 (List._∷_ 108 (List._∷_ 67 (List._∷_ 97 (List._∷_ 114 (List._∷_ 100 List.[])))))))))))))))) (Syntax.tcons Syntax.tyBool (Syntax.tcons (Syntax.tyInt Syntax.w32) (Syntax.tcons (Syntax.tyArray (Syntax.tyInt Syntax.w8) 5) (Syntax.tcons (Syntax.tyArray (Syntax.tyInt Syntax.w8) 8) (Syntax.tcons (Syntax.tyInt Syntax.w8) (Syntax.tcons (Syntax.tyArray (Syntax.tyInt Syntax.w32) 6) (Syntax.tcons (Syntax.tyInt Syntax.w64) (Syntax.tcons (Syntax.tyInt Syntax.w32) (Syntax.tcons (Syntax.tyArray (Syntax.tyInt Syntax.w8) 11) (Syntax.tcons (Syntax.tyInt Syntax.w64) (Syntax.tcons (Syntax.tyInt Syntax.w64) Syntax.tnil)))))))))))) (Syntax.tcons (Syntax.tyInt Syntax.w64) Syntax.tnil))))) (List._∷_ (8, Rows'.any-gone (Syntax.tyEnum (List._∷_ 111 (List._∷_ 117 (List._∷_ 116 (List._∷_ 99 (List._∷_ 111 (List._∷_ 109 (List._∷_ 101 (List._∷_ 58 (List._∷_ 58 (List._∷_ 79 (List._∷_ 117 (List._∷_ 116 (List._∷_ 99 (List._∷_ 111 (List._∷_ 109 (List._∷_ 101 List.[])))))))))))))))) (Syntax.ttcons Syntax.tnil (Syntax.ttcons Syntax.tnil (Syntax.ttcons (Syntax.tcons (Syntax.tyInt Syntax.w64) (Syntax.tcons (Syntax.tyInt Syntax.w64) Syntax.tnil)) (Syntax.ttcons Syntax.tnil (Syntax.ttcons (Syntax.tcons (Syntax.tyInt Syntax.w16) Syntax.tnil) (Syntax.ttcons Syntax.tnil (Syntax.ttcons (Syntax.tcons (Syntax.tyInt Syntax.w64) Syntax.tnil) (Syntax.ttcons Syntax.tnil Syntax.ttnil)))))))))) (List._∷_ (9, Rows'.sc-here (Row.sInt Syntax.w64)) (List._∷_ (10, Rows'.whole (Declared'.row SqlCard.the-type)) (List._∷_ (11, Rows'.whole (Declared'.row Widths.the-type)) (List._∷_ (12, Rows'.sc-here (Row.sInt Syntax.w64)) (List._∷_ (13, Rows'.any-gone (Syntax.tyRef Syntax.erased Syntax.mut (Syntax.tyArray ColumnMetadataRow.named 4096))) (List._∷_ (14, Rows'.any-gone (Syntax.tyStruct (List._∷_ 38 (List._∷_ 91 (List._∷_ 93 List.[]))) (Syntax.tcons (Syntax.tyRef Syntax.erased Syntax.mut ColumnMetadataRow.named) (Syntax.tcons (Syntax.tyInt Syntax.w64) Syntax.tnil)))) (List._∷_ (15, Rows'.any-gone Syntax.tyBool) List.[])))))))))))))))
+        g38 = List._∷_ (0, Rows'.any-gone (Syntax.tyInt Syntax.w64)) (List._∷_ (1, Relend.mslice-owed (Referent.rtF (Referent.fInt Syntax.w8)) (Syntax.tyRef (Syntax.named 0) Syntax.mut (Syntax.tyInt Syntax.w8)) 0 6 (Row.lease (κs .0) (qs .0))) (List._∷_ (2, Rows'.sc-here (Row.sInt Syntax.w64)) (List._∷_ (3, Rows'.sslice (Referent.rtF (Referent.fInt Syntax.w8)) (Syntax.tyRef (Syntax.named 1) Syntax.imm (Syntax.tyInt Syntax.w8)) 1) (List._∷_ (4, Relend.mslice-owed (Referent.rtF (Referent.fInt Syntax.w8)) (Syntax.tyRef (Syntax.named 2) Syntax.mut (Syntax.tyInt Syntax.w8)) 2 7 (Row.lease (κs .1 .1 .0) (qs .1 .1 .0))) (List._∷_ (5, Rows'.any-gone (ColumnMetadataRow.ty)) (List._∷_ (6, Rows.arrF (ColumnMetadataRow.RT) 4096 0) (List._∷_ (7, Rows'.any-gone (Syntax.tyStruct (List._∷_ 115 (List._∷_ 113 (List._∷_ 108 (List._∷_ 100 (List._∷_ 97 (List._∷_ 114 (List._∷_ 100 (List._∷_ 58 (List._∷_ 58 (List._∷_ 83 (List._∷_ 113 (List._∷_ 108 (List._∷_ 100 (List._∷_ 97 (List._∷_ 114 (List._∷_ 100 (List._∷_ 65 (List._∷_ 110 (List._∷_ 115 (List._∷_ 119 (List._∷_ 101 (List._∷_ 114 List.[])))))))))))))))))))))) (Syntax.tcons (Syntax.tyEnum (List._∷_ 111 (List._∷_ 117 (List._∷_ 116 (List._∷_ 99 (List._∷_ 111 (List._∷_ 109 (List._∷_ 101 (List._∷_ 58 (List._∷_ 58 (List._∷_ 79 (List._∷_ 117 (List._∷_ 116 (List._∷_ 99 (List._∷_ 111 (List._∷_ 109 (List._∷_ 101 List.[])))))))))))))))) (Syntax.ttcons Syntax.tnil (Syntax.ttcons Syntax.tnil (Syntax.ttcons (Syntax.tcons (Syntax.tyInt Syntax.w64) (Syntax.tcons (Syntax.tyInt Syntax.w64) Syntax.tnil)) (Syntax.ttcons Syntax.tnil (Syntax.ttcons (Syntax.tcons (Syntax.tyInt Syntax.w16) Syntax.tnil) (Syntax.ttcons Syntax.tnil (Syntax.ttcons (Syntax.tcons (Syntax.tyInt Syntax.w64) Syntax.tnil) (Syntax.ttcons Syntax.tnil (Syntax.ttcons (Syntax.tcons (Syntax.tyInt Syntax.w16) Syntax.tnil) Syntax.ttnil)))))))))) (Syntax.tcons (Syntax.tyStruct (List._∷_ 115 (List._∷_ 113 (List._∷_ 108 (List._∷_ 99 (List._∷_ 97 (List._∷_ 114 (List._∷_ 100 (List._∷_ 58 (List._∷_ 58 (List._∷_ 83 (List._∷_ 113 (List._∷_ 108 (List._∷_ 67 (List._∷_ 97 (List._∷_ 114 (List._∷_ 100 List.[])))))))))))))))) (Syntax.tcons Syntax.tyBool (Syntax.tcons (Syntax.tyInt Syntax.w32) (Syntax.tcons (Syntax.tyArray (Syntax.tyInt Syntax.w8) 5) (Syntax.tcons (Syntax.tyArray (Syntax.tyInt Syntax.w8) 8) (Syntax.tcons (Syntax.tyInt Syntax.w8) (Syntax.tcons (Syntax.tyArray (Syntax.tyInt Syntax.w32) 6) (Syntax.tcons (Syntax.tyInt Syntax.w64) (Syntax.tcons (Syntax.tyInt Syntax.w32) (Syntax.tcons (Syntax.tyArray (Syntax.tyInt Syntax.w8) 11) (Syntax.tcons (Syntax.tyInt Syntax.w64) (Syntax.tcons (Syntax.tyInt Syntax.w64) Syntax.tnil)))))))))))) (Syntax.tcons (Syntax.tyInt Syntax.w64) Syntax.tnil))))) (List._∷_ (8, Rows'.any-gone (Syntax.tyEnum (List._∷_ 111 (List._∷_ 117 (List._∷_ 116 (List._∷_ 99 (List._∷_ 111 (List._∷_ 109 (List._∷_ 101 (List._∷_ 58 (List._∷_ 58 (List._∷_ 79 (List._∷_ 117 (List._∷_ 116 (List._∷_ 99 (List._∷_ 111 (List._∷_ 109 (List._∷_ 101 List.[])))))))))))))))) (Syntax.ttcons Syntax.tnil (Syntax.ttcons Syntax.tnil (Syntax.ttcons (Syntax.tcons (Syntax.tyInt Syntax.w64) (Syntax.tcons (Syntax.tyInt Syntax.w64) Syntax.tnil)) (Syntax.ttcons Syntax.tnil (Syntax.ttcons (Syntax.tcons (Syntax.tyInt Syntax.w16) Syntax.tnil) (Syntax.ttcons Syntax.tnil (Syntax.ttcons (Syntax.tcons (Syntax.tyInt Syntax.w64) Syntax.tnil) (Syntax.ttcons Syntax.tnil (Syntax.ttcons (Syntax.tcons (Syntax.tyInt Syntax.w16) Syntax.tnil) Syntax.ttnil))))))))))) (List._∷_ (9, Rows'.sc-here (Row.sInt Syntax.w64)) (List._∷_ (10, Rows'.whole (Declared'.row SqlCard.the-type)) (List._∷_ (11, Rows'.whole (Declared'.row Widths.the-type)) (List._∷_ (12, Rows'.sc-here (Row.sInt Syntax.w64)) (List._∷_ (13, Rows'.any-gone (Syntax.tyRef Syntax.erased Syntax.mut (Syntax.tyArray ColumnMetadataRow.named 4096))) (List._∷_ (14, Rows'.any-gone (Syntax.tyStruct (List._∷_ 38 (List._∷_ 91 (List._∷_ 93 List.[]))) (Syntax.tcons (Syntax.tyRef Syntax.erased Syntax.mut ColumnMetadataRow.named) (Syntax.tcons (Syntax.tyInt Syntax.w64) Syntax.tnil)))) (List._∷_ (15, Rows'.any-gone Syntax.tyBool) List.[])))))))))))))))
 
         abbrev g40 : List.List Row.Entry
-        g40 = List._∷_ (0, Rows'.any-gone (Syntax.tyInt Syntax.w64)) (List._∷_ (1, Relend.mslice-owed (Referent.rtF (Referent.fInt Syntax.w8)) (Syntax.tyRef (Syntax.named 0) Syntax.mut (Syntax.tyInt Syntax.w8)) 0 6 (Row.lease (κs .0) (qs .0))) (List._∷_ (2, Rows'.sc-here (Row.sInt Syntax.w64)) (List._∷_ (3, Rows'.sslice (Referent.rtF (Referent.fInt Syntax.w8)) (Syntax.tyRef (Syntax.named 1) Syntax.imm (Syntax.tyInt Syntax.w8)) 1) (List._∷_ (4, Relend.mslice-owed (Referent.rtF (Referent.fInt Syntax.w8)) (Syntax.tyRef (Syntax.named 2) Syntax.mut (Syntax.tyInt Syntax.w8)) 2 7 (Row.lease (κs .1 .1 .0) (qs .1 .1 .0))) (List._∷_ (5, Rows'.any-gone (ColumnMetadataRow.ty)) (List._∷_ (6, Rows.arrF (ColumnMetadataRow.RT) 4096 0) (List._∷_ (7, Rows'.any-gone (Syntax.tyStruct (List._∷_ 115 (List._∷_ 113 (List._∷_ 108 (List._∷_ 100 (List._∷_ 97 (List._∷_ 114 (List._∷_ 100 (List._∷_ 58 (List._∷_ 58 (List._∷_ 83 (List._∷_ 113 (List._∷_ 108 (List._∷_ 100 (List._∷_ 97 (List._∷_ 114 (List._∷_ 100 (List._∷_ 65 (List._∷_ 110 (List._∷_ 115 (List._∷_ 119 (List._∷_ 101 (List._∷_ 114 List.[])))))))))))))))))))))) (Syntax.tcons (Syntax.tyEnum (List._∷_ 111 (List._∷_ 117 (List._∷_ 116 (List._∷_ 99 (List._∷_ 111 (List._∷_ 109 (List._∷_ 101 (List._∷_ 58 (List._∷_ 58 (List._∷_ 79 (List._∷_ 117 (List._∷_ 116 (List._∷_ 99 (List._∷_ 111 (List._∷_ 109 (List._∷_ 101 List.[])))))))))))))))) (Syntax.ttcons Syntax.tnil (Syntax.ttcons Syntax.tnil (Syntax.ttcons (Syntax.tcons (Syntax.tyInt Syntax.w64) (Syntax.tcons (Syntax.tyInt Syntax.w64) Syntax.tnil)) (Syntax.ttcons Syntax.tnil (Syntax.ttcons (Syntax.tcons (Syntax.tyInt Syntax.w16) Syntax.tnil) (Syntax.ttcons Syntax.tnil (Syntax.ttcons (Syntax.tcons (Syntax.tyInt Syntax.w64) Syntax.tnil) (Syntax.ttcons Syntax.tnil Syntax.ttnil))))))))) (Syntax.tcons (Syntax.tyStruct (List._∷_ 115 (List._∷_ 113 (List._∷_ 108 (List._∷_ 99 (List._∷_ 97 (List._∷_ 114 (List._∷_ 100 (List._∷_ 58 (List._∷_ 58 (List._∷_ 83 (List._∷_ 113 (List._∷_ 108 (List._∷_ 67 (List._∷_ 97 (List._∷_ 114 (List._∷_ 100 List.[])))))))))))))))) (Syntax.tcons Syntax.tyBool (Syntax.tcons (Syntax.tyInt Syntax.w32) (Syntax.tcons (Syntax.tyArray (Syntax.tyInt Syntax.w8) 5) (Syntax.tcons (Syntax.tyArray (Syntax.tyInt Syntax.w8) 8) (Syntax.tcons (Syntax.tyInt Syntax.w8) (Syntax.tcons (Syntax.tyArray (Syntax.tyInt Syntax.w32) 6) (Syntax.tcons (Syntax.tyInt Syntax.w64) (Syntax.tcons (Syntax.tyInt Syntax.w32) (Syntax.tcons (Syntax.tyArray (Syntax.tyInt Syntax.w8) 11) (Syntax.tcons (Syntax.tyInt Syntax.w64) (Syntax.tcons (Syntax.tyInt Syntax.w64) Syntax.tnil)))))))))))) (Syntax.tcons (Syntax.tyInt Syntax.w64) Syntax.tnil))))) (List._∷_ (8, Rows'.any-gone (Syntax.tyEnum (List._∷_ 111 (List._∷_ 117 (List._∷_ 116 (List._∷_ 99 (List._∷_ 111 (List._∷_ 109 (List._∷_ 101 (List._∷_ 58 (List._∷_ 58 (List._∷_ 79 (List._∷_ 117 (List._∷_ 116 (List._∷_ 99 (List._∷_ 111 (List._∷_ 109 (List._∷_ 101 List.[])))))))))))))))) (Syntax.ttcons Syntax.tnil (Syntax.ttcons Syntax.tnil (Syntax.ttcons (Syntax.tcons (Syntax.tyInt Syntax.w64) (Syntax.tcons (Syntax.tyInt Syntax.w64) Syntax.tnil)) (Syntax.ttcons Syntax.tnil (Syntax.ttcons (Syntax.tcons (Syntax.tyInt Syntax.w16) Syntax.tnil) (Syntax.ttcons Syntax.tnil (Syntax.ttcons (Syntax.tcons (Syntax.tyInt Syntax.w64) Syntax.tnil) (Syntax.ttcons Syntax.tnil Syntax.ttnil)))))))))) (List._∷_ (9, Rows'.sc-here (Row.sInt Syntax.w64)) (List._∷_ (10, Rows'.any-gone (Syntax.tyStruct (List._∷_ 115 (List._∷_ 113 (List._∷_ 108 (List._∷_ 99 (List._∷_ 97 (List._∷_ 114 (List._∷_ 100 (List._∷_ 58 (List._∷_ 58 (List._∷_ 83 (List._∷_ 113 (List._∷_ 108 (List._∷_ 67 (List._∷_ 97 (List._∷_ 114 (List._∷_ 100 List.[])))))))))))))))) (Syntax.tcons Syntax.tyBool (Syntax.tcons (Syntax.tyInt Syntax.w32) (Syntax.tcons (Syntax.tyArray (Syntax.tyInt Syntax.w8) 5) (Syntax.tcons (Syntax.tyArray (Syntax.tyInt Syntax.w8) 8) (Syntax.tcons (Syntax.tyInt Syntax.w8) (Syntax.tcons (Syntax.tyArray (Syntax.tyInt Syntax.w32) 6) (Syntax.tcons (Syntax.tyInt Syntax.w64) (Syntax.tcons (Syntax.tyInt Syntax.w32) (Syntax.tcons (Syntax.tyArray (Syntax.tyInt Syntax.w8) 11) (Syntax.tcons (Syntax.tyInt Syntax.w64) (Syntax.tcons (Syntax.tyInt Syntax.w64) Syntax.tnil))))))))))))) (List._∷_ (11, Rows'.whole (Declared'.row Widths.the-type)) (List._∷_ (12, Rows'.sc-here (Row.sInt Syntax.w64)) (List._∷_ (13, Rows'.any-gone (Syntax.tyRef Syntax.erased Syntax.mut (Syntax.tyArray ColumnMetadataRow.named 4096))) (List._∷_ (14, Rows'.any-gone (Syntax.tyStruct (List._∷_ 38 (List._∷_ 91 (List._∷_ 93 List.[]))) (Syntax.tcons (Syntax.tyRef Syntax.erased Syntax.mut ColumnMetadataRow.named) (Syntax.tcons (Syntax.tyInt Syntax.w64) Syntax.tnil)))) (List._∷_ (15, Rows'.any-gone Syntax.tyBool) List.[])))))))))))))))
+        g40 = List._∷_ (0, Rows'.any-gone (Syntax.tyInt Syntax.w64)) (List._∷_ (1, Relend.mslice-owed (Referent.rtF (Referent.fInt Syntax.w8)) (Syntax.tyRef (Syntax.named 0) Syntax.mut (Syntax.tyInt Syntax.w8)) 0 6 (Row.lease (κs .0) (qs .0))) (List._∷_ (2, Rows'.sc-here (Row.sInt Syntax.w64)) (List._∷_ (3, Rows'.sslice (Referent.rtF (Referent.fInt Syntax.w8)) (Syntax.tyRef (Syntax.named 1) Syntax.imm (Syntax.tyInt Syntax.w8)) 1) (List._∷_ (4, Relend.mslice-owed (Referent.rtF (Referent.fInt Syntax.w8)) (Syntax.tyRef (Syntax.named 2) Syntax.mut (Syntax.tyInt Syntax.w8)) 2 7 (Row.lease (κs .1 .1 .0) (qs .1 .1 .0))) (List._∷_ (5, Rows'.any-gone (ColumnMetadataRow.ty)) (List._∷_ (6, Rows.arrF (ColumnMetadataRow.RT) 4096 0) (List._∷_ (7, Rows'.any-gone (Syntax.tyStruct (List._∷_ 115 (List._∷_ 113 (List._∷_ 108 (List._∷_ 100 (List._∷_ 97 (List._∷_ 114 (List._∷_ 100 (List._∷_ 58 (List._∷_ 58 (List._∷_ 83 (List._∷_ 113 (List._∷_ 108 (List._∷_ 100 (List._∷_ 97 (List._∷_ 114 (List._∷_ 100 (List._∷_ 65 (List._∷_ 110 (List._∷_ 115 (List._∷_ 119 (List._∷_ 101 (List._∷_ 114 List.[])))))))))))))))))))))) (Syntax.tcons (Syntax.tyEnum (List._∷_ 111 (List._∷_ 117 (List._∷_ 116 (List._∷_ 99 (List._∷_ 111 (List._∷_ 109 (List._∷_ 101 (List._∷_ 58 (List._∷_ 58 (List._∷_ 79 (List._∷_ 117 (List._∷_ 116 (List._∷_ 99 (List._∷_ 111 (List._∷_ 109 (List._∷_ 101 List.[])))))))))))))))) (Syntax.ttcons Syntax.tnil (Syntax.ttcons Syntax.tnil (Syntax.ttcons (Syntax.tcons (Syntax.tyInt Syntax.w64) (Syntax.tcons (Syntax.tyInt Syntax.w64) Syntax.tnil)) (Syntax.ttcons Syntax.tnil (Syntax.ttcons (Syntax.tcons (Syntax.tyInt Syntax.w16) Syntax.tnil) (Syntax.ttcons Syntax.tnil (Syntax.ttcons (Syntax.tcons (Syntax.tyInt Syntax.w64) Syntax.tnil) (Syntax.ttcons Syntax.tnil (Syntax.ttcons (Syntax.tcons (Syntax.tyInt Syntax.w16) Syntax.tnil) Syntax.ttnil)))))))))) (Syntax.tcons (Syntax.tyStruct (List._∷_ 115 (List._∷_ 113 (List._∷_ 108 (List._∷_ 99 (List._∷_ 97 (List._∷_ 114 (List._∷_ 100 (List._∷_ 58 (List._∷_ 58 (List._∷_ 83 (List._∷_ 113 (List._∷_ 108 (List._∷_ 67 (List._∷_ 97 (List._∷_ 114 (List._∷_ 100 List.[])))))))))))))))) (Syntax.tcons Syntax.tyBool (Syntax.tcons (Syntax.tyInt Syntax.w32) (Syntax.tcons (Syntax.tyArray (Syntax.tyInt Syntax.w8) 5) (Syntax.tcons (Syntax.tyArray (Syntax.tyInt Syntax.w8) 8) (Syntax.tcons (Syntax.tyInt Syntax.w8) (Syntax.tcons (Syntax.tyArray (Syntax.tyInt Syntax.w32) 6) (Syntax.tcons (Syntax.tyInt Syntax.w64) (Syntax.tcons (Syntax.tyInt Syntax.w32) (Syntax.tcons (Syntax.tyArray (Syntax.tyInt Syntax.w8) 11) (Syntax.tcons (Syntax.tyInt Syntax.w64) (Syntax.tcons (Syntax.tyInt Syntax.w64) Syntax.tnil)))))))))))) (Syntax.tcons (Syntax.tyInt Syntax.w64) Syntax.tnil))))) (List._∷_ (8, Rows'.any-gone (Syntax.tyEnum (List._∷_ 111 (List._∷_ 117 (List._∷_ 116 (List._∷_ 99 (List._∷_ 111 (List._∷_ 109 (List._∷_ 101 (List._∷_ 58 (List._∷_ 58 (List._∷_ 79 (List._∷_ 117 (List._∷_ 116 (List._∷_ 99 (List._∷_ 111 (List._∷_ 109 (List._∷_ 101 List.[])))))))))))))))) (Syntax.ttcons Syntax.tnil (Syntax.ttcons Syntax.tnil (Syntax.ttcons (Syntax.tcons (Syntax.tyInt Syntax.w64) (Syntax.tcons (Syntax.tyInt Syntax.w64) Syntax.tnil)) (Syntax.ttcons Syntax.tnil (Syntax.ttcons (Syntax.tcons (Syntax.tyInt Syntax.w16) Syntax.tnil) (Syntax.ttcons Syntax.tnil (Syntax.ttcons (Syntax.tcons (Syntax.tyInt Syntax.w64) Syntax.tnil) (Syntax.ttcons Syntax.tnil (Syntax.ttcons (Syntax.tcons (Syntax.tyInt Syntax.w16) Syntax.tnil) Syntax.ttnil))))))))))) (List._∷_ (9, Rows'.sc-here (Row.sInt Syntax.w64)) (List._∷_ (10, Rows'.any-gone (Syntax.tyStruct (List._∷_ 115 (List._∷_ 113 (List._∷_ 108 (List._∷_ 99 (List._∷_ 97 (List._∷_ 114 (List._∷_ 100 (List._∷_ 58 (List._∷_ 58 (List._∷_ 83 (List._∷_ 113 (List._∷_ 108 (List._∷_ 67 (List._∷_ 97 (List._∷_ 114 (List._∷_ 100 List.[])))))))))))))))) (Syntax.tcons Syntax.tyBool (Syntax.tcons (Syntax.tyInt Syntax.w32) (Syntax.tcons (Syntax.tyArray (Syntax.tyInt Syntax.w8) 5) (Syntax.tcons (Syntax.tyArray (Syntax.tyInt Syntax.w8) 8) (Syntax.tcons (Syntax.tyInt Syntax.w8) (Syntax.tcons (Syntax.tyArray (Syntax.tyInt Syntax.w32) 6) (Syntax.tcons (Syntax.tyInt Syntax.w64) (Syntax.tcons (Syntax.tyInt Syntax.w32) (Syntax.tcons (Syntax.tyArray (Syntax.tyInt Syntax.w8) 11) (Syntax.tcons (Syntax.tyInt Syntax.w64) (Syntax.tcons (Syntax.tyInt Syntax.w64) Syntax.tnil))))))))))))) (List._∷_ (11, Rows'.whole (Declared'.row Widths.the-type)) (List._∷_ (12, Rows'.sc-here (Row.sInt Syntax.w64)) (List._∷_ (13, Rows'.any-gone (Syntax.tyRef Syntax.erased Syntax.mut (Syntax.tyArray ColumnMetadataRow.named 4096))) (List._∷_ (14, Rows'.any-gone (Syntax.tyStruct (List._∷_ 38 (List._∷_ 91 (List._∷_ 93 List.[]))) (Syntax.tcons (Syntax.tyRef Syntax.erased Syntax.mut ColumnMetadataRow.named) (Syntax.tcons (Syntax.tyInt Syntax.w64) Syntax.tnil)))) (List._∷_ (15, Rows'.any-gone Syntax.tyBool) List.[])))))))))))))))
 
         abbrev g41 : List.List Row.Entry
-        g41 = List._∷_ (0, Rows'.any-gone (Syntax.tyInt Syntax.w64)) (List._∷_ (1, Mut.mslice (Referent.rtF (Referent.fInt Syntax.w8)) (Syntax.tyRef (Syntax.named 0) Syntax.mut (Syntax.tyInt Syntax.w8)) 0) (List._∷_ (2, Rows'.sc-here (Row.sInt Syntax.w64)) (List._∷_ (3, Rows'.sslice (Referent.rtF (Referent.fInt Syntax.w8)) (Syntax.tyRef (Syntax.named 1) Syntax.imm (Syntax.tyInt Syntax.w8)) 1) (List._∷_ (4, Relend.mslice-owed (Referent.rtF (Referent.fInt Syntax.w8)) (Syntax.tyRef (Syntax.named 2) Syntax.mut (Syntax.tyInt Syntax.w8)) 2 7 (Row.lease (κs .1 .1 .0) (qs .1 .1 .0))) (List._∷_ (5, Rows'.any-gone (ColumnMetadataRow.ty)) (List._∷_ (6, Rows.arrF (ColumnMetadataRow.RT) 4096 0) (List._∷_ (7, Rows'.any-gone (Syntax.tyStruct (List._∷_ 115 (List._∷_ 113 (List._∷_ 108 (List._∷_ 100 (List._∷_ 97 (List._∷_ 114 (List._∷_ 100 (List._∷_ 58 (List._∷_ 58 (List._∷_ 83 (List._∷_ 113 (List._∷_ 108 (List._∷_ 100 (List._∷_ 97 (List._∷_ 114 (List._∷_ 100 (List._∷_ 65 (List._∷_ 110 (List._∷_ 115 (List._∷_ 119 (List._∷_ 101 (List._∷_ 114 List.[])))))))))))))))))))))) (Syntax.tcons (Syntax.tyEnum (List._∷_ 111 (List._∷_ 117 (List._∷_ 116 (List._∷_ 99 (List._∷_ 111 (List._∷_ 109 (List._∷_ 101 (List._∷_ 58 (List._∷_ 58 (List._∷_ 79 (List._∷_ 117 (List._∷_ 116 (List._∷_ 99 (List._∷_ 111 (List._∷_ 109 (List._∷_ 101 List.[])))))))))))))))) (Syntax.ttcons Syntax.tnil (Syntax.ttcons Syntax.tnil (Syntax.ttcons (Syntax.tcons (Syntax.tyInt Syntax.w64) (Syntax.tcons (Syntax.tyInt Syntax.w64) Syntax.tnil)) (Syntax.ttcons Syntax.tnil (Syntax.ttcons (Syntax.tcons (Syntax.tyInt Syntax.w16) Syntax.tnil) (Syntax.ttcons Syntax.tnil (Syntax.ttcons (Syntax.tcons (Syntax.tyInt Syntax.w64) Syntax.tnil) (Syntax.ttcons Syntax.tnil Syntax.ttnil))))))))) (Syntax.tcons (Syntax.tyStruct (List._∷_ 115 (List._∷_ 113 (List._∷_ 108 (List._∷_ 99 (List._∷_ 97 (List._∷_ 114 (List._∷_ 100 (List._∷_ 58 (List._∷_ 58 (List._∷_ 83 (List._∷_ 113 (List._∷_ 108 (List._∷_ 67 (List._∷_ 97 (List._∷_ 114 (List._∷_ 100 List.[])))))))))))))))) (Syntax.tcons Syntax.tyBool (Syntax.tcons (Syntax.tyInt Syntax.w32) (Syntax.tcons (Syntax.tyArray (Syntax.tyInt Syntax.w8) 5) (Syntax.tcons (Syntax.tyArray (Syntax.tyInt Syntax.w8) 8) (Syntax.tcons (Syntax.tyInt Syntax.w8) (Syntax.tcons (Syntax.tyArray (Syntax.tyInt Syntax.w32) 6) (Syntax.tcons (Syntax.tyInt Syntax.w64) (Syntax.tcons (Syntax.tyInt Syntax.w32) (Syntax.tcons (Syntax.tyArray (Syntax.tyInt Syntax.w8) 11) (Syntax.tcons (Syntax.tyInt Syntax.w64) (Syntax.tcons (Syntax.tyInt Syntax.w64) Syntax.tnil)))))))))))) (Syntax.tcons (Syntax.tyInt Syntax.w64) Syntax.tnil))))) (List._∷_ (8, Rows'.any-gone (Syntax.tyEnum (List._∷_ 111 (List._∷_ 117 (List._∷_ 116 (List._∷_ 99 (List._∷_ 111 (List._∷_ 109 (List._∷_ 101 (List._∷_ 58 (List._∷_ 58 (List._∷_ 79 (List._∷_ 117 (List._∷_ 116 (List._∷_ 99 (List._∷_ 111 (List._∷_ 109 (List._∷_ 101 List.[])))))))))))))))) (Syntax.ttcons Syntax.tnil (Syntax.ttcons Syntax.tnil (Syntax.ttcons (Syntax.tcons (Syntax.tyInt Syntax.w64) (Syntax.tcons (Syntax.tyInt Syntax.w64) Syntax.tnil)) (Syntax.ttcons Syntax.tnil (Syntax.ttcons (Syntax.tcons (Syntax.tyInt Syntax.w16) Syntax.tnil) (Syntax.ttcons Syntax.tnil (Syntax.ttcons (Syntax.tcons (Syntax.tyInt Syntax.w64) Syntax.tnil) (Syntax.ttcons Syntax.tnil Syntax.ttnil)))))))))) (List._∷_ (9, Rows'.sc-here (Row.sInt Syntax.w64)) (List._∷_ (10, Rows'.any-gone (Syntax.tyStruct (List._∷_ 115 (List._∷_ 113 (List._∷_ 108 (List._∷_ 99 (List._∷_ 97 (List._∷_ 114 (List._∷_ 100 (List._∷_ 58 (List._∷_ 58 (List._∷_ 83 (List._∷_ 113 (List._∷_ 108 (List._∷_ 67 (List._∷_ 97 (List._∷_ 114 (List._∷_ 100 List.[])))))))))))))))) (Syntax.tcons Syntax.tyBool (Syntax.tcons (Syntax.tyInt Syntax.w32) (Syntax.tcons (Syntax.tyArray (Syntax.tyInt Syntax.w8) 5) (Syntax.tcons (Syntax.tyArray (Syntax.tyInt Syntax.w8) 8) (Syntax.tcons (Syntax.tyInt Syntax.w8) (Syntax.tcons (Syntax.tyArray (Syntax.tyInt Syntax.w32) 6) (Syntax.tcons (Syntax.tyInt Syntax.w64) (Syntax.tcons (Syntax.tyInt Syntax.w32) (Syntax.tcons (Syntax.tyArray (Syntax.tyInt Syntax.w8) 11) (Syntax.tcons (Syntax.tyInt Syntax.w64) (Syntax.tcons (Syntax.tyInt Syntax.w64) Syntax.tnil))))))))))))) (List._∷_ (11, Rows'.whole (Declared'.row Widths.the-type)) (List._∷_ (12, Rows'.sc-here (Row.sInt Syntax.w64)) (List._∷_ (13, Rows'.any-gone (Syntax.tyRef Syntax.erased Syntax.mut (Syntax.tyArray ColumnMetadataRow.named 4096))) (List._∷_ (14, Rows'.any-gone (Syntax.tyStruct (List._∷_ 38 (List._∷_ 91 (List._∷_ 93 List.[]))) (Syntax.tcons (Syntax.tyRef Syntax.erased Syntax.mut ColumnMetadataRow.named) (Syntax.tcons (Syntax.tyInt Syntax.w64) Syntax.tnil)))) (List._∷_ (15, Rows'.any-gone Syntax.tyBool) List.[])))))))))))))))
+        g41 = List._∷_ (0, Rows'.any-gone (Syntax.tyInt Syntax.w64)) (List._∷_ (1, Mut.mslice (Referent.rtF (Referent.fInt Syntax.w8)) (Syntax.tyRef (Syntax.named 0) Syntax.mut (Syntax.tyInt Syntax.w8)) 0) (List._∷_ (2, Rows'.sc-here (Row.sInt Syntax.w64)) (List._∷_ (3, Rows'.sslice (Referent.rtF (Referent.fInt Syntax.w8)) (Syntax.tyRef (Syntax.named 1) Syntax.imm (Syntax.tyInt Syntax.w8)) 1) (List._∷_ (4, Relend.mslice-owed (Referent.rtF (Referent.fInt Syntax.w8)) (Syntax.tyRef (Syntax.named 2) Syntax.mut (Syntax.tyInt Syntax.w8)) 2 7 (Row.lease (κs .1 .1 .0) (qs .1 .1 .0))) (List._∷_ (5, Rows'.any-gone (ColumnMetadataRow.ty)) (List._∷_ (6, Rows.arrF (ColumnMetadataRow.RT) 4096 0) (List._∷_ (7, Rows'.any-gone (Syntax.tyStruct (List._∷_ 115 (List._∷_ 113 (List._∷_ 108 (List._∷_ 100 (List._∷_ 97 (List._∷_ 114 (List._∷_ 100 (List._∷_ 58 (List._∷_ 58 (List._∷_ 83 (List._∷_ 113 (List._∷_ 108 (List._∷_ 100 (List._∷_ 97 (List._∷_ 114 (List._∷_ 100 (List._∷_ 65 (List._∷_ 110 (List._∷_ 115 (List._∷_ 119 (List._∷_ 101 (List._∷_ 114 List.[])))))))))))))))))))))) (Syntax.tcons (Syntax.tyEnum (List._∷_ 111 (List._∷_ 117 (List._∷_ 116 (List._∷_ 99 (List._∷_ 111 (List._∷_ 109 (List._∷_ 101 (List._∷_ 58 (List._∷_ 58 (List._∷_ 79 (List._∷_ 117 (List._∷_ 116 (List._∷_ 99 (List._∷_ 111 (List._∷_ 109 (List._∷_ 101 List.[])))))))))))))))) (Syntax.ttcons Syntax.tnil (Syntax.ttcons Syntax.tnil (Syntax.ttcons (Syntax.tcons (Syntax.tyInt Syntax.w64) (Syntax.tcons (Syntax.tyInt Syntax.w64) Syntax.tnil)) (Syntax.ttcons Syntax.tnil (Syntax.ttcons (Syntax.tcons (Syntax.tyInt Syntax.w16) Syntax.tnil) (Syntax.ttcons Syntax.tnil (Syntax.ttcons (Syntax.tcons (Syntax.tyInt Syntax.w64) Syntax.tnil) (Syntax.ttcons Syntax.tnil (Syntax.ttcons (Syntax.tcons (Syntax.tyInt Syntax.w16) Syntax.tnil) Syntax.ttnil)))))))))) (Syntax.tcons (Syntax.tyStruct (List._∷_ 115 (List._∷_ 113 (List._∷_ 108 (List._∷_ 99 (List._∷_ 97 (List._∷_ 114 (List._∷_ 100 (List._∷_ 58 (List._∷_ 58 (List._∷_ 83 (List._∷_ 113 (List._∷_ 108 (List._∷_ 67 (List._∷_ 97 (List._∷_ 114 (List._∷_ 100 List.[])))))))))))))))) (Syntax.tcons Syntax.tyBool (Syntax.tcons (Syntax.tyInt Syntax.w32) (Syntax.tcons (Syntax.tyArray (Syntax.tyInt Syntax.w8) 5) (Syntax.tcons (Syntax.tyArray (Syntax.tyInt Syntax.w8) 8) (Syntax.tcons (Syntax.tyInt Syntax.w8) (Syntax.tcons (Syntax.tyArray (Syntax.tyInt Syntax.w32) 6) (Syntax.tcons (Syntax.tyInt Syntax.w64) (Syntax.tcons (Syntax.tyInt Syntax.w32) (Syntax.tcons (Syntax.tyArray (Syntax.tyInt Syntax.w8) 11) (Syntax.tcons (Syntax.tyInt Syntax.w64) (Syntax.tcons (Syntax.tyInt Syntax.w64) Syntax.tnil)))))))))))) (Syntax.tcons (Syntax.tyInt Syntax.w64) Syntax.tnil))))) (List._∷_ (8, Rows'.any-gone (Syntax.tyEnum (List._∷_ 111 (List._∷_ 117 (List._∷_ 116 (List._∷_ 99 (List._∷_ 111 (List._∷_ 109 (List._∷_ 101 (List._∷_ 58 (List._∷_ 58 (List._∷_ 79 (List._∷_ 117 (List._∷_ 116 (List._∷_ 99 (List._∷_ 111 (List._∷_ 109 (List._∷_ 101 List.[])))))))))))))))) (Syntax.ttcons Syntax.tnil (Syntax.ttcons Syntax.tnil (Syntax.ttcons (Syntax.tcons (Syntax.tyInt Syntax.w64) (Syntax.tcons (Syntax.tyInt Syntax.w64) Syntax.tnil)) (Syntax.ttcons Syntax.tnil (Syntax.ttcons (Syntax.tcons (Syntax.tyInt Syntax.w16) Syntax.tnil) (Syntax.ttcons Syntax.tnil (Syntax.ttcons (Syntax.tcons (Syntax.tyInt Syntax.w64) Syntax.tnil) (Syntax.ttcons Syntax.tnil (Syntax.ttcons (Syntax.tcons (Syntax.tyInt Syntax.w16) Syntax.tnil) Syntax.ttnil))))))))))) (List._∷_ (9, Rows'.sc-here (Row.sInt Syntax.w64)) (List._∷_ (10, Rows'.any-gone (Syntax.tyStruct (List._∷_ 115 (List._∷_ 113 (List._∷_ 108 (List._∷_ 99 (List._∷_ 97 (List._∷_ 114 (List._∷_ 100 (List._∷_ 58 (List._∷_ 58 (List._∷_ 83 (List._∷_ 113 (List._∷_ 108 (List._∷_ 67 (List._∷_ 97 (List._∷_ 114 (List._∷_ 100 List.[])))))))))))))))) (Syntax.tcons Syntax.tyBool (Syntax.tcons (Syntax.tyInt Syntax.w32) (Syntax.tcons (Syntax.tyArray (Syntax.tyInt Syntax.w8) 5) (Syntax.tcons (Syntax.tyArray (Syntax.tyInt Syntax.w8) 8) (Syntax.tcons (Syntax.tyInt Syntax.w8) (Syntax.tcons (Syntax.tyArray (Syntax.tyInt Syntax.w32) 6) (Syntax.tcons (Syntax.tyInt Syntax.w64) (Syntax.tcons (Syntax.tyInt Syntax.w32) (Syntax.tcons (Syntax.tyArray (Syntax.tyInt Syntax.w8) 11) (Syntax.tcons (Syntax.tyInt Syntax.w64) (Syntax.tcons (Syntax.tyInt Syntax.w64) Syntax.tnil))))))))))))) (List._∷_ (11, Rows'.whole (Declared'.row Widths.the-type)) (List._∷_ (12, Rows'.sc-here (Row.sInt Syntax.w64)) (List._∷_ (13, Rows'.any-gone (Syntax.tyRef Syntax.erased Syntax.mut (Syntax.tyArray ColumnMetadataRow.named 4096))) (List._∷_ (14, Rows'.any-gone (Syntax.tyStruct (List._∷_ 38 (List._∷_ 91 (List._∷_ 93 List.[]))) (Syntax.tcons (Syntax.tyRef Syntax.erased Syntax.mut ColumnMetadataRow.named) (Syntax.tcons (Syntax.tyInt Syntax.w64) Syntax.tnil)))) (List._∷_ (15, Rows'.any-gone Syntax.tyBool) List.[])))))))))))))))
 
         abbrev g44 : List.List Row.Entry
-        g44 = List._∷_ (0, Rows'.any-gone (Syntax.tyInt Syntax.w64)) (List._∷_ (1, Relend.mslice-owed (Referent.rtF (Referent.fInt Syntax.w8)) (Syntax.tyRef (Syntax.named 0) Syntax.mut (Syntax.tyInt Syntax.w8)) 0 8 (Row.lease (κs .0) (qs .0))) (List._∷_ (2, Rows'.sc-here (Row.sInt Syntax.w64)) (List._∷_ (3, Rows'.sslice (Referent.rtF (Referent.fInt Syntax.w8)) (Syntax.tyRef (Syntax.named 1) Syntax.imm (Syntax.tyInt Syntax.w8)) 1) (List._∷_ (4, Mut.mslice (Referent.rtF (Referent.fInt Syntax.w8)) (Syntax.tyRef (Syntax.named 2) Syntax.mut (Syntax.tyInt Syntax.w8)) 2) (List._∷_ (5, Rows'.any-gone (ColumnMetadataRow.ty)) (List._∷_ (6, Rows.arrF (ColumnMetadataRow.RT) 4096 0) (List._∷_ (7, Rows'.any-gone (Syntax.tyStruct (List._∷_ 115 (List._∷_ 113 (List._∷_ 108 (List._∷_ 100 (List._∷_ 97 (List._∷_ 114 (List._∷_ 100 (List._∷_ 58 (List._∷_ 58 (List._∷_ 83 (List._∷_ 113 (List._∷_ 108 (List._∷_ 100 (List._∷_ 97 (List._∷_ 114 (List._∷_ 100 (List._∷_ 65 (List._∷_ 110 (List._∷_ 115 (List._∷_ 119 (List._∷_ 101 (List._∷_ 114 List.[])))))))))))))))))))))) (Syntax.tcons (Syntax.tyEnum (List._∷_ 111 (List._∷_ 117 (List._∷_ 116 (List._∷_ 99 (List._∷_ 111 (List._∷_ 109 (List._∷_ 101 (List._∷_ 58 (List._∷_ 58 (List._∷_ 79 (List._∷_ 117 (List._∷_ 116 (List._∷_ 99 (List._∷_ 111 (List._∷_ 109 (List._∷_ 101 List.[])))))))))))))))) (Syntax.ttcons Syntax.tnil (Syntax.ttcons Syntax.tnil (Syntax.ttcons (Syntax.tcons (Syntax.tyInt Syntax.w64) (Syntax.tcons (Syntax.tyInt Syntax.w64) Syntax.tnil)) (Syntax.ttcons Syntax.tnil (Syntax.ttcons (Syntax.tcons (Syntax.tyInt Syntax.w16) Syntax.tnil) (Syntax.ttcons Syntax.tnil (Syntax.ttcons (Syntax.tcons (Syntax.tyInt Syntax.w64) Syntax.tnil) (Syntax.ttcons Syntax.tnil Syntax.ttnil))))))))) (Syntax.tcons (Syntax.tyStruct (List._∷_ 115 (List._∷_ 113 (List._∷_ 108 (List._∷_ 99 (List._∷_ 97 (List._∷_ 114 (List._∷_ 100 (List._∷_ 58 (List._∷_ 58 (List._∷_ 83 (List._∷_ 113 (List._∷_ 108 (List._∷_ 67 (List._∷_ 97 (List._∷_ 114 (List._∷_ 100 List.[])))))))))))))))) (Syntax.tcons Syntax.tyBool (Syntax.tcons (Syntax.tyInt Syntax.w32) (Syntax.tcons (Syntax.tyArray (Syntax.tyInt Syntax.w8) 5) (Syntax.tcons (Syntax.tyArray (Syntax.tyInt Syntax.w8) 8) (Syntax.tcons (Syntax.tyInt Syntax.w8) (Syntax.tcons (Syntax.tyArray (Syntax.tyInt Syntax.w32) 6) (Syntax.tcons (Syntax.tyInt Syntax.w64) (Syntax.tcons (Syntax.tyInt Syntax.w32) (Syntax.tcons (Syntax.tyArray (Syntax.tyInt Syntax.w8) 11) (Syntax.tcons (Syntax.tyInt Syntax.w64) (Syntax.tcons (Syntax.tyInt Syntax.w64) Syntax.tnil)))))))))))) (Syntax.tcons (Syntax.tyInt Syntax.w64) Syntax.tnil))))) (List._∷_ (8, Rows'.any-gone (Syntax.tyEnum (List._∷_ 111 (List._∷_ 117 (List._∷_ 116 (List._∷_ 99 (List._∷_ 111 (List._∷_ 109 (List._∷_ 101 (List._∷_ 58 (List._∷_ 58 (List._∷_ 79 (List._∷_ 117 (List._∷_ 116 (List._∷_ 99 (List._∷_ 111 (List._∷_ 109 (List._∷_ 101 List.[])))))))))))))))) (Syntax.ttcons Syntax.tnil (Syntax.ttcons Syntax.tnil (Syntax.ttcons (Syntax.tcons (Syntax.tyInt Syntax.w64) (Syntax.tcons (Syntax.tyInt Syntax.w64) Syntax.tnil)) (Syntax.ttcons Syntax.tnil (Syntax.ttcons (Syntax.tcons (Syntax.tyInt Syntax.w16) Syntax.tnil) (Syntax.ttcons Syntax.tnil (Syntax.ttcons (Syntax.tcons (Syntax.tyInt Syntax.w64) Syntax.tnil) (Syntax.ttcons Syntax.tnil Syntax.ttnil)))))))))) (List._∷_ (9, Rows'.sc-here (Row.sInt Syntax.w64)) (List._∷_ (10, Rows'.any-gone (Syntax.tyStruct (List._∷_ 115 (List._∷_ 113 (List._∷_ 108 (List._∷_ 99 (List._∷_ 97 (List._∷_ 114 (List._∷_ 100 (List._∷_ 58 (List._∷_ 58 (List._∷_ 83 (List._∷_ 113 (List._∷_ 108 (List._∷_ 67 (List._∷_ 97 (List._∷_ 114 (List._∷_ 100 List.[])))))))))))))))) (Syntax.tcons Syntax.tyBool (Syntax.tcons (Syntax.tyInt Syntax.w32) (Syntax.tcons (Syntax.tyArray (Syntax.tyInt Syntax.w8) 5) (Syntax.tcons (Syntax.tyArray (Syntax.tyInt Syntax.w8) 8) (Syntax.tcons (Syntax.tyInt Syntax.w8) (Syntax.tcons (Syntax.tyArray (Syntax.tyInt Syntax.w32) 6) (Syntax.tcons (Syntax.tyInt Syntax.w64) (Syntax.tcons (Syntax.tyInt Syntax.w32) (Syntax.tcons (Syntax.tyArray (Syntax.tyInt Syntax.w8) 11) (Syntax.tcons (Syntax.tyInt Syntax.w64) (Syntax.tcons (Syntax.tyInt Syntax.w64) Syntax.tnil))))))))))))) (List._∷_ (11, Rows'.whole (Declared'.row Widths.the-type)) (List._∷_ (12, Rows'.sc-here (Row.sInt Syntax.w64)) (List._∷_ (13, Rows'.any-gone (Syntax.tyRef Syntax.erased Syntax.mut (Syntax.tyArray ColumnMetadataRow.named 4096))) (List._∷_ (14, Rows'.any-gone (Syntax.tyStruct (List._∷_ 38 (List._∷_ 91 (List._∷_ 93 List.[]))) (Syntax.tcons (Syntax.tyRef Syntax.erased Syntax.mut ColumnMetadataRow.named) (Syntax.tcons (Syntax.tyInt Syntax.w64) Syntax.tnil)))) (List._∷_ (15, Rows'.any-gone Syntax.tyBool) List.[])))))))))))))))
+        g44 = List._∷_ (0, Rows'.any-gone (Syntax.tyInt Syntax.w64)) (List._∷_ (1, Relend.mslice-owed (Referent.rtF (Referent.fInt Syntax.w8)) (Syntax.tyRef (Syntax.named 0) Syntax.mut (Syntax.tyInt Syntax.w8)) 0 8 (Row.lease (κs .0) (qs .0))) (List._∷_ (2, Rows'.sc-here (Row.sInt Syntax.w64)) (List._∷_ (3, Rows'.sslice (Referent.rtF (Referent.fInt Syntax.w8)) (Syntax.tyRef (Syntax.named 1) Syntax.imm (Syntax.tyInt Syntax.w8)) 1) (List._∷_ (4, Mut.mslice (Referent.rtF (Referent.fInt Syntax.w8)) (Syntax.tyRef (Syntax.named 2) Syntax.mut (Syntax.tyInt Syntax.w8)) 2) (List._∷_ (5, Rows'.any-gone (ColumnMetadataRow.ty)) (List._∷_ (6, Rows.arrF (ColumnMetadataRow.RT) 4096 0) (List._∷_ (7, Rows'.any-gone (Syntax.tyStruct (List._∷_ 115 (List._∷_ 113 (List._∷_ 108 (List._∷_ 100 (List._∷_ 97 (List._∷_ 114 (List._∷_ 100 (List._∷_ 58 (List._∷_ 58 (List._∷_ 83 (List._∷_ 113 (List._∷_ 108 (List._∷_ 100 (List._∷_ 97 (List._∷_ 114 (List._∷_ 100 (List._∷_ 65 (List._∷_ 110 (List._∷_ 115 (List._∷_ 119 (List._∷_ 101 (List._∷_ 114 List.[])))))))))))))))))))))) (Syntax.tcons (Syntax.tyEnum (List._∷_ 111 (List._∷_ 117 (List._∷_ 116 (List._∷_ 99 (List._∷_ 111 (List._∷_ 109 (List._∷_ 101 (List._∷_ 58 (List._∷_ 58 (List._∷_ 79 (List._∷_ 117 (List._∷_ 116 (List._∷_ 99 (List._∷_ 111 (List._∷_ 109 (List._∷_ 101 List.[])))))))))))))))) (Syntax.ttcons Syntax.tnil (Syntax.ttcons Syntax.tnil (Syntax.ttcons (Syntax.tcons (Syntax.tyInt Syntax.w64) (Syntax.tcons (Syntax.tyInt Syntax.w64) Syntax.tnil)) (Syntax.ttcons Syntax.tnil (Syntax.ttcons (Syntax.tcons (Syntax.tyInt Syntax.w16) Syntax.tnil) (Syntax.ttcons Syntax.tnil (Syntax.ttcons (Syntax.tcons (Syntax.tyInt Syntax.w64) Syntax.tnil) (Syntax.ttcons Syntax.tnil (Syntax.ttcons (Syntax.tcons (Syntax.tyInt Syntax.w16) Syntax.tnil) Syntax.ttnil)))))))))) (Syntax.tcons (Syntax.tyStruct (List._∷_ 115 (List._∷_ 113 (List._∷_ 108 (List._∷_ 99 (List._∷_ 97 (List._∷_ 114 (List._∷_ 100 (List._∷_ 58 (List._∷_ 58 (List._∷_ 83 (List._∷_ 113 (List._∷_ 108 (List._∷_ 67 (List._∷_ 97 (List._∷_ 114 (List._∷_ 100 List.[])))))))))))))))) (Syntax.tcons Syntax.tyBool (Syntax.tcons (Syntax.tyInt Syntax.w32) (Syntax.tcons (Syntax.tyArray (Syntax.tyInt Syntax.w8) 5) (Syntax.tcons (Syntax.tyArray (Syntax.tyInt Syntax.w8) 8) (Syntax.tcons (Syntax.tyInt Syntax.w8) (Syntax.tcons (Syntax.tyArray (Syntax.tyInt Syntax.w32) 6) (Syntax.tcons (Syntax.tyInt Syntax.w64) (Syntax.tcons (Syntax.tyInt Syntax.w32) (Syntax.tcons (Syntax.tyArray (Syntax.tyInt Syntax.w8) 11) (Syntax.tcons (Syntax.tyInt Syntax.w64) (Syntax.tcons (Syntax.tyInt Syntax.w64) Syntax.tnil)))))))))))) (Syntax.tcons (Syntax.tyInt Syntax.w64) Syntax.tnil))))) (List._∷_ (8, Rows'.any-gone (Syntax.tyEnum (List._∷_ 111 (List._∷_ 117 (List._∷_ 116 (List._∷_ 99 (List._∷_ 111 (List._∷_ 109 (List._∷_ 101 (List._∷_ 58 (List._∷_ 58 (List._∷_ 79 (List._∷_ 117 (List._∷_ 116 (List._∷_ 99 (List._∷_ 111 (List._∷_ 109 (List._∷_ 101 List.[])))))))))))))))) (Syntax.ttcons Syntax.tnil (Syntax.ttcons Syntax.tnil (Syntax.ttcons (Syntax.tcons (Syntax.tyInt Syntax.w64) (Syntax.tcons (Syntax.tyInt Syntax.w64) Syntax.tnil)) (Syntax.ttcons Syntax.tnil (Syntax.ttcons (Syntax.tcons (Syntax.tyInt Syntax.w16) Syntax.tnil) (Syntax.ttcons Syntax.tnil (Syntax.ttcons (Syntax.tcons (Syntax.tyInt Syntax.w64) Syntax.tnil) (Syntax.ttcons Syntax.tnil (Syntax.ttcons (Syntax.tcons (Syntax.tyInt Syntax.w16) Syntax.tnil) Syntax.ttnil))))))))))) (List._∷_ (9, Rows'.sc-here (Row.sInt Syntax.w64)) (List._∷_ (10, Rows'.any-gone (Syntax.tyStruct (List._∷_ 115 (List._∷_ 113 (List._∷_ 108 (List._∷_ 99 (List._∷_ 97 (List._∷_ 114 (List._∷_ 100 (List._∷_ 58 (List._∷_ 58 (List._∷_ 83 (List._∷_ 113 (List._∷_ 108 (List._∷_ 67 (List._∷_ 97 (List._∷_ 114 (List._∷_ 100 List.[])))))))))))))))) (Syntax.tcons Syntax.tyBool (Syntax.tcons (Syntax.tyInt Syntax.w32) (Syntax.tcons (Syntax.tyArray (Syntax.tyInt Syntax.w8) 5) (Syntax.tcons (Syntax.tyArray (Syntax.tyInt Syntax.w8) 8) (Syntax.tcons (Syntax.tyInt Syntax.w8) (Syntax.tcons (Syntax.tyArray (Syntax.tyInt Syntax.w32) 6) (Syntax.tcons (Syntax.tyInt Syntax.w64) (Syntax.tcons (Syntax.tyInt Syntax.w32) (Syntax.tcons (Syntax.tyArray (Syntax.tyInt Syntax.w8) 11) (Syntax.tcons (Syntax.tyInt Syntax.w64) (Syntax.tcons (Syntax.tyInt Syntax.w64) Syntax.tnil))))))))))))) (List._∷_ (11, Rows'.whole (Declared'.row Widths.the-type)) (List._∷_ (12, Rows'.sc-here (Row.sInt Syntax.w64)) (List._∷_ (13, Rows'.any-gone (Syntax.tyRef Syntax.erased Syntax.mut (Syntax.tyArray ColumnMetadataRow.named 4096))) (List._∷_ (14, Rows'.any-gone (Syntax.tyStruct (List._∷_ 38 (List._∷_ 91 (List._∷_ 93 List.[]))) (Syntax.tcons (Syntax.tyRef Syntax.erased Syntax.mut ColumnMetadataRow.named) (Syntax.tcons (Syntax.tyInt Syntax.w64) Syntax.tnil)))) (List._∷_ (15, Rows'.any-gone Syntax.tyBool) List.[])))))))))))))))
 
         abbrev g47 : List.List Row.Entry
-        g47 = List._∷_ (0, Rows'.any-gone (Syntax.tyInt Syntax.w64)) (List._∷_ (1, Relend.mslice-owed (Referent.rtF (Referent.fInt Syntax.w8)) (Syntax.tyRef (Syntax.named 0) Syntax.mut (Syntax.tyInt Syntax.w8)) 0 8 (Row.lease (κs .0) (qs .0))) (List._∷_ (2, Rows'.sc-here (Row.sInt Syntax.w64)) (List._∷_ (3, Rows'.sslice (Referent.rtF (Referent.fInt Syntax.w8)) (Syntax.tyRef (Syntax.named 1) Syntax.imm (Syntax.tyInt Syntax.w8)) 1) (List._∷_ (4, Mut.mslice (Referent.rtF (Referent.fInt Syntax.w8)) (Syntax.tyRef (Syntax.named 2) Syntax.mut (Syntax.tyInt Syntax.w8)) 2) (List._∷_ (5, Rows'.any-gone (ColumnMetadataRow.ty)) (List._∷_ (6, Rows.arr-shrP (ColumnMetadataRow.RT) 4096 9) (List._∷_ (7, Rows'.any-gone (Syntax.tyStruct (List._∷_ 115 (List._∷_ 113 (List._∷_ 108 (List._∷_ 100 (List._∷_ 97 (List._∷_ 114 (List._∷_ 100 (List._∷_ 58 (List._∷_ 58 (List._∷_ 83 (List._∷_ 113 (List._∷_ 108 (List._∷_ 100 (List._∷_ 97 (List._∷_ 114 (List._∷_ 100 (List._∷_ 65 (List._∷_ 110 (List._∷_ 115 (List._∷_ 119 (List._∷_ 101 (List._∷_ 114 List.[])))))))))))))))))))))) (Syntax.tcons (Syntax.tyEnum (List._∷_ 111 (List._∷_ 117 (List._∷_ 116 (List._∷_ 99 (List._∷_ 111 (List._∷_ 109 (List._∷_ 101 (List._∷_ 58 (List._∷_ 58 (List._∷_ 79 (List._∷_ 117 (List._∷_ 116 (List._∷_ 99 (List._∷_ 111 (List._∷_ 109 (List._∷_ 101 List.[])))))))))))))))) (Syntax.ttcons Syntax.tnil (Syntax.ttcons Syntax.tnil (Syntax.ttcons (Syntax.tcons (Syntax.tyInt Syntax.w64) (Syntax.tcons (Syntax.tyInt Syntax.w64) Syntax.tnil)) (Syntax.ttcons Syntax.tnil (Syntax.ttcons (Syntax.tcons (Syntax.tyInt Syntax.w16) Syntax.tnil) (Syntax.ttcons Syntax.tnil (Syntax.ttcons (Syntax.tcons (Syntax.tyInt Syntax.w64) Syntax.tnil) (Syntax.ttcons Syntax.tnil Syntax.ttnil))))))))) (Syntax.tcons (Syntax.tyStruct (List._∷_ 115 (List._∷_ 113 (List._∷_ 108 (List._∷_ 99 (List._∷_ 97 (List._∷_ 114 (List._∷_ 100 (List._∷_ 58 (List._∷_ 58 (List._∷_ 83 (List._∷_ 113 (List._∷_ 108 (List._∷_ 67 (List._∷_ 97 (List._∷_ 114 (List._∷_ 100 List.[])))))))))))))))) (Syntax.tcons Syntax.tyBool (Syntax.tcons (Syntax.tyInt Syntax.w32) (Syntax.tcons (Syntax.tyArray (Syntax.tyInt Syntax.w8) 5) (Syntax.tcons (Syntax.tyArray (Syntax.tyInt Syntax.w8) 8) (Syntax.tcons (Syntax.tyInt Syntax.w8) (Syntax.tcons (Syntax.tyArray (Syntax.tyInt Syntax.w32) 6) (Syntax.tcons (Syntax.tyInt Syntax.w64) (Syntax.tcons (Syntax.tyInt Syntax.w32) (Syntax.tcons (Syntax.tyArray (Syntax.tyInt Syntax.w8) 11) (Syntax.tcons (Syntax.tyInt Syntax.w64) (Syntax.tcons (Syntax.tyInt Syntax.w64) Syntax.tnil)))))))))))) (Syntax.tcons (Syntax.tyInt Syntax.w64) Syntax.tnil))))) (List._∷_ (8, Rows'.any-gone (Syntax.tyEnum (List._∷_ 111 (List._∷_ 117 (List._∷_ 116 (List._∷_ 99 (List._∷_ 111 (List._∷_ 109 (List._∷_ 101 (List._∷_ 58 (List._∷_ 58 (List._∷_ 79 (List._∷_ 117 (List._∷_ 116 (List._∷_ 99 (List._∷_ 111 (List._∷_ 109 (List._∷_ 101 List.[])))))))))))))))) (Syntax.ttcons Syntax.tnil (Syntax.ttcons Syntax.tnil (Syntax.ttcons (Syntax.tcons (Syntax.tyInt Syntax.w64) (Syntax.tcons (Syntax.tyInt Syntax.w64) Syntax.tnil)) (Syntax.ttcons Syntax.tnil (Syntax.ttcons (Syntax.tcons (Syntax.tyInt Syntax.w16) Syntax.tnil) (Syntax.ttcons Syntax.tnil (Syntax.ttcons (Syntax.tcons (Syntax.tyInt Syntax.w64) Syntax.tnil) (Syntax.ttcons Syntax.tnil Syntax.ttnil)))))))))) (List._∷_ (9, Rows'.sc-here (Row.sInt Syntax.w64)) (List._∷_ (10, Rows'.any-gone (Syntax.tyStruct (List._∷_ 115 (List._∷_ 113 (List._∷_ 108 (List._∷_ 99 (List._∷_ 97 (List._∷_ 114 (List._∷_ 100 (List._∷_ 58 (List._∷_ 58 (List._∷_ 83 (List._∷_ 113 (List._∷_ 108 (List._∷_ 67 (List._∷_ 97 (List._∷_ 114 (List._∷_ 100 List.[])))))))))))))))) (Syntax.tcons Syntax.tyBool (Syntax.tcons (Syntax.tyInt Syntax.w32) (Syntax.tcons (Syntax.tyArray (Syntax.tyInt Syntax.w8) 5) (Syntax.tcons (Syntax.tyArray (Syntax.tyInt Syntax.w8) 8) (Syntax.tcons (Syntax.tyInt Syntax.w8) (Syntax.tcons (Syntax.tyArray (Syntax.tyInt Syntax.w32) 6) (Syntax.tcons (Syntax.tyInt Syntax.w64) (Syntax.tcons (Syntax.tyInt Syntax.w32) (Syntax.tcons (Syntax.tyArray (Syntax.tyInt Syntax.w8) 11) (Syntax.tcons (Syntax.tyInt Syntax.w64) (Syntax.tcons (Syntax.tyInt Syntax.w64) Syntax.tnil))))))))))))) (List._∷_ (11, Rows'.whole (Declared'.row Widths.the-type)) (List._∷_ (12, Rows'.sc-here (Row.sInt Syntax.w64)) (List._∷_ (13, Rows'.any-gone (Syntax.tyRef Syntax.erased Syntax.mut (Syntax.tyArray ColumnMetadataRow.named 4096))) (List._∷_ (14, Rows'.any-gone (Syntax.tyStruct (List._∷_ 38 (List._∷_ 91 (List._∷_ 93 List.[]))) (Syntax.tcons (Syntax.tyRef Syntax.erased Syntax.mut ColumnMetadataRow.named) (Syntax.tcons (Syntax.tyInt Syntax.w64) Syntax.tnil)))) (List._∷_ (15, Rows'.any-gone Syntax.tyBool) List.[])))))))))))))))
+        g47 = List._∷_ (0, Rows'.any-gone (Syntax.tyInt Syntax.w64)) (List._∷_ (1, Relend.mslice-owed (Referent.rtF (Referent.fInt Syntax.w8)) (Syntax.tyRef (Syntax.named 0) Syntax.mut (Syntax.tyInt Syntax.w8)) 0 8 (Row.lease (κs .0) (qs .0))) (List._∷_ (2, Rows'.sc-here (Row.sInt Syntax.w64)) (List._∷_ (3, Rows'.sslice (Referent.rtF (Referent.fInt Syntax.w8)) (Syntax.tyRef (Syntax.named 1) Syntax.imm (Syntax.tyInt Syntax.w8)) 1) (List._∷_ (4, Mut.mslice (Referent.rtF (Referent.fInt Syntax.w8)) (Syntax.tyRef (Syntax.named 2) Syntax.mut (Syntax.tyInt Syntax.w8)) 2) (List._∷_ (5, Rows'.any-gone (ColumnMetadataRow.ty)) (List._∷_ (6, Rows.arr-shrP (ColumnMetadataRow.RT) 4096 9) (List._∷_ (7, Rows'.any-gone (Syntax.tyStruct (List._∷_ 115 (List._∷_ 113 (List._∷_ 108 (List._∷_ 100 (List._∷_ 97 (List._∷_ 114 (List._∷_ 100 (List._∷_ 58 (List._∷_ 58 (List._∷_ 83 (List._∷_ 113 (List._∷_ 108 (List._∷_ 100 (List._∷_ 97 (List._∷_ 114 (List._∷_ 100 (List._∷_ 65 (List._∷_ 110 (List._∷_ 115 (List._∷_ 119 (List._∷_ 101 (List._∷_ 114 List.[])))))))))))))))))))))) (Syntax.tcons (Syntax.tyEnum (List._∷_ 111 (List._∷_ 117 (List._∷_ 116 (List._∷_ 99 (List._∷_ 111 (List._∷_ 109 (List._∷_ 101 (List._∷_ 58 (List._∷_ 58 (List._∷_ 79 (List._∷_ 117 (List._∷_ 116 (List._∷_ 99 (List._∷_ 111 (List._∷_ 109 (List._∷_ 101 List.[])))))))))))))))) (Syntax.ttcons Syntax.tnil (Syntax.ttcons Syntax.tnil (Syntax.ttcons (Syntax.tcons (Syntax.tyInt Syntax.w64) (Syntax.tcons (Syntax.tyInt Syntax.w64) Syntax.tnil)) (Syntax.ttcons Syntax.tnil (Syntax.ttcons (Syntax.tcons (Syntax.tyInt Syntax.w16) Syntax.tnil) (Syntax.ttcons Syntax.tnil (Syntax.ttcons (Syntax.tcons (Syntax.tyInt Syntax.w64) Syntax.tnil) (Syntax.ttcons Syntax.tnil (Syntax.ttcons (Syntax.tcons (Syntax.tyInt Syntax.w16) Syntax.tnil) Syntax.ttnil)))))))))) (Syntax.tcons (Syntax.tyStruct (List._∷_ 115 (List._∷_ 113 (List._∷_ 108 (List._∷_ 99 (List._∷_ 97 (List._∷_ 114 (List._∷_ 100 (List._∷_ 58 (List._∷_ 58 (List._∷_ 83 (List._∷_ 113 (List._∷_ 108 (List._∷_ 67 (List._∷_ 97 (List._∷_ 114 (List._∷_ 100 List.[])))))))))))))))) (Syntax.tcons Syntax.tyBool (Syntax.tcons (Syntax.tyInt Syntax.w32) (Syntax.tcons (Syntax.tyArray (Syntax.tyInt Syntax.w8) 5) (Syntax.tcons (Syntax.tyArray (Syntax.tyInt Syntax.w8) 8) (Syntax.tcons (Syntax.tyInt Syntax.w8) (Syntax.tcons (Syntax.tyArray (Syntax.tyInt Syntax.w32) 6) (Syntax.tcons (Syntax.tyInt Syntax.w64) (Syntax.tcons (Syntax.tyInt Syntax.w32) (Syntax.tcons (Syntax.tyArray (Syntax.tyInt Syntax.w8) 11) (Syntax.tcons (Syntax.tyInt Syntax.w64) (Syntax.tcons (Syntax.tyInt Syntax.w64) Syntax.tnil)))))))))))) (Syntax.tcons (Syntax.tyInt Syntax.w64) Syntax.tnil))))) (List._∷_ (8, Rows'.any-gone (Syntax.tyEnum (List._∷_ 111 (List._∷_ 117 (List._∷_ 116 (List._∷_ 99 (List._∷_ 111 (List._∷_ 109 (List._∷_ 101 (List._∷_ 58 (List._∷_ 58 (List._∷_ 79 (List._∷_ 117 (List._∷_ 116 (List._∷_ 99 (List._∷_ 111 (List._∷_ 109 (List._∷_ 101 List.[])))))))))))))))) (Syntax.ttcons Syntax.tnil (Syntax.ttcons Syntax.tnil (Syntax.ttcons (Syntax.tcons (Syntax.tyInt Syntax.w64) (Syntax.tcons (Syntax.tyInt Syntax.w64) Syntax.tnil)) (Syntax.ttcons Syntax.tnil (Syntax.ttcons (Syntax.tcons (Syntax.tyInt Syntax.w16) Syntax.tnil) (Syntax.ttcons Syntax.tnil (Syntax.ttcons (Syntax.tcons (Syntax.tyInt Syntax.w64) Syntax.tnil) (Syntax.ttcons Syntax.tnil (Syntax.ttcons (Syntax.tcons (Syntax.tyInt Syntax.w16) Syntax.tnil) Syntax.ttnil))))))))))) (List._∷_ (9, Rows'.sc-here (Row.sInt Syntax.w64)) (List._∷_ (10, Rows'.any-gone (Syntax.tyStruct (List._∷_ 115 (List._∷_ 113 (List._∷_ 108 (List._∷_ 99 (List._∷_ 97 (List._∷_ 114 (List._∷_ 100 (List._∷_ 58 (List._∷_ 58 (List._∷_ 83 (List._∷_ 113 (List._∷_ 108 (List._∷_ 67 (List._∷_ 97 (List._∷_ 114 (List._∷_ 100 List.[])))))))))))))))) (Syntax.tcons Syntax.tyBool (Syntax.tcons (Syntax.tyInt Syntax.w32) (Syntax.tcons (Syntax.tyArray (Syntax.tyInt Syntax.w8) 5) (Syntax.tcons (Syntax.tyArray (Syntax.tyInt Syntax.w8) 8) (Syntax.tcons (Syntax.tyInt Syntax.w8) (Syntax.tcons (Syntax.tyArray (Syntax.tyInt Syntax.w32) 6) (Syntax.tcons (Syntax.tyInt Syntax.w64) (Syntax.tcons (Syntax.tyInt Syntax.w32) (Syntax.tcons (Syntax.tyArray (Syntax.tyInt Syntax.w8) 11) (Syntax.tcons (Syntax.tyInt Syntax.w64) (Syntax.tcons (Syntax.tyInt Syntax.w64) Syntax.tnil))))))))))))) (List._∷_ (11, Rows'.whole (Declared'.row Widths.the-type)) (List._∷_ (12, Rows'.sc-here (Row.sInt Syntax.w64)) (List._∷_ (13, Rows'.any-gone (Syntax.tyRef Syntax.erased Syntax.mut (Syntax.tyArray ColumnMetadataRow.named 4096))) (List._∷_ (14, Rows'.any-gone (Syntax.tyStruct (List._∷_ 38 (List._∷_ 91 (List._∷_ 93 List.[]))) (Syntax.tcons (Syntax.tyRef Syntax.erased Syntax.mut ColumnMetadataRow.named) (Syntax.tcons (Syntax.tyInt Syntax.w64) Syntax.tnil)))) (List._∷_ (15, Rows'.any-gone Syntax.tyBool) List.[])))))))))))))))
 
         abbrev g50 : List.List Row.Entry
-        g50 = List._∷_ (0, Rows'.sc-here (Row.sInt Syntax.w64)) (List._∷_ (1, Relend.mslice-owed (Referent.rtF (Referent.fInt Syntax.w8)) (Syntax.tyRef (Syntax.named 0) Syntax.mut (Syntax.tyInt Syntax.w8)) 0 8 (Row.lease (κs .0) (qs .0))) (List._∷_ (2, Rows'.sc-here (Row.sInt Syntax.w64)) (List._∷_ (3, Rows'.sslice (Referent.rtF (Referent.fInt Syntax.w8)) (Syntax.tyRef (Syntax.named 1) Syntax.imm (Syntax.tyInt Syntax.w8)) 1) (List._∷_ (4, Mut.mslice (Referent.rtF (Referent.fInt Syntax.w8)) (Syntax.tyRef (Syntax.named 2) Syntax.mut (Syntax.tyInt Syntax.w8)) 2) (List._∷_ (5, Rows'.any-gone (ColumnMetadataRow.ty)) (List._∷_ (6, Rows.arr-shrP (ColumnMetadataRow.RT) 4096 9) (List._∷_ (7, Rows'.any-gone (Syntax.tyStruct (List._∷_ 115 (List._∷_ 113 (List._∷_ 108 (List._∷_ 100 (List._∷_ 97 (List._∷_ 114 (List._∷_ 100 (List._∷_ 58 (List._∷_ 58 (List._∷_ 83 (List._∷_ 113 (List._∷_ 108 (List._∷_ 100 (List._∷_ 97 (List._∷_ 114 (List._∷_ 100 (List._∷_ 65 (List._∷_ 110 (List._∷_ 115 (List._∷_ 119 (List._∷_ 101 (List._∷_ 114 List.[])))))))))))))))))))))) (Syntax.tcons (Syntax.tyEnum (List._∷_ 111 (List._∷_ 117 (List._∷_ 116 (List._∷_ 99 (List._∷_ 111 (List._∷_ 109 (List._∷_ 101 (List._∷_ 58 (List._∷_ 58 (List._∷_ 79 (List._∷_ 117 (List._∷_ 116 (List._∷_ 99 (List._∷_ 111 (List._∷_ 109 (List._∷_ 101 List.[])))))))))))))))) (Syntax.ttcons Syntax.tnil (Syntax.ttcons Syntax.tnil (Syntax.ttcons (Syntax.tcons (Syntax.tyInt Syntax.w64) (Syntax.tcons (Syntax.tyInt Syntax.w64) Syntax.tnil)) (Syntax.ttcons Syntax.tnil (Syntax.ttcons (Syntax.tcons (Syntax.tyInt Syntax.w16) Syntax.tnil) (Syntax.ttcons Syntax.tnil (Syntax.ttcons (Syntax.tcons (Syntax.tyInt Syntax.w64) Syntax.tnil) (Syntax.ttcons Syntax.tnil Syntax.ttnil))))))))) (Syntax.tcons (Syntax.tyStruct (List._∷_ 115 (List._∷_ 113 (List._∷_ 108 (List._∷_ 99 (List._∷_ 97 (List._∷_ 114 (List._∷_ 100 (List._∷_ 58 (List._∷_ 58 (List._∷_ 83 (List._∷_ 113 (List._∷_ 108 (List._∷_ 67 (List._∷_ 97 (List._∷_ 114 (List._∷_ 100 List.[])))))))))))))))) (Syntax.tcons Syntax.tyBool (Syntax.tcons (Syntax.tyInt Syntax.w32) (Syntax.tcons (Syntax.tyArray (Syntax.tyInt Syntax.w8) 5) (Syntax.tcons (Syntax.tyArray (Syntax.tyInt Syntax.w8) 8) (Syntax.tcons (Syntax.tyInt Syntax.w8) (Syntax.tcons (Syntax.tyArray (Syntax.tyInt Syntax.w32) 6) (Syntax.tcons (Syntax.tyInt Syntax.w64) (Syntax.tcons (Syntax.tyInt Syntax.w32) (Syntax.tcons (Syntax.tyArray (Syntax.tyInt Syntax.w8) 11) (Syntax.tcons (Syntax.tyInt Syntax.w64) (Syntax.tcons (Syntax.tyInt Syntax.w64) Syntax.tnil)))))))))))) (Syntax.tcons (Syntax.tyInt Syntax.w64) Syntax.tnil))))) (List._∷_ (8, Rows'.any-gone (Syntax.tyEnum (List._∷_ 111 (List._∷_ 117 (List._∷_ 116 (List._∷_ 99 (List._∷_ 111 (List._∷_ 109 (List._∷_ 101 (List._∷_ 58 (List._∷_ 58 (List._∷_ 79 (List._∷_ 117 (List._∷_ 116 (List._∷_ 99 (List._∷_ 111 (List._∷_ 109 (List._∷_ 101 List.[])))))))))))))))) (Syntax.ttcons Syntax.tnil (Syntax.ttcons Syntax.tnil (Syntax.ttcons (Syntax.tcons (Syntax.tyInt Syntax.w64) (Syntax.tcons (Syntax.tyInt Syntax.w64) Syntax.tnil)) (Syntax.ttcons Syntax.tnil (Syntax.ttcons (Syntax.tcons (Syntax.tyInt Syntax.w16) Syntax.tnil) (Syntax.ttcons Syntax.tnil (Syntax.ttcons (Syntax.tcons (Syntax.tyInt Syntax.w64) Syntax.tnil) (Syntax.ttcons Syntax.tnil Syntax.ttnil)))))))))) (List._∷_ (9, Rows'.sc-here (Row.sInt Syntax.w64)) (List._∷_ (10, Rows'.any-gone (Syntax.tyStruct (List._∷_ 115 (List._∷_ 113 (List._∷_ 108 (List._∷_ 99 (List._∷_ 97 (List._∷_ 114 (List._∷_ 100 (List._∷_ 58 (List._∷_ 58 (List._∷_ 83 (List._∷_ 113 (List._∷_ 108 (List._∷_ 67 (List._∷_ 97 (List._∷_ 114 (List._∷_ 100 List.[])))))))))))))))) (Syntax.tcons Syntax.tyBool (Syntax.tcons (Syntax.tyInt Syntax.w32) (Syntax.tcons (Syntax.tyArray (Syntax.tyInt Syntax.w8) 5) (Syntax.tcons (Syntax.tyArray (Syntax.tyInt Syntax.w8) 8) (Syntax.tcons (Syntax.tyInt Syntax.w8) (Syntax.tcons (Syntax.tyArray (Syntax.tyInt Syntax.w32) 6) (Syntax.tcons (Syntax.tyInt Syntax.w64) (Syntax.tcons (Syntax.tyInt Syntax.w32) (Syntax.tcons (Syntax.tyArray (Syntax.tyInt Syntax.w8) 11) (Syntax.tcons (Syntax.tyInt Syntax.w64) (Syntax.tcons (Syntax.tyInt Syntax.w64) Syntax.tnil))))))))))))) (List._∷_ (11, Rows'.whole (Declared'.row Widths.the-type)) (List._∷_ (12, Rows'.sc-here (Row.sInt Syntax.w64)) (List._∷_ (13, Rows'.any-gone (Syntax.tyRef Syntax.erased Syntax.mut (Syntax.tyArray ColumnMetadataRow.named 4096))) (List._∷_ (14, Rows'.any-gone (Syntax.tyStruct (List._∷_ 38 (List._∷_ 91 (List._∷_ 93 List.[]))) (Syntax.tcons (Syntax.tyRef Syntax.erased Syntax.mut ColumnMetadataRow.named) (Syntax.tcons (Syntax.tyInt Syntax.w64) Syntax.tnil)))) (List._∷_ (15, Rows'.any-gone Syntax.tyBool) List.[])))))))))))))))
+        g50 = List._∷_ (0, Rows'.sc-here (Row.sInt Syntax.w64)) (List._∷_ (1, Relend.mslice-owed (Referent.rtF (Referent.fInt Syntax.w8)) (Syntax.tyRef (Syntax.named 0) Syntax.mut (Syntax.tyInt Syntax.w8)) 0 8 (Row.lease (κs .0) (qs .0))) (List._∷_ (2, Rows'.sc-here (Row.sInt Syntax.w64)) (List._∷_ (3, Rows'.sslice (Referent.rtF (Referent.fInt Syntax.w8)) (Syntax.tyRef (Syntax.named 1) Syntax.imm (Syntax.tyInt Syntax.w8)) 1) (List._∷_ (4, Mut.mslice (Referent.rtF (Referent.fInt Syntax.w8)) (Syntax.tyRef (Syntax.named 2) Syntax.mut (Syntax.tyInt Syntax.w8)) 2) (List._∷_ (5, Rows'.any-gone (ColumnMetadataRow.ty)) (List._∷_ (6, Rows.arr-shrP (ColumnMetadataRow.RT) 4096 9) (List._∷_ (7, Rows'.any-gone (Syntax.tyStruct (List._∷_ 115 (List._∷_ 113 (List._∷_ 108 (List._∷_ 100 (List._∷_ 97 (List._∷_ 114 (List._∷_ 100 (List._∷_ 58 (List._∷_ 58 (List._∷_ 83 (List._∷_ 113 (List._∷_ 108 (List._∷_ 100 (List._∷_ 97 (List._∷_ 114 (List._∷_ 100 (List._∷_ 65 (List._∷_ 110 (List._∷_ 115 (List._∷_ 119 (List._∷_ 101 (List._∷_ 114 List.[])))))))))))))))))))))) (Syntax.tcons (Syntax.tyEnum (List._∷_ 111 (List._∷_ 117 (List._∷_ 116 (List._∷_ 99 (List._∷_ 111 (List._∷_ 109 (List._∷_ 101 (List._∷_ 58 (List._∷_ 58 (List._∷_ 79 (List._∷_ 117 (List._∷_ 116 (List._∷_ 99 (List._∷_ 111 (List._∷_ 109 (List._∷_ 101 List.[])))))))))))))))) (Syntax.ttcons Syntax.tnil (Syntax.ttcons Syntax.tnil (Syntax.ttcons (Syntax.tcons (Syntax.tyInt Syntax.w64) (Syntax.tcons (Syntax.tyInt Syntax.w64) Syntax.tnil)) (Syntax.ttcons Syntax.tnil (Syntax.ttcons (Syntax.tcons (Syntax.tyInt Syntax.w16) Syntax.tnil) (Syntax.ttcons Syntax.tnil (Syntax.ttcons (Syntax.tcons (Syntax.tyInt Syntax.w64) Syntax.tnil) (Syntax.ttcons Syntax.tnil (Syntax.ttcons (Syntax.tcons (Syntax.tyInt Syntax.w16) Syntax.tnil) Syntax.ttnil)))))))))) (Syntax.tcons (Syntax.tyStruct (List._∷_ 115 (List._∷_ 113 (List._∷_ 108 (List._∷_ 99 (List._∷_ 97 (List._∷_ 114 (List._∷_ 100 (List._∷_ 58 (List._∷_ 58 (List._∷_ 83 (List._∷_ 113 (List._∷_ 108 (List._∷_ 67 (List._∷_ 97 (List._∷_ 114 (List._∷_ 100 List.[])))))))))))))))) (Syntax.tcons Syntax.tyBool (Syntax.tcons (Syntax.tyInt Syntax.w32) (Syntax.tcons (Syntax.tyArray (Syntax.tyInt Syntax.w8) 5) (Syntax.tcons (Syntax.tyArray (Syntax.tyInt Syntax.w8) 8) (Syntax.tcons (Syntax.tyInt Syntax.w8) (Syntax.tcons (Syntax.tyArray (Syntax.tyInt Syntax.w32) 6) (Syntax.tcons (Syntax.tyInt Syntax.w64) (Syntax.tcons (Syntax.tyInt Syntax.w32) (Syntax.tcons (Syntax.tyArray (Syntax.tyInt Syntax.w8) 11) (Syntax.tcons (Syntax.tyInt Syntax.w64) (Syntax.tcons (Syntax.tyInt Syntax.w64) Syntax.tnil)))))))))))) (Syntax.tcons (Syntax.tyInt Syntax.w64) Syntax.tnil))))) (List._∷_ (8, Rows'.any-gone (Syntax.tyEnum (List._∷_ 111 (List._∷_ 117 (List._∷_ 116 (List._∷_ 99 (List._∷_ 111 (List._∷_ 109 (List._∷_ 101 (List._∷_ 58 (List._∷_ 58 (List._∷_ 79 (List._∷_ 117 (List._∷_ 116 (List._∷_ 99 (List._∷_ 111 (List._∷_ 109 (List._∷_ 101 List.[])))))))))))))))) (Syntax.ttcons Syntax.tnil (Syntax.ttcons Syntax.tnil (Syntax.ttcons (Syntax.tcons (Syntax.tyInt Syntax.w64) (Syntax.tcons (Syntax.tyInt Syntax.w64) Syntax.tnil)) (Syntax.ttcons Syntax.tnil (Syntax.ttcons (Syntax.tcons (Syntax.tyInt Syntax.w16) Syntax.tnil) (Syntax.ttcons Syntax.tnil (Syntax.ttcons (Syntax.tcons (Syntax.tyInt Syntax.w64) Syntax.tnil) (Syntax.ttcons Syntax.tnil (Syntax.ttcons (Syntax.tcons (Syntax.tyInt Syntax.w16) Syntax.tnil) Syntax.ttnil))))))))))) (List._∷_ (9, Rows'.sc-here (Row.sInt Syntax.w64)) (List._∷_ (10, Rows'.any-gone (Syntax.tyStruct (List._∷_ 115 (List._∷_ 113 (List._∷_ 108 (List._∷_ 99 (List._∷_ 97 (List._∷_ 114 (List._∷_ 100 (List._∷_ 58 (List._∷_ 58 (List._∷_ 83 (List._∷_ 113 (List._∷_ 108 (List._∷_ 67 (List._∷_ 97 (List._∷_ 114 (List._∷_ 100 List.[])))))))))))))))) (Syntax.tcons Syntax.tyBool (Syntax.tcons (Syntax.tyInt Syntax.w32) (Syntax.tcons (Syntax.tyArray (Syntax.tyInt Syntax.w8) 5) (Syntax.tcons (Syntax.tyArray (Syntax.tyInt Syntax.w8) 8) (Syntax.tcons (Syntax.tyInt Syntax.w8) (Syntax.tcons (Syntax.tyArray (Syntax.tyInt Syntax.w32) 6) (Syntax.tcons (Syntax.tyInt Syntax.w64) (Syntax.tcons (Syntax.tyInt Syntax.w32) (Syntax.tcons (Syntax.tyArray (Syntax.tyInt Syntax.w8) 11) (Syntax.tcons (Syntax.tyInt Syntax.w64) (Syntax.tcons (Syntax.tyInt Syntax.w64) Syntax.tnil))))))))))))) (List._∷_ (11, Rows'.whole (Declared'.row Widths.the-type)) (List._∷_ (12, Rows'.sc-here (Row.sInt Syntax.w64)) (List._∷_ (13, Rows'.any-gone (Syntax.tyRef Syntax.erased Syntax.mut (Syntax.tyArray ColumnMetadataRow.named 4096))) (List._∷_ (14, Rows'.any-gone (Syntax.tyStruct (List._∷_ 38 (List._∷_ 91 (List._∷_ 93 List.[]))) (Syntax.tcons (Syntax.tyRef Syntax.erased Syntax.mut ColumnMetadataRow.named) (Syntax.tcons (Syntax.tyInt Syntax.w64) Syntax.tnil)))) (List._∷_ (15, Rows'.any-gone Syntax.tyBool) List.[])))))))))))))))
 
         abbrev g53 : List.List Row.Entry
-        g53 = List._∷_ (0, Rows'.sc-here (Row.sInt Syntax.w64)) (List._∷_ (1, Relend.mslice-owed (Referent.rtF (Referent.fInt Syntax.w8)) (Syntax.tyRef (Syntax.named 0) Syntax.mut (Syntax.tyInt Syntax.w8)) 0 8 (Row.lease (κs .0) (qs .0))) (List._∷_ (2, Rows'.sc-here (Row.sInt Syntax.w64)) (List._∷_ (3, Rows'.sslice (Referent.rtF (Referent.fInt Syntax.w8)) (Syntax.tyRef (Syntax.named 1) Syntax.imm (Syntax.tyInt Syntax.w8)) 1) (List._∷_ (4, Mut.mslice (Referent.rtF (Referent.fInt Syntax.w8)) (Syntax.tyRef (Syntax.named 2) Syntax.mut (Syntax.tyInt Syntax.w8)) 2) (List._∷_ (5, Rows'.any-gone (ColumnMetadataRow.ty)) (List._∷_ (6, Rows.arr-shrP (ColumnMetadataRow.RT) 4096 9) (List._∷_ (7, Rows'.any-gone (Syntax.tyStruct (List._∷_ 115 (List._∷_ 113 (List._∷_ 108 (List._∷_ 100 (List._∷_ 97 (List._∷_ 114 (List._∷_ 100 (List._∷_ 58 (List._∷_ 58 (List._∷_ 83 (List._∷_ 113 (List._∷_ 108 (List._∷_ 100 (List._∷_ 97 (List._∷_ 114 (List._∷_ 100 (List._∷_ 65 (List._∷_ 110 (List._∷_ 115 (List._∷_ 119 (List._∷_ 101 (List._∷_ 114 List.[])))))))))))))))))))))) (Syntax.tcons (Syntax.tyEnum (List._∷_ 111 (List._∷_ 117 (List._∷_ 116 (List._∷_ 99 (List._∷_ 111 (List._∷_ 109 (List._∷_ 101 (List._∷_ 58 (List._∷_ 58 (List._∷_ 79 (List._∷_ 117 (List._∷_ 116 (List._∷_ 99 (List._∷_ 111 (List._∷_ 109 (List._∷_ 101 List.[])))))))))))))))) (Syntax.ttcons Syntax.tnil (Syntax.ttcons Syntax.tnil (Syntax.ttcons (Syntax.tcons (Syntax.tyInt Syntax.w64) (Syntax.tcons (Syntax.tyInt Syntax.w64) Syntax.tnil)) (Syntax.ttcons Syntax.tnil (Syntax.ttcons (Syntax.tcons (Syntax.tyInt Syntax.w16) Syntax.tnil) (Syntax.ttcons Syntax.tnil (Syntax.ttcons (Syntax.tcons (Syntax.tyInt Syntax.w64) Syntax.tnil) (Syntax.ttcons Syntax.tnil Syntax.ttnil))))))))) (Syntax.tcons (Syntax.tyStruct (List._∷_ 115 (List._∷_ 113 (List._∷_ 108 (List._∷_ 99 (List._∷_ 97 (List._∷_ 114 (List._∷_ 100 (List._∷_ 58 (List._∷_ 58 (List._∷_ 83 (List._∷_ 113 (List._∷_ 108 (List._∷_ 67 (List._∷_ 97 (List._∷_ 114 (List._∷_ 100 List.[])))))))))))))))) (Syntax.tcons Syntax.tyBool (Syntax.tcons (Syntax.tyInt Syntax.w32) (Syntax.tcons (Syntax.tyArray (Syntax.tyInt Syntax.w8) 5) (Syntax.tcons (Syntax.tyArray (Syntax.tyInt Syntax.w8) 8) (Syntax.tcons (Syntax.tyInt Syntax.w8) (Syntax.tcons (Syntax.tyArray (Syntax.tyInt Syntax.w32) 6) (Syntax.tcons (Syntax.tyInt Syntax.w64) (Syntax.tcons (Syntax.tyInt Syntax.w32) (Syntax.tcons (Syntax.tyArray (Syntax.tyInt Syntax.w8) 11) (Syntax.tcons (Syntax.tyInt Syntax.w64) (Syntax.tcons (Syntax.tyInt Syntax.w64) Syntax.tnil)))))))))))) (Syntax.tcons (Syntax.tyInt Syntax.w64) Syntax.tnil))))) (List._∷_ (8, Rows'.any-gone (Syntax.tyEnum (List._∷_ 111 (List._∷_ 117 (List._∷_ 116 (List._∷_ 99 (List._∷_ 111 (List._∷_ 109 (List._∷_ 101 (List._∷_ 58 (List._∷_ 58 (List._∷_ 79 (List._∷_ 117 (List._∷_ 116 (List._∷_ 99 (List._∷_ 111 (List._∷_ 109 (List._∷_ 101 List.[])))))))))))))))) (Syntax.ttcons Syntax.tnil (Syntax.ttcons Syntax.tnil (Syntax.ttcons (Syntax.tcons (Syntax.tyInt Syntax.w64) (Syntax.tcons (Syntax.tyInt Syntax.w64) Syntax.tnil)) (Syntax.ttcons Syntax.tnil (Syntax.ttcons (Syntax.tcons (Syntax.tyInt Syntax.w16) Syntax.tnil) (Syntax.ttcons Syntax.tnil (Syntax.ttcons (Syntax.tcons (Syntax.tyInt Syntax.w64) Syntax.tnil) (Syntax.ttcons Syntax.tnil Syntax.ttnil)))))))))) (List._∷_ (9, Rows'.any-gone (Syntax.tyInt Syntax.w64)) (List._∷_ (10, Rows'.any-gone (Syntax.tyStruct (List._∷_ 115 (List._∷_ 113 (List._∷_ 108 (List._∷_ 99 (List._∷_ 97 (List._∷_ 114 (List._∷_ 100 (List._∷_ 58 (List._∷_ 58 (List._∷_ 83 (List._∷_ 113 (List._∷_ 108 (List._∷_ 67 (List._∷_ 97 (List._∷_ 114 (List._∷_ 100 List.[])))))))))))))))) (Syntax.tcons Syntax.tyBool (Syntax.tcons (Syntax.tyInt Syntax.w32) (Syntax.tcons (Syntax.tyArray (Syntax.tyInt Syntax.w8) 5) (Syntax.tcons (Syntax.tyArray (Syntax.tyInt Syntax.w8) 8) (Syntax.tcons (Syntax.tyInt Syntax.w8) (Syntax.tcons (Syntax.tyArray (Syntax.tyInt Syntax.w32) 6) (Syntax.tcons (Syntax.tyInt Syntax.w64) (Syntax.tcons (Syntax.tyInt Syntax.w32) (Syntax.tcons (Syntax.tyArray (Syntax.tyInt Syntax.w8) 11) (Syntax.tcons (Syntax.tyInt Syntax.w64) (Syntax.tcons (Syntax.tyInt Syntax.w64) Syntax.tnil))))))))))))) (List._∷_ (11, Rows'.whole (Declared'.row Widths.the-type)) (List._∷_ (12, Rows'.sc-here (Row.sInt Syntax.w64)) (List._∷_ (13, Rows'.any-gone (Syntax.tyRef Syntax.erased Syntax.mut (Syntax.tyArray ColumnMetadataRow.named 4096))) (List._∷_ (14, Rows'.any-gone (Syntax.tyStruct (List._∷_ 38 (List._∷_ 91 (List._∷_ 93 List.[]))) (Syntax.tcons (Syntax.tyRef Syntax.erased Syntax.mut ColumnMetadataRow.named) (Syntax.tcons (Syntax.tyInt Syntax.w64) Syntax.tnil)))) (List._∷_ (15, Rows'.any-gone Syntax.tyBool) List.[])))))))))))))))
+        g53 = List._∷_ (0, Rows'.sc-here (Row.sInt Syntax.w64)) (List._∷_ (1, Relend.mslice-owed (Referent.rtF (Referent.fInt Syntax.w8)) (Syntax.tyRef (Syntax.named 0) Syntax.mut (Syntax.tyInt Syntax.w8)) 0 8 (Row.lease (κs .0) (qs .0))) (List._∷_ (2, Rows'.sc-here (Row.sInt Syntax.w64)) (List._∷_ (3, Rows'.sslice (Referent.rtF (Referent.fInt Syntax.w8)) (Syntax.tyRef (Syntax.named 1) Syntax.imm (Syntax.tyInt Syntax.w8)) 1) (List._∷_ (4, Mut.mslice (Referent.rtF (Referent.fInt Syntax.w8)) (Syntax.tyRef (Syntax.named 2) Syntax.mut (Syntax.tyInt Syntax.w8)) 2) (List._∷_ (5, Rows'.any-gone (ColumnMetadataRow.ty)) (List._∷_ (6, Rows.arr-shrP (ColumnMetadataRow.RT) 4096 9) (List._∷_ (7, Rows'.any-gone (Syntax.tyStruct (List._∷_ 115 (List._∷_ 113 (List._∷_ 108 (List._∷_ 100 (List._∷_ 97 (List._∷_ 114 (List._∷_ 100 (List._∷_ 58 (List._∷_ 58 (List._∷_ 83 (List._∷_ 113 (List._∷_ 108 (List._∷_ 100 (List._∷_ 97 (List._∷_ 114 (List._∷_ 100 (List._∷_ 65 (List._∷_ 110 (List._∷_ 115 (List._∷_ 119 (List._∷_ 101 (List._∷_ 114 List.[])))))))))))))))))))))) (Syntax.tcons (Syntax.tyEnum (List._∷_ 111 (List._∷_ 117 (List._∷_ 116 (List._∷_ 99 (List._∷_ 111 (List._∷_ 109 (List._∷_ 101 (List._∷_ 58 (List._∷_ 58 (List._∷_ 79 (List._∷_ 117 (List._∷_ 116 (List._∷_ 99 (List._∷_ 111 (List._∷_ 109 (List._∷_ 101 List.[])))))))))))))))) (Syntax.ttcons Syntax.tnil (Syntax.ttcons Syntax.tnil (Syntax.ttcons (Syntax.tcons (Syntax.tyInt Syntax.w64) (Syntax.tcons (Syntax.tyInt Syntax.w64) Syntax.tnil)) (Syntax.ttcons Syntax.tnil (Syntax.ttcons (Syntax.tcons (Syntax.tyInt Syntax.w16) Syntax.tnil) (Syntax.ttcons Syntax.tnil (Syntax.ttcons (Syntax.tcons (Syntax.tyInt Syntax.w64) Syntax.tnil) (Syntax.ttcons Syntax.tnil (Syntax.ttcons (Syntax.tcons (Syntax.tyInt Syntax.w16) Syntax.tnil) Syntax.ttnil)))))))))) (Syntax.tcons (Syntax.tyStruct (List._∷_ 115 (List._∷_ 113 (List._∷_ 108 (List._∷_ 99 (List._∷_ 97 (List._∷_ 114 (List._∷_ 100 (List._∷_ 58 (List._∷_ 58 (List._∷_ 83 (List._∷_ 113 (List._∷_ 108 (List._∷_ 67 (List._∷_ 97 (List._∷_ 114 (List._∷_ 100 List.[])))))))))))))))) (Syntax.tcons Syntax.tyBool (Syntax.tcons (Syntax.tyInt Syntax.w32) (Syntax.tcons (Syntax.tyArray (Syntax.tyInt Syntax.w8) 5) (Syntax.tcons (Syntax.tyArray (Syntax.tyInt Syntax.w8) 8) (Syntax.tcons (Syntax.tyInt Syntax.w8) (Syntax.tcons (Syntax.tyArray (Syntax.tyInt Syntax.w32) 6) (Syntax.tcons (Syntax.tyInt Syntax.w64) (Syntax.tcons (Syntax.tyInt Syntax.w32) (Syntax.tcons (Syntax.tyArray (Syntax.tyInt Syntax.w8) 11) (Syntax.tcons (Syntax.tyInt Syntax.w64) (Syntax.tcons (Syntax.tyInt Syntax.w64) Syntax.tnil)))))))))))) (Syntax.tcons (Syntax.tyInt Syntax.w64) Syntax.tnil))))) (List._∷_ (8, Rows'.any-gone (Syntax.tyEnum (List._∷_ 111 (List._∷_ 117 (List._∷_ 116 (List._∷_ 99 (List._∷_ 111 (List._∷_ 109 (List._∷_ 101 (List._∷_ 58 (List._∷_ 58 (List._∷_ 79 (List._∷_ 117 (List._∷_ 116 (List._∷_ 99 (List._∷_ 111 (List._∷_ 109 (List._∷_ 101 List.[])))))))))))))))) (Syntax.ttcons Syntax.tnil (Syntax.ttcons Syntax.tnil (Syntax.ttcons (Syntax.tcons (Syntax.tyInt Syntax.w64) (Syntax.tcons (Syntax.tyInt Syntax.w64) Syntax.tnil)) (Syntax.ttcons Syntax.tnil (Syntax.ttcons (Syntax.tcons (Syntax.tyInt Syntax.w16) Syntax.tnil) (Syntax.ttcons Syntax.tnil (Syntax.ttcons (Syntax.tcons (Syntax.tyInt Syntax.w64) Syntax.tnil) (Syntax.ttcons Syntax.tnil (Syntax.ttcons (Syntax.tcons (Syntax.tyInt Syntax.w16) Syntax.tnil) Syntax.ttnil))))))))))) (List._∷_ (9, Rows'.any-gone (Syntax.tyInt Syntax.w64)) (List._∷_ (10, Rows'.any-gone (Syntax.tyStruct (List._∷_ 115 (List._∷_ 113 (List._∷_ 108 (List._∷_ 99 (List._∷_ 97 (List._∷_ 114 (List._∷_ 100 (List._∷_ 58 (List._∷_ 58 (List._∷_ 83 (List._∷_ 113 (List._∷_ 108 (List._∷_ 67 (List._∷_ 97 (List._∷_ 114 (List._∷_ 100 List.[])))))))))))))))) (Syntax.tcons Syntax.tyBool (Syntax.tcons (Syntax.tyInt Syntax.w32) (Syntax.tcons (Syntax.tyArray (Syntax.tyInt Syntax.w8) 5) (Syntax.tcons (Syntax.tyArray (Syntax.tyInt Syntax.w8) 8) (Syntax.tcons (Syntax.tyInt Syntax.w8) (Syntax.tcons (Syntax.tyArray (Syntax.tyInt Syntax.w32) 6) (Syntax.tcons (Syntax.tyInt Syntax.w64) (Syntax.tcons (Syntax.tyInt Syntax.w32) (Syntax.tcons (Syntax.tyArray (Syntax.tyInt Syntax.w8) 11) (Syntax.tcons (Syntax.tyInt Syntax.w64) (Syntax.tcons (Syntax.tyInt Syntax.w64) Syntax.tnil))))))))))))) (List._∷_ (11, Rows'.whole (Declared'.row Widths.the-type)) (List._∷_ (12, Rows'.sc-here (Row.sInt Syntax.w64)) (List._∷_ (13, Rows'.any-gone (Syntax.tyRef Syntax.erased Syntax.mut (Syntax.tyArray ColumnMetadataRow.named 4096))) (List._∷_ (14, Rows'.any-gone (Syntax.tyStruct (List._∷_ 38 (List._∷_ 91 (List._∷_ 93 List.[]))) (Syntax.tcons (Syntax.tyRef Syntax.erased Syntax.mut ColumnMetadataRow.named) (Syntax.tcons (Syntax.tyInt Syntax.w64) Syntax.tnil)))) (List._∷_ (15, Rows'.any-gone Syntax.tyBool) List.[])))))))))))))))
 
         abbrev g54 : List.List Row.Entry
-        g54 = List._∷_ (0, Rows'.sc-here (Row.sInt Syntax.w64)) (List._∷_ (1, Relend.mslice-owed (Referent.rtF (Referent.fInt Syntax.w8)) (Syntax.tyRef (Syntax.named 0) Syntax.mut (Syntax.tyInt Syntax.w8)) 0 8 (Row.lease (κs .0) (qs .0))) (List._∷_ (2, Rows'.sc-here (Row.sInt Syntax.w64)) (List._∷_ (3, Rows'.sslice (Referent.rtF (Referent.fInt Syntax.w8)) (Syntax.tyRef (Syntax.named 1) Syntax.imm (Syntax.tyInt Syntax.w8)) 1) (List._∷_ (4, Mut.mslice (Referent.rtF (Referent.fInt Syntax.w8)) (Syntax.tyRef (Syntax.named 2) Syntax.mut (Syntax.tyInt Syntax.w8)) 2) (List._∷_ (5, Rows'.any-gone (ColumnMetadataRow.ty)) (List._∷_ (6, Rows.arr-shrP (ColumnMetadataRow.RT) 4096 9) (List._∷_ (7, Rows'.any-gone (Syntax.tyStruct (List._∷_ 115 (List._∷_ 113 (List._∷_ 108 (List._∷_ 100 (List._∷_ 97 (List._∷_ 114 (List._∷_ 100 (List._∷_ 58 (List._∷_ 58 (List._∷_ 83 (List._∷_ 113 (List._∷_ 108 (List._∷_ 100 (List._∷_ 97 (List._∷_ 114 (List._∷_ 100 (List._∷_ 65 (List._∷_ 110 (List._∷_ 115 (List._∷_ 119 (List._∷_ 101 (List._∷_ 114 List.[])))))))))))))))))))))) (Syntax.tcons (Syntax.tyEnum (List._∷_ 111 (List._∷_ 117 (List._∷_ 116 (List._∷_ 99 (List._∷_ 111 (List._∷_ 109 (List._∷_ 101 (List._∷_ 58 (List._∷_ 58 (List._∷_ 79 (List._∷_ 117 (List._∷_ 116 (List._∷_ 99 (List._∷_ 111 (List._∷_ 109 (List._∷_ 101 List.[])))))))))))))))) (Syntax.ttcons Syntax.tnil (Syntax.ttcons Syntax.tnil (Syntax.ttcons (Syntax.tcons (Syntax.tyInt Syntax.w64) (Syntax.tcons (Syntax.tyInt Syntax.w64) Syntax.tnil)) (Syntax.ttcons Syntax.tnil (Syntax.ttcons (Syntax.tcons (Syntax.tyInt Syntax.w16) Syntax.tnil) (Syntax.ttcons Syntax.tnil (Syntax.ttcons (Syntax.tcons (Syntax.tyInt Syntax.w64) Syntax.tnil) (Syntax.ttcons Syntax.tnil Syntax.ttnil))))))))) (Syntax.tcons (Syntax.tyStruct (List._∷_ 115 (List._∷_ 113 (List._∷_ 108 (List._∷_ 99 (List._∷_ 97 (List._∷_ 114 (List._∷_ 100 (List._∷_ 58 (List._∷_ 58 (List._∷_ 83 (List._∷_ 113 (List._∷_ 108 (List._∷_ 67 (List._∷_ 97 (List._∷_ 114 (List._∷_ 100 List.[])))))))))))))))) (Syntax.tcons Syntax.tyBool (Syntax.tcons (Syntax.tyInt Syntax.w32) (Syntax.tcons (Syntax.tyArray (Syntax.tyInt Syntax.w8) 5) (Syntax.tcons (Syntax.tyArray (Syntax.tyInt Syntax.w8) 8) (Syntax.tcons (Syntax.tyInt Syntax.w8) (Syntax.tcons (Syntax.tyArray (Syntax.tyInt Syntax.w32) 6) (Syntax.tcons (Syntax.tyInt Syntax.w64) (Syntax.tcons (Syntax.tyInt Syntax.w32) (Syntax.tcons (Syntax.tyArray (Syntax.tyInt Syntax.w8) 11) (Syntax.tcons (Syntax.tyInt Syntax.w64) (Syntax.tcons (Syntax.tyInt Syntax.w64) Syntax.tnil)))))))))))) (Syntax.tcons (Syntax.tyInt Syntax.w64) Syntax.tnil))))) (List._∷_ (8, Rows'.any-gone (Syntax.tyEnum (List._∷_ 111 (List._∷_ 117 (List._∷_ 116 (List._∷_ 99 (List._∷_ 111 (List._∷_ 109 (List._∷_ 101 (List._∷_ 58 (List._∷_ 58 (List._∷_ 79 (List._∷_ 117 (List._∷_ 116 (List._∷_ 99 (List._∷_ 111 (List._∷_ 109 (List._∷_ 101 List.[])))))))))))))))) (Syntax.ttcons Syntax.tnil (Syntax.ttcons Syntax.tnil (Syntax.ttcons (Syntax.tcons (Syntax.tyInt Syntax.w64) (Syntax.tcons (Syntax.tyInt Syntax.w64) Syntax.tnil)) (Syntax.ttcons Syntax.tnil (Syntax.ttcons (Syntax.tcons (Syntax.tyInt Syntax.w16) Syntax.tnil) (Syntax.ttcons Syntax.tnil (Syntax.ttcons (Syntax.tcons (Syntax.tyInt Syntax.w64) Syntax.tnil) (Syntax.ttcons Syntax.tnil Syntax.ttnil)))))))))) (List._∷_ (9, Rows'.any-gone (Syntax.tyInt Syntax.w64)) (List._∷_ (10, Rows'.any-gone (Syntax.tyStruct (List._∷_ 115 (List._∷_ 113 (List._∷_ 108 (List._∷_ 99 (List._∷_ 97 (List._∷_ 114 (List._∷_ 100 (List._∷_ 58 (List._∷_ 58 (List._∷_ 83 (List._∷_ 113 (List._∷_ 108 (List._∷_ 67 (List._∷_ 97 (List._∷_ 114 (List._∷_ 100 List.[])))))))))))))))) (Syntax.tcons Syntax.tyBool (Syntax.tcons (Syntax.tyInt Syntax.w32) (Syntax.tcons (Syntax.tyArray (Syntax.tyInt Syntax.w8) 5) (Syntax.tcons (Syntax.tyArray (Syntax.tyInt Syntax.w8) 8) (Syntax.tcons (Syntax.tyInt Syntax.w8) (Syntax.tcons (Syntax.tyArray (Syntax.tyInt Syntax.w32) 6) (Syntax.tcons (Syntax.tyInt Syntax.w64) (Syntax.tcons (Syntax.tyInt Syntax.w32) (Syntax.tcons (Syntax.tyArray (Syntax.tyInt Syntax.w8) 11) (Syntax.tcons (Syntax.tyInt Syntax.w64) (Syntax.tcons (Syntax.tyInt Syntax.w64) Syntax.tnil))))))))))))) (List._∷_ (11, Rows'.any-gone (Syntax.tyStruct (List._∷_ 116 (List._∷_ 97 (List._∷_ 98 (List._∷_ 108 (List._∷_ 101 (List._∷_ 95 (List._∷_ 111 (List._∷_ 117 (List._∷_ 116 (List._∷_ 112 (List._∷_ 117 (List._∷_ 116 (List._∷_ 58 (List._∷_ 58 (List._∷_ 114 (List._∷_ 111 (List._∷_ 119 (List._∷_ 115 (List._∷_ 58 (List._∷_ 58 (List._∷_ 87 (List._∷_ 105 (List._∷_ 100 (List._∷_ 116 (List._∷_ 104 (List._∷_ 115 List.[])))))))))))))))))))))))))) (Syntax.tcons (Syntax.tyInt Syntax.w64) (Syntax.tcons (Syntax.tyInt Syntax.w64) (Syntax.tcons (Syntax.tyInt Syntax.w64) (Syntax.tcons (Syntax.tyInt Syntax.w64) Syntax.tnil)))))) (List._∷_ (12, Rows'.sc-here (Row.sInt Syntax.w64)) (List._∷_ (13, Rows'.any-gone (Syntax.tyRef Syntax.erased Syntax.mut (Syntax.tyArray ColumnMetadataRow.named 4096))) (List._∷_ (14, Rows'.any-gone (Syntax.tyStruct (List._∷_ 38 (List._∷_ 91 (List._∷_ 93 List.[]))) (Syntax.tcons (Syntax.tyRef Syntax.erased Syntax.mut ColumnMetadataRow.named) (Syntax.tcons (Syntax.tyInt Syntax.w64) Syntax.tnil)))) (List._∷_ (15, Rows'.any-gone Syntax.tyBool) List.[])))))))))))))))
+        g54 = List._∷_ (0, Rows'.sc-here (Row.sInt Syntax.w64)) (List._∷_ (1, Relend.mslice-owed (Referent.rtF (Referent.fInt Syntax.w8)) (Syntax.tyRef (Syntax.named 0) Syntax.mut (Syntax.tyInt Syntax.w8)) 0 8 (Row.lease (κs .0) (qs .0))) (List._∷_ (2, Rows'.sc-here (Row.sInt Syntax.w64)) (List._∷_ (3, Rows'.sslice (Referent.rtF (Referent.fInt Syntax.w8)) (Syntax.tyRef (Syntax.named 1) Syntax.imm (Syntax.tyInt Syntax.w8)) 1) (List._∷_ (4, Mut.mslice (Referent.rtF (Referent.fInt Syntax.w8)) (Syntax.tyRef (Syntax.named 2) Syntax.mut (Syntax.tyInt Syntax.w8)) 2) (List._∷_ (5, Rows'.any-gone (ColumnMetadataRow.ty)) (List._∷_ (6, Rows.arr-shrP (ColumnMetadataRow.RT) 4096 9) (List._∷_ (7, Rows'.any-gone (Syntax.tyStruct (List._∷_ 115 (List._∷_ 113 (List._∷_ 108 (List._∷_ 100 (List._∷_ 97 (List._∷_ 114 (List._∷_ 100 (List._∷_ 58 (List._∷_ 58 (List._∷_ 83 (List._∷_ 113 (List._∷_ 108 (List._∷_ 100 (List._∷_ 97 (List._∷_ 114 (List._∷_ 100 (List._∷_ 65 (List._∷_ 110 (List._∷_ 115 (List._∷_ 119 (List._∷_ 101 (List._∷_ 114 List.[])))))))))))))))))))))) (Syntax.tcons (Syntax.tyEnum (List._∷_ 111 (List._∷_ 117 (List._∷_ 116 (List._∷_ 99 (List._∷_ 111 (List._∷_ 109 (List._∷_ 101 (List._∷_ 58 (List._∷_ 58 (List._∷_ 79 (List._∷_ 117 (List._∷_ 116 (List._∷_ 99 (List._∷_ 111 (List._∷_ 109 (List._∷_ 101 List.[])))))))))))))))) (Syntax.ttcons Syntax.tnil (Syntax.ttcons Syntax.tnil (Syntax.ttcons (Syntax.tcons (Syntax.tyInt Syntax.w64) (Syntax.tcons (Syntax.tyInt Syntax.w64) Syntax.tnil)) (Syntax.ttcons Syntax.tnil (Syntax.ttcons (Syntax.tcons (Syntax.tyInt Syntax.w16) Syntax.tnil) (Syntax.ttcons Syntax.tnil (Syntax.ttcons (Syntax.tcons (Syntax.tyInt Syntax.w64) Syntax.tnil) (Syntax.ttcons Syntax.tnil (Syntax.ttcons (Syntax.tcons (Syntax.tyInt Syntax.w16) Syntax.tnil) Syntax.ttnil)))))))))) (Syntax.tcons (Syntax.tyStruct (List._∷_ 115 (List._∷_ 113 (List._∷_ 108 (List._∷_ 99 (List._∷_ 97 (List._∷_ 114 (List._∷_ 100 (List._∷_ 58 (List._∷_ 58 (List._∷_ 83 (List._∷_ 113 (List._∷_ 108 (List._∷_ 67 (List._∷_ 97 (List._∷_ 114 (List._∷_ 100 List.[])))))))))))))))) (Syntax.tcons Syntax.tyBool (Syntax.tcons (Syntax.tyInt Syntax.w32) (Syntax.tcons (Syntax.tyArray (Syntax.tyInt Syntax.w8) 5) (Syntax.tcons (Syntax.tyArray (Syntax.tyInt Syntax.w8) 8) (Syntax.tcons (Syntax.tyInt Syntax.w8) (Syntax.tcons (Syntax.tyArray (Syntax.tyInt Syntax.w32) 6) (Syntax.tcons (Syntax.tyInt Syntax.w64) (Syntax.tcons (Syntax.tyInt Syntax.w32) (Syntax.tcons (Syntax.tyArray (Syntax.tyInt Syntax.w8) 11) (Syntax.tcons (Syntax.tyInt Syntax.w64) (Syntax.tcons (Syntax.tyInt Syntax.w64) Syntax.tnil)))))))))))) (Syntax.tcons (Syntax.tyInt Syntax.w64) Syntax.tnil))))) (List._∷_ (8, Rows'.any-gone (Syntax.tyEnum (List._∷_ 111 (List._∷_ 117 (List._∷_ 116 (List._∷_ 99 (List._∷_ 111 (List._∷_ 109 (List._∷_ 101 (List._∷_ 58 (List._∷_ 58 (List._∷_ 79 (List._∷_ 117 (List._∷_ 116 (List._∷_ 99 (List._∷_ 111 (List._∷_ 109 (List._∷_ 101 List.[])))))))))))))))) (Syntax.ttcons Syntax.tnil (Syntax.ttcons Syntax.tnil (Syntax.ttcons (Syntax.tcons (Syntax.tyInt Syntax.w64) (Syntax.tcons (Syntax.tyInt Syntax.w64) Syntax.tnil)) (Syntax.ttcons Syntax.tnil (Syntax.ttcons (Syntax.tcons (Syntax.tyInt Syntax.w16) Syntax.tnil) (Syntax.ttcons Syntax.tnil (Syntax.ttcons (Syntax.tcons (Syntax.tyInt Syntax.w64) Syntax.tnil) (Syntax.ttcons Syntax.tnil (Syntax.ttcons (Syntax.tcons (Syntax.tyInt Syntax.w16) Syntax.tnil) Syntax.ttnil))))))))))) (List._∷_ (9, Rows'.any-gone (Syntax.tyInt Syntax.w64)) (List._∷_ (10, Rows'.any-gone (Syntax.tyStruct (List._∷_ 115 (List._∷_ 113 (List._∷_ 108 (List._∷_ 99 (List._∷_ 97 (List._∷_ 114 (List._∷_ 100 (List._∷_ 58 (List._∷_ 58 (List._∷_ 83 (List._∷_ 113 (List._∷_ 108 (List._∷_ 67 (List._∷_ 97 (List._∷_ 114 (List._∷_ 100 List.[])))))))))))))))) (Syntax.tcons Syntax.tyBool (Syntax.tcons (Syntax.tyInt Syntax.w32) (Syntax.tcons (Syntax.tyArray (Syntax.tyInt Syntax.w8) 5) (Syntax.tcons (Syntax.tyArray (Syntax.tyInt Syntax.w8) 8) (Syntax.tcons (Syntax.tyInt Syntax.w8) (Syntax.tcons (Syntax.tyArray (Syntax.tyInt Syntax.w32) 6) (Syntax.tcons (Syntax.tyInt Syntax.w64) (Syntax.tcons (Syntax.tyInt Syntax.w32) (Syntax.tcons (Syntax.tyArray (Syntax.tyInt Syntax.w8) 11) (Syntax.tcons (Syntax.tyInt Syntax.w64) (Syntax.tcons (Syntax.tyInt Syntax.w64) Syntax.tnil))))))))))))) (List._∷_ (11, Rows'.any-gone (Syntax.tyStruct (List._∷_ 116 (List._∷_ 97 (List._∷_ 98 (List._∷_ 108 (List._∷_ 101 (List._∷_ 95 (List._∷_ 111 (List._∷_ 117 (List._∷_ 116 (List._∷_ 112 (List._∷_ 117 (List._∷_ 116 (List._∷_ 58 (List._∷_ 58 (List._∷_ 114 (List._∷_ 111 (List._∷_ 119 (List._∷_ 115 (List._∷_ 58 (List._∷_ 58 (List._∷_ 87 (List._∷_ 105 (List._∷_ 100 (List._∷_ 116 (List._∷_ 104 (List._∷_ 115 List.[])))))))))))))))))))))))))) (Syntax.tcons (Syntax.tyInt Syntax.w64) (Syntax.tcons (Syntax.tyInt Syntax.w64) (Syntax.tcons (Syntax.tyInt Syntax.w64) (Syntax.tcons (Syntax.tyInt Syntax.w64) Syntax.tnil)))))) (List._∷_ (12, Rows'.sc-here (Row.sInt Syntax.w64)) (List._∷_ (13, Rows'.any-gone (Syntax.tyRef Syntax.erased Syntax.mut (Syntax.tyArray ColumnMetadataRow.named 4096))) (List._∷_ (14, Rows'.any-gone (Syntax.tyStruct (List._∷_ 38 (List._∷_ 91 (List._∷_ 93 List.[]))) (Syntax.tcons (Syntax.tyRef Syntax.erased Syntax.mut ColumnMetadataRow.named) (Syntax.tcons (Syntax.tyInt Syntax.w64) Syntax.tnil)))) (List._∷_ (15, Rows'.any-gone Syntax.tyBool) List.[])))))))))))))))
 
         abbrev g55 : List.List Row.Entry
-        g55 = List._∷_ (0, Rows'.sc-here (Row.sInt Syntax.w64)) (List._∷_ (1, Relend.mslice-owed (Referent.rtF (Referent.fInt Syntax.w8)) (Syntax.tyRef (Syntax.named 0) Syntax.mut (Syntax.tyInt Syntax.w8)) 0 8 (Row.lease (κs .0) (qs .0))) (List._∷_ (2, Rows'.sc-here (Row.sInt Syntax.w64)) (List._∷_ (3, Rows'.sslice (Referent.rtF (Referent.fInt Syntax.w8)) (Syntax.tyRef (Syntax.named 1) Syntax.imm (Syntax.tyInt Syntax.w8)) 1) (List._∷_ (4, Mut.mslice (Referent.rtF (Referent.fInt Syntax.w8)) (Syntax.tyRef (Syntax.named 2) Syntax.mut (Syntax.tyInt Syntax.w8)) 2) (List._∷_ (5, Rows'.any-gone (ColumnMetadataRow.ty)) (List._∷_ (6, Rows.arr-shrP (ColumnMetadataRow.RT) 4096 9) (List._∷_ (7, Rows'.any-gone (Syntax.tyStruct (List._∷_ 115 (List._∷_ 113 (List._∷_ 108 (List._∷_ 100 (List._∷_ 97 (List._∷_ 114 (List._∷_ 100 (List._∷_ 58 (List._∷_ 58 (List._∷_ 83 (List._∷_ 113 (List._∷_ 108 (List._∷_ 100 (List._∷_ 97 (List._∷_ 114 (List._∷_ 100 (List._∷_ 65 (List._∷_ 110 (List._∷_ 115 (List._∷_ 119 (List._∷_ 101 (List._∷_ 114 List.[])))))))))))))))))))))) (Syntax.tcons (Syntax.tyEnum (List._∷_ 111 (List._∷_ 117 (List._∷_ 116 (List._∷_ 99 (List._∷_ 111 (List._∷_ 109 (List._∷_ 101 (List._∷_ 58 (List._∷_ 58 (List._∷_ 79 (List._∷_ 117 (List._∷_ 116 (List._∷_ 99 (List._∷_ 111 (List._∷_ 109 (List._∷_ 101 List.[])))))))))))))))) (Syntax.ttcons Syntax.tnil (Syntax.ttcons Syntax.tnil (Syntax.ttcons (Syntax.tcons (Syntax.tyInt Syntax.w64) (Syntax.tcons (Syntax.tyInt Syntax.w64) Syntax.tnil)) (Syntax.ttcons Syntax.tnil (Syntax.ttcons (Syntax.tcons (Syntax.tyInt Syntax.w16) Syntax.tnil) (Syntax.ttcons Syntax.tnil (Syntax.ttcons (Syntax.tcons (Syntax.tyInt Syntax.w64) Syntax.tnil) (Syntax.ttcons Syntax.tnil Syntax.ttnil))))))))) (Syntax.tcons (Syntax.tyStruct (List._∷_ 115 (List._∷_ 113 (List._∷_ 108 (List._∷_ 99 (List._∷_ 97 (List._∷_ 114 (List._∷_ 100 (List._∷_ 58 (List._∷_ 58 (List._∷_ 83 (List._∷_ 113 (List._∷_ 108 (List._∷_ 67 (List._∷_ 97 (List._∷_ 114 (List._∷_ 100 List.[])))))))))))))))) (Syntax.tcons Syntax.tyBool (Syntax.tcons (Syntax.tyInt Syntax.w32) (Syntax.tcons (Syntax.tyArray (Syntax.tyInt Syntax.w8) 5) (Syntax.tcons (Syntax.tyArray (Syntax.tyInt Syntax.w8) 8) (Syntax.tcons (Syntax.tyInt Syntax.w8) (Syntax.tcons (Syntax.tyArray (Syntax.tyInt Syntax.w32) 6) (Syntax.tcons (Syntax.tyInt Syntax.w64) (Syntax.tcons (Syntax.tyInt Syntax.w32) (Syntax.tcons (Syntax.tyArray (Syntax.tyInt Syntax.w8) 11) (Syntax.tcons (Syntax.tyInt Syntax.w64) (Syntax.tcons (Syntax.tyInt Syntax.w64) Syntax.tnil)))))))))))) (Syntax.tcons (Syntax.tyInt Syntax.w64) Syntax.tnil))))) (List._∷_ (8, Rows'.any-gone (Syntax.tyEnum (List._∷_ 111 (List._∷_ 117 (List._∷_ 116 (List._∷_ 99 (List._∷_ 111 (List._∷_ 109 (List._∷_ 101 (List._∷_ 58 (List._∷_ 58 (List._∷_ 79 (List._∷_ 117 (List._∷_ 116 (List._∷_ 99 (List._∷_ 111 (List._∷_ 109 (List._∷_ 101 List.[])))))))))))))))) (Syntax.ttcons Syntax.tnil (Syntax.ttcons Syntax.tnil (Syntax.ttcons (Syntax.tcons (Syntax.tyInt Syntax.w64) (Syntax.tcons (Syntax.tyInt Syntax.w64) Syntax.tnil)) (Syntax.ttcons Syntax.tnil (Syntax.ttcons (Syntax.tcons (Syntax.tyInt Syntax.w16) Syntax.tnil) (Syntax.ttcons Syntax.tnil (Syntax.ttcons (Syntax.tcons (Syntax.tyInt Syntax.w64) Syntax.tnil) (Syntax.ttcons Syntax.tnil Syntax.ttnil)))))))))) (List._∷_ (9, Rows'.any-gone (Syntax.tyInt Syntax.w64)) (List._∷_ (10, Rows'.any-gone (Syntax.tyStruct (List._∷_ 115 (List._∷_ 113 (List._∷_ 108 (List._∷_ 99 (List._∷_ 97 (List._∷_ 114 (List._∷_ 100 (List._∷_ 58 (List._∷_ 58 (List._∷_ 83 (List._∷_ 113 (List._∷_ 108 (List._∷_ 67 (List._∷_ 97 (List._∷_ 114 (List._∷_ 100 List.[])))))))))))))))) (Syntax.tcons Syntax.tyBool (Syntax.tcons (Syntax.tyInt Syntax.w32) (Syntax.tcons (Syntax.tyArray (Syntax.tyInt Syntax.w8) 5) (Syntax.tcons (Syntax.tyArray (Syntax.tyInt Syntax.w8) 8) (Syntax.tcons (Syntax.tyInt Syntax.w8) (Syntax.tcons (Syntax.tyArray (Syntax.tyInt Syntax.w32) 6) (Syntax.tcons (Syntax.tyInt Syntax.w64) (Syntax.tcons (Syntax.tyInt Syntax.w32) (Syntax.tcons (Syntax.tyArray (Syntax.tyInt Syntax.w8) 11) (Syntax.tcons (Syntax.tyInt Syntax.w64) (Syntax.tcons (Syntax.tyInt Syntax.w64) Syntax.tnil))))))))))))) (List._∷_ (11, Rows'.any-gone (Syntax.tyStruct (List._∷_ 116 (List._∷_ 97 (List._∷_ 98 (List._∷_ 108 (List._∷_ 101 (List._∷_ 95 (List._∷_ 111 (List._∷_ 117 (List._∷_ 116 (List._∷_ 112 (List._∷_ 117 (List._∷_ 116 (List._∷_ 58 (List._∷_ 58 (List._∷_ 114 (List._∷_ 111 (List._∷_ 119 (List._∷_ 115 (List._∷_ 58 (List._∷_ 58 (List._∷_ 87 (List._∷_ 105 (List._∷_ 100 (List._∷_ 116 (List._∷_ 104 (List._∷_ 115 List.[])))))))))))))))))))))))))) (Syntax.tcons (Syntax.tyInt Syntax.w64) (Syntax.tcons (Syntax.tyInt Syntax.w64) (Syntax.tcons (Syntax.tyInt Syntax.w64) (Syntax.tcons (Syntax.tyInt Syntax.w64) Syntax.tnil)))))) (List._∷_ (12, Rows'.any-gone (Syntax.tyInt Syntax.w64)) (List._∷_ (13, Rows'.any-gone (Syntax.tyRef Syntax.erased Syntax.mut (Syntax.tyArray ColumnMetadataRow.named 4096))) (List._∷_ (14, Rows'.any-gone (Syntax.tyStruct (List._∷_ 38 (List._∷_ 91 (List._∷_ 93 List.[]))) (Syntax.tcons (Syntax.tyRef Syntax.erased Syntax.mut ColumnMetadataRow.named) (Syntax.tcons (Syntax.tyInt Syntax.w64) Syntax.tnil)))) (List._∷_ (15, Rows'.any-gone Syntax.tyBool) List.[])))))))))))))))
+        g55 = List._∷_ (0, Rows'.sc-here (Row.sInt Syntax.w64)) (List._∷_ (1, Relend.mslice-owed (Referent.rtF (Referent.fInt Syntax.w8)) (Syntax.tyRef (Syntax.named 0) Syntax.mut (Syntax.tyInt Syntax.w8)) 0 8 (Row.lease (κs .0) (qs .0))) (List._∷_ (2, Rows'.sc-here (Row.sInt Syntax.w64)) (List._∷_ (3, Rows'.sslice (Referent.rtF (Referent.fInt Syntax.w8)) (Syntax.tyRef (Syntax.named 1) Syntax.imm (Syntax.tyInt Syntax.w8)) 1) (List._∷_ (4, Mut.mslice (Referent.rtF (Referent.fInt Syntax.w8)) (Syntax.tyRef (Syntax.named 2) Syntax.mut (Syntax.tyInt Syntax.w8)) 2) (List._∷_ (5, Rows'.any-gone (ColumnMetadataRow.ty)) (List._∷_ (6, Rows.arr-shrP (ColumnMetadataRow.RT) 4096 9) (List._∷_ (7, Rows'.any-gone (Syntax.tyStruct (List._∷_ 115 (List._∷_ 113 (List._∷_ 108 (List._∷_ 100 (List._∷_ 97 (List._∷_ 114 (List._∷_ 100 (List._∷_ 58 (List._∷_ 58 (List._∷_ 83 (List._∷_ 113 (List._∷_ 108 (List._∷_ 100 (List._∷_ 97 (List._∷_ 114 (List._∷_ 100 (List._∷_ 65 (List._∷_ 110 (List._∷_ 115 (List._∷_ 119 (List._∷_ 101 (List._∷_ 114 List.[])))))))))))))))))))))) (Syntax.tcons (Syntax.tyEnum (List._∷_ 111 (List._∷_ 117 (List._∷_ 116 (List._∷_ 99 (List._∷_ 111 (List._∷_ 109 (List._∷_ 101 (List._∷_ 58 (List._∷_ 58 (List._∷_ 79 (List._∷_ 117 (List._∷_ 116 (List._∷_ 99 (List._∷_ 111 (List._∷_ 109 (List._∷_ 101 List.[])))))))))))))))) (Syntax.ttcons Syntax.tnil (Syntax.ttcons Syntax.tnil (Syntax.ttcons (Syntax.tcons (Syntax.tyInt Syntax.w64) (Syntax.tcons (Syntax.tyInt Syntax.w64) Syntax.tnil)) (Syntax.ttcons Syntax.tnil (Syntax.ttcons (Syntax.tcons (Syntax.tyInt Syntax.w16) Syntax.tnil) (Syntax.ttcons Syntax.tnil (Syntax.ttcons (Syntax.tcons (Syntax.tyInt Syntax.w64) Syntax.tnil) (Syntax.ttcons Syntax.tnil (Syntax.ttcons (Syntax.tcons (Syntax.tyInt Syntax.w16) Syntax.tnil) Syntax.ttnil)))))))))) (Syntax.tcons (Syntax.tyStruct (List._∷_ 115 (List._∷_ 113 (List._∷_ 108 (List._∷_ 99 (List._∷_ 97 (List._∷_ 114 (List._∷_ 100 (List._∷_ 58 (List._∷_ 58 (List._∷_ 83 (List._∷_ 113 (List._∷_ 108 (List._∷_ 67 (List._∷_ 97 (List._∷_ 114 (List._∷_ 100 List.[])))))))))))))))) (Syntax.tcons Syntax.tyBool (Syntax.tcons (Syntax.tyInt Syntax.w32) (Syntax.tcons (Syntax.tyArray (Syntax.tyInt Syntax.w8) 5) (Syntax.tcons (Syntax.tyArray (Syntax.tyInt Syntax.w8) 8) (Syntax.tcons (Syntax.tyInt Syntax.w8) (Syntax.tcons (Syntax.tyArray (Syntax.tyInt Syntax.w32) 6) (Syntax.tcons (Syntax.tyInt Syntax.w64) (Syntax.tcons (Syntax.tyInt Syntax.w32) (Syntax.tcons (Syntax.tyArray (Syntax.tyInt Syntax.w8) 11) (Syntax.tcons (Syntax.tyInt Syntax.w64) (Syntax.tcons (Syntax.tyInt Syntax.w64) Syntax.tnil)))))))))))) (Syntax.tcons (Syntax.tyInt Syntax.w64) Syntax.tnil))))) (List._∷_ (8, Rows'.any-gone (Syntax.tyEnum (List._∷_ 111 (List._∷_ 117 (List._∷_ 116 (List._∷_ 99 (List._∷_ 111 (List._∷_ 109 (List._∷_ 101 (List._∷_ 58 (List._∷_ 58 (List._∷_ 79 (List._∷_ 117 (List._∷_ 116 (List._∷_ 99 (List._∷_ 111 (List._∷_ 109 (List._∷_ 101 List.[])))))))))))))))) (Syntax.ttcons Syntax.tnil (Syntax.ttcons Syntax.tnil (Syntax.ttcons (Syntax.tcons (Syntax.tyInt Syntax.w64) (Syntax.tcons (Syntax.tyInt Syntax.w64) Syntax.tnil)) (Syntax.ttcons Syntax.tnil (Syntax.ttcons (Syntax.tcons (Syntax.tyInt Syntax.w16) Syntax.tnil) (Syntax.ttcons Syntax.tnil (Syntax.ttcons (Syntax.tcons (Syntax.tyInt Syntax.w64) Syntax.tnil) (Syntax.ttcons Syntax.tnil (Syntax.ttcons (Syntax.tcons (Syntax.tyInt Syntax.w16) Syntax.tnil) Syntax.ttnil))))))))))) (List._∷_ (9, Rows'.any-gone (Syntax.tyInt Syntax.w64)) (List._∷_ (10, Rows'.any-gone (Syntax.tyStruct (List._∷_ 115 (List._∷_ 113 (List._∷_ 108 (List._∷_ 99 (List._∷_ 97 (List._∷_ 114 (List._∷_ 100 (List._∷_ 58 (List._∷_ 58 (List._∷_ 83 (List._∷_ 113 (List._∷_ 108 (List._∷_ 67 (List._∷_ 97 (List._∷_ 114 (List._∷_ 100 List.[])))))))))))))))) (Syntax.tcons Syntax.tyBool (Syntax.tcons (Syntax.tyInt Syntax.w32) (Syntax.tcons (Syntax.tyArray (Syntax.tyInt Syntax.w8) 5) (Syntax.tcons (Syntax.tyArray (Syntax.tyInt Syntax.w8) 8) (Syntax.tcons (Syntax.tyInt Syntax.w8) (Syntax.tcons (Syntax.tyArray (Syntax.tyInt Syntax.w32) 6) (Syntax.tcons (Syntax.tyInt Syntax.w64) (Syntax.tcons (Syntax.tyInt Syntax.w32) (Syntax.tcons (Syntax.tyArray (Syntax.tyInt Syntax.w8) 11) (Syntax.tcons (Syntax.tyInt Syntax.w64) (Syntax.tcons (Syntax.tyInt Syntax.w64) Syntax.tnil))))))))))))) (List._∷_ (11, Rows'.any-gone (Syntax.tyStruct (List._∷_ 116 (List._∷_ 97 (List._∷_ 98 (List._∷_ 108 (List._∷_ 101 (List._∷_ 95 (List._∷_ 111 (List._∷_ 117 (List._∷_ 116 (List._∷_ 112 (List._∷_ 117 (List._∷_ 116 (List._∷_ 58 (List._∷_ 58 (List._∷_ 114 (List._∷_ 111 (List._∷_ 119 (List._∷_ 115 (List._∷_ 58 (List._∷_ 58 (List._∷_ 87 (List._∷_ 105 (List._∷_ 100 (List._∷_ 116 (List._∷_ 104 (List._∷_ 115 List.[])))))))))))))))))))))))))) (Syntax.tcons (Syntax.tyInt Syntax.w64) (Syntax.tcons (Syntax.tyInt Syntax.w64) (Syntax.tcons (Syntax.tyInt Syntax.w64) (Syntax.tcons (Syntax.tyInt Syntax.w64) Syntax.tnil)))))) (List._∷_ (12, Rows'.any-gone (Syntax.tyInt Syntax.w64)) (List._∷_ (13, Rows'.any-gone (Syntax.tyRef Syntax.erased Syntax.mut (Syntax.tyArray ColumnMetadataRow.named 4096))) (List._∷_ (14, Rows'.any-gone (Syntax.tyStruct (List._∷_ 38 (List._∷_ 91 (List._∷_ 93 List.[]))) (Syntax.tcons (Syntax.tyRef Syntax.erased Syntax.mut ColumnMetadataRow.named) (Syntax.tcons (Syntax.tyInt Syntax.w64) Syntax.tnil)))) (List._∷_ (15, Rows'.any-gone Syntax.tyBool) List.[])))))))))))))))
 
         abbrev G0 : Row.Cx
         G0 = record { locals = List._++_ t0 t1; slots = List._∷_ (Row.lease (κs .0) (qs .0)) (List._∷_ (Row.lease (κs .1 .0) (qs .1 .0)) (List._∷_ (Row.lease (κs .1 .1 .0) (qs .1 .1 .0)) (List._∷_ Row.off (List._∷_ Row.off (List._∷_ Row.off (List._∷_ Row.off (List._∷_ Row.off (List._∷_ Row.off (List._∷_ Row.off List.[]))))))))) }
@@ -1417,7 +1417,7 @@ module _ (claims· : Claims) where
           d5 = Typed.g-pre 𝓤 H A W 𝓣 E G26 G27 b10 Δ1 (λ Ψ. Ψ) (at4 bs) (Lifetime.g-end 𝓤 H A W E G26 4 Path'.refl) d4
 
           d6 : Typed.Typed 𝓤 H A 𝓣 E G25 b10 Δ1 (at6 bs)
-          d6 = Typed.g-pre 𝓤 H A W 𝓣 E G25 G26 b10 Δ1 (Typed.pass T25 T26 (s23 bs)) (at5 bs) (Scalar.g-room 𝓤 H A W E G25 8 (Syntax.tyEnum (List._∷_ 111 (List._∷_ 117 (List._∷_ 116 (List._∷_ 99 (List._∷_ 111 (List._∷_ 109 (List._∷_ 101 (List._∷_ 58 (List._∷_ 58 (List._∷_ 79 (List._∷_ 117 (List._∷_ 116 (List._∷_ 99 (List._∷_ 111 (List._∷_ 109 (List._∷_ 101 List.[])))))))))))))))) (Syntax.ttcons Syntax.tnil (Syntax.ttcons Syntax.tnil (Syntax.ttcons (Syntax.tcons (Syntax.tyInt Syntax.w64) (Syntax.tcons (Syntax.tyInt Syntax.w64) Syntax.tnil)) (Syntax.ttcons Syntax.tnil (Syntax.ttcons (Syntax.tcons (Syntax.tyInt Syntax.w16) Syntax.tnil) (Syntax.ttcons Syntax.tnil (Syntax.ttcons (Syntax.tcons (Syntax.tyInt Syntax.w64) Syntax.tnil) (Syntax.ttcons Syntax.tnil Syntax.ttnil))))))))) (Local.room-whole 𝓤 H A W (Declared.row Outcome.the-type) (Syntax.tyEnum (List._∷_ 111 (List._∷_ 117 (List._∷_ 116 (List._∷_ 99 (List._∷_ 111 (List._∷_ 109 (List._∷_ 101 (List._∷_ 58 (List._∷_ 58 (List._∷_ 79 (List._∷_ 117 (List._∷_ 116 (List._∷_ 99 (List._∷_ 111 (List._∷_ 109 (List._∷_ 101 List.[])))))))))))))))) (Syntax.ttcons Syntax.tnil (Syntax.ttcons Syntax.tnil (Syntax.ttcons (Syntax.tcons (Syntax.tyInt Syntax.w64) (Syntax.tcons (Syntax.tyInt Syntax.w64) Syntax.tnil)) (Syntax.ttcons Syntax.tnil (Syntax.ttcons (Syntax.tcons (Syntax.tyInt Syntax.w16) Syntax.tnil) (Syntax.ttcons Syntax.tnil (Syntax.ttcons (Syntax.tcons (Syntax.tyInt Syntax.w64) Syntax.tnil) (Syntax.ttcons Syntax.tnil Syntax.ttnil))))))))) Path'.refl)) d5
+          d6 = Typed.g-pre 𝓤 H A W 𝓣 E G25 G26 b10 Δ1 (Typed.pass T25 T26 (s23 bs)) (at5 bs) (Scalar.g-room 𝓤 H A W E G25 8 (Syntax.tyEnum (List._∷_ 111 (List._∷_ 117 (List._∷_ 116 (List._∷_ 99 (List._∷_ 111 (List._∷_ 109 (List._∷_ 101 (List._∷_ 58 (List._∷_ 58 (List._∷_ 79 (List._∷_ 117 (List._∷_ 116 (List._∷_ 99 (List._∷_ 111 (List._∷_ 109 (List._∷_ 101 List.[])))))))))))))))) (Syntax.ttcons Syntax.tnil (Syntax.ttcons Syntax.tnil (Syntax.ttcons (Syntax.tcons (Syntax.tyInt Syntax.w64) (Syntax.tcons (Syntax.tyInt Syntax.w64) Syntax.tnil)) (Syntax.ttcons Syntax.tnil (Syntax.ttcons (Syntax.tcons (Syntax.tyInt Syntax.w16) Syntax.tnil) (Syntax.ttcons Syntax.tnil (Syntax.ttcons (Syntax.tcons (Syntax.tyInt Syntax.w64) Syntax.tnil) (Syntax.ttcons Syntax.tnil (Syntax.ttcons (Syntax.tcons (Syntax.tyInt Syntax.w16) Syntax.tnil) Syntax.ttnil)))))))))) (Local.room-whole 𝓤 H A W (Declared.row Outcome.the-type) (Syntax.tyEnum (List._∷_ 111 (List._∷_ 117 (List._∷_ 116 (List._∷_ 99 (List._∷_ 111 (List._∷_ 109 (List._∷_ 101 (List._∷_ 58 (List._∷_ 58 (List._∷_ 79 (List._∷_ 117 (List._∷_ 116 (List._∷_ 99 (List._∷_ 111 (List._∷_ 109 (List._∷_ 101 List.[])))))))))))))))) (Syntax.ttcons Syntax.tnil (Syntax.ttcons Syntax.tnil (Syntax.ttcons (Syntax.tcons (Syntax.tyInt Syntax.w64) (Syntax.tcons (Syntax.tyInt Syntax.w64) Syntax.tnil)) (Syntax.ttcons Syntax.tnil (Syntax.ttcons (Syntax.tcons (Syntax.tyInt Syntax.w16) Syntax.tnil) (Syntax.ttcons Syntax.tnil (Syntax.ttcons (Syntax.tcons (Syntax.tyInt Syntax.w64) Syntax.tnil) (Syntax.ttcons Syntax.tnil (Syntax.ttcons (Syntax.tcons (Syntax.tyInt Syntax.w16) Syntax.tnil) Syntax.ttnil)))))))))) Path'.refl)) d5
 
           d7 : Typed.Typed 𝓤 H A 𝓣 E G24 b11 Δ1 (at7 bs)
           d7 = Typed.s-seq 𝓤 H A W 𝓣 E G24 G25 b9 b10 Δ1 (Typed.both (s22 bs)) (at6 bs) (Plain.t-call-plain 𝓤 H A W 𝓣 1 ps·3 r·3 (claims· .6) (claims· .7) "status_output::put_refusal" (known .3) E (λ pos β. β) G24 (record { pos = 17; ty = Syntax.tyRef Syntax.erased Syntax.mut (Syntax.tyInt Syntax.w8); ref = λ x. x }, (Num.vAt 2 λ x. x, (record { pos = 8; st = List.[]; d = 0; at = λ x. x }, tt))) 0 (List._∷_ 4 List.[]) (Call.sub-id 𝓤 H A W (G24 .slots)) (Reads'.as-is 𝓤 H A (Mut.mslice (Referent.rtF (Referent.fInt Syntax.w8)) (Syntax.tyRef Syntax.erased Syntax.mut (Syntax.tyInt Syntax.w8)) 4), Mut.reads-mslice 𝓤 H A W (Referent.rtF (Referent.fInt Syntax.w8)) (Syntax.tyRef Syntax.erased Syntax.mut (Syntax.tyInt Syntax.w8)) 4, Path'.refl, ((Scalar.reads-sc 𝓤 H A W (Row.sInt Syntax.w64), Path'.refl), ((Yields.yields-copy 𝓤 H A W (λ ρ. Unit) (Declared.row Outcome.the-type) Path'.refl (Copies.cEnum Outcome.the-type Laws.the-laws Laws.the-copy .copy 𝓤 H A W) (Rows'.whole (Declared.row Outcome.the-type)) (λ x. x) (λ x. x) (λ ρ told. Local.mem-whole 𝓤 H A W (Declared.row Outcome.the-type) ρ) λ ρ told. Local.whole-mem 𝓤 H A W (Declared.row Outcome.the-type) ρ, Path'.refl), tt))) (Reads'.room-gone 𝓤 H A (Syntax.tyInt Syntax.w64)) (tt, tt) Path'.refl) d6
@@ -1435,7 +1435,7 @@ module _ (claims· : Claims) where
           d11 = Typed.g-pre 𝓤 H A W 𝓣 E G20 G21 b13 Δ1 (Typed.pass T20 T21 (s18 bs)) (at10 bs) (Scalar.g-room 𝓤 H A W E G20 15 Syntax.tyBool (Scalar.room-sc 𝓤 H A W Row.sBool)) d10
 
           d12 : Typed.Typed 𝓤 H A 𝓣 E G19 b13 Δ1 (at12 bs)
-          d12 = Typed.g-pre 𝓤 H A W 𝓣 E G19 G20 b13 Δ1 (Typed.pass T19 T20 (s17 bs)) (at11 bs) (Scalar.g-room 𝓤 H A W E G19 7 (Syntax.tyStruct (List._∷_ 115 (List._∷_ 113 (List._∷_ 108 (List._∷_ 100 (List._∷_ 97 (List._∷_ 114 (List._∷_ 100 (List._∷_ 58 (List._∷_ 58 (List._∷_ 83 (List._∷_ 113 (List._∷_ 108 (List._∷_ 100 (List._∷_ 97 (List._∷_ 114 (List._∷_ 100 (List._∷_ 65 (List._∷_ 110 (List._∷_ 115 (List._∷_ 119 (List._∷_ 101 (List._∷_ 114 List.[])))))))))))))))))))))) (Syntax.tcons (Syntax.tyEnum (List._∷_ 111 (List._∷_ 117 (List._∷_ 116 (List._∷_ 99 (List._∷_ 111 (List._∷_ 109 (List._∷_ 101 (List._∷_ 58 (List._∷_ 58 (List._∷_ 79 (List._∷_ 117 (List._∷_ 116 (List._∷_ 99 (List._∷_ 111 (List._∷_ 109 (List._∷_ 101 List.[])))))))))))))))) (Syntax.ttcons Syntax.tnil (Syntax.ttcons Syntax.tnil (Syntax.ttcons (Syntax.tcons (Syntax.tyInt Syntax.w64) (Syntax.tcons (Syntax.tyInt Syntax.w64) Syntax.tnil)) (Syntax.ttcons Syntax.tnil (Syntax.ttcons (Syntax.tcons (Syntax.tyInt Syntax.w16) Syntax.tnil) (Syntax.ttcons Syntax.tnil (Syntax.ttcons (Syntax.tcons (Syntax.tyInt Syntax.w64) Syntax.tnil) (Syntax.ttcons Syntax.tnil Syntax.ttnil))))))))) (Syntax.tcons (Syntax.tyStruct (List._∷_ 115 (List._∷_ 113 (List._∷_ 108 (List._∷_ 99 (List._∷_ 97 (List._∷_ 114 (List._∷_ 100 (List._∷_ 58 (List._∷_ 58 (List._∷_ 83 (List._∷_ 113 (List._∷_ 108 (List._∷_ 67 (List._∷_ 97 (List._∷_ 114 (List._∷_ 100 List.[])))))))))))))))) (Syntax.tcons Syntax.tyBool (Syntax.tcons (Syntax.tyInt Syntax.w32) (Syntax.tcons (Syntax.tyArray (Syntax.tyInt Syntax.w8) 5) (Syntax.tcons (Syntax.tyArray (Syntax.tyInt Syntax.w8) 8) (Syntax.tcons (Syntax.tyInt Syntax.w8) (Syntax.tcons (Syntax.tyArray (Syntax.tyInt Syntax.w32) 6) (Syntax.tcons (Syntax.tyInt Syntax.w64) (Syntax.tcons (Syntax.tyInt Syntax.w32) (Syntax.tcons (Syntax.tyArray (Syntax.tyInt Syntax.w8) 11) (Syntax.tcons (Syntax.tyInt Syntax.w64) (Syntax.tcons (Syntax.tyInt Syntax.w64) Syntax.tnil)))))))))))) (Syntax.tcons (Syntax.tyInt Syntax.w64) Syntax.tnil)))) (Local.room-whole 𝓤 H A W (Declared'.row SqldardAnswer.the-type) (Syntax.tyStruct (List._∷_ 115 (List._∷_ 113 (List._∷_ 108 (List._∷_ 100 (List._∷_ 97 (List._∷_ 114 (List._∷_ 100 (List._∷_ 58 (List._∷_ 58 (List._∷_ 83 (List._∷_ 113 (List._∷_ 108 (List._∷_ 100 (List._∷_ 97 (List._∷_ 114 (List._∷_ 100 (List._∷_ 65 (List._∷_ 110 (List._∷_ 115 (List._∷_ 119 (List._∷_ 101 (List._∷_ 114 List.[])))))))))))))))))))))) (Syntax.tcons (Syntax.tyEnum (List._∷_ 111 (List._∷_ 117 (List._∷_ 116 (List._∷_ 99 (List._∷_ 111 (List._∷_ 109 (List._∷_ 101 (List._∷_ 58 (List._∷_ 58 (List._∷_ 79 (List._∷_ 117 (List._∷_ 116 (List._∷_ 99 (List._∷_ 111 (List._∷_ 109 (List._∷_ 101 List.[])))))))))))))))) (Syntax.ttcons Syntax.tnil (Syntax.ttcons Syntax.tnil (Syntax.ttcons (Syntax.tcons (Syntax.tyInt Syntax.w64) (Syntax.tcons (Syntax.tyInt Syntax.w64) Syntax.tnil)) (Syntax.ttcons Syntax.tnil (Syntax.ttcons (Syntax.tcons (Syntax.tyInt Syntax.w16) Syntax.tnil) (Syntax.ttcons Syntax.tnil (Syntax.ttcons (Syntax.tcons (Syntax.tyInt Syntax.w64) Syntax.tnil) (Syntax.ttcons Syntax.tnil Syntax.ttnil))))))))) (Syntax.tcons (Syntax.tyStruct (List._∷_ 115 (List._∷_ 113 (List._∷_ 108 (List._∷_ 99 (List._∷_ 97 (List._∷_ 114 (List._∷_ 100 (List._∷_ 58 (List._∷_ 58 (List._∷_ 83 (List._∷_ 113 (List._∷_ 108 (List._∷_ 67 (List._∷_ 97 (List._∷_ 114 (List._∷_ 100 List.[])))))))))))))))) (Syntax.tcons Syntax.tyBool (Syntax.tcons (Syntax.tyInt Syntax.w32) (Syntax.tcons (Syntax.tyArray (Syntax.tyInt Syntax.w8) 5) (Syntax.tcons (Syntax.tyArray (Syntax.tyInt Syntax.w8) 8) (Syntax.tcons (Syntax.tyInt Syntax.w8) (Syntax.tcons (Syntax.tyArray (Syntax.tyInt Syntax.w32) 6) (Syntax.tcons (Syntax.tyInt Syntax.w64) (Syntax.tcons (Syntax.tyInt Syntax.w32) (Syntax.tcons (Syntax.tyArray (Syntax.tyInt Syntax.w8) 11) (Syntax.tcons (Syntax.tyInt Syntax.w64) (Syntax.tcons (Syntax.tyInt Syntax.w64) Syntax.tnil)))))))))))) (Syntax.tcons (Syntax.tyInt Syntax.w64) Syntax.tnil)))) Path'.refl)) d11
+          d12 = Typed.g-pre 𝓤 H A W 𝓣 E G19 G20 b13 Δ1 (Typed.pass T19 T20 (s17 bs)) (at11 bs) (Scalar.g-room 𝓤 H A W E G19 7 (Syntax.tyStruct (List._∷_ 115 (List._∷_ 113 (List._∷_ 108 (List._∷_ 100 (List._∷_ 97 (List._∷_ 114 (List._∷_ 100 (List._∷_ 58 (List._∷_ 58 (List._∷_ 83 (List._∷_ 113 (List._∷_ 108 (List._∷_ 100 (List._∷_ 97 (List._∷_ 114 (List._∷_ 100 (List._∷_ 65 (List._∷_ 110 (List._∷_ 115 (List._∷_ 119 (List._∷_ 101 (List._∷_ 114 List.[])))))))))))))))))))))) (Syntax.tcons (Syntax.tyEnum (List._∷_ 111 (List._∷_ 117 (List._∷_ 116 (List._∷_ 99 (List._∷_ 111 (List._∷_ 109 (List._∷_ 101 (List._∷_ 58 (List._∷_ 58 (List._∷_ 79 (List._∷_ 117 (List._∷_ 116 (List._∷_ 99 (List._∷_ 111 (List._∷_ 109 (List._∷_ 101 List.[])))))))))))))))) (Syntax.ttcons Syntax.tnil (Syntax.ttcons Syntax.tnil (Syntax.ttcons (Syntax.tcons (Syntax.tyInt Syntax.w64) (Syntax.tcons (Syntax.tyInt Syntax.w64) Syntax.tnil)) (Syntax.ttcons Syntax.tnil (Syntax.ttcons (Syntax.tcons (Syntax.tyInt Syntax.w16) Syntax.tnil) (Syntax.ttcons Syntax.tnil (Syntax.ttcons (Syntax.tcons (Syntax.tyInt Syntax.w64) Syntax.tnil) (Syntax.ttcons Syntax.tnil (Syntax.ttcons (Syntax.tcons (Syntax.tyInt Syntax.w16) Syntax.tnil) Syntax.ttnil)))))))))) (Syntax.tcons (Syntax.tyStruct (List._∷_ 115 (List._∷_ 113 (List._∷_ 108 (List._∷_ 99 (List._∷_ 97 (List._∷_ 114 (List._∷_ 100 (List._∷_ 58 (List._∷_ 58 (List._∷_ 83 (List._∷_ 113 (List._∷_ 108 (List._∷_ 67 (List._∷_ 97 (List._∷_ 114 (List._∷_ 100 List.[])))))))))))))))) (Syntax.tcons Syntax.tyBool (Syntax.tcons (Syntax.tyInt Syntax.w32) (Syntax.tcons (Syntax.tyArray (Syntax.tyInt Syntax.w8) 5) (Syntax.tcons (Syntax.tyArray (Syntax.tyInt Syntax.w8) 8) (Syntax.tcons (Syntax.tyInt Syntax.w8) (Syntax.tcons (Syntax.tyArray (Syntax.tyInt Syntax.w32) 6) (Syntax.tcons (Syntax.tyInt Syntax.w64) (Syntax.tcons (Syntax.tyInt Syntax.w32) (Syntax.tcons (Syntax.tyArray (Syntax.tyInt Syntax.w8) 11) (Syntax.tcons (Syntax.tyInt Syntax.w64) (Syntax.tcons (Syntax.tyInt Syntax.w64) Syntax.tnil)))))))))))) (Syntax.tcons (Syntax.tyInt Syntax.w64) Syntax.tnil)))) (Local.room-whole 𝓤 H A W (Declared'.row SqldardAnswer.the-type) (Syntax.tyStruct (List._∷_ 115 (List._∷_ 113 (List._∷_ 108 (List._∷_ 100 (List._∷_ 97 (List._∷_ 114 (List._∷_ 100 (List._∷_ 58 (List._∷_ 58 (List._∷_ 83 (List._∷_ 113 (List._∷_ 108 (List._∷_ 100 (List._∷_ 97 (List._∷_ 114 (List._∷_ 100 (List._∷_ 65 (List._∷_ 110 (List._∷_ 115 (List._∷_ 119 (List._∷_ 101 (List._∷_ 114 List.[])))))))))))))))))))))) (Syntax.tcons (Syntax.tyEnum (List._∷_ 111 (List._∷_ 117 (List._∷_ 116 (List._∷_ 99 (List._∷_ 111 (List._∷_ 109 (List._∷_ 101 (List._∷_ 58 (List._∷_ 58 (List._∷_ 79 (List._∷_ 117 (List._∷_ 116 (List._∷_ 99 (List._∷_ 111 (List._∷_ 109 (List._∷_ 101 List.[])))))))))))))))) (Syntax.ttcons Syntax.tnil (Syntax.ttcons Syntax.tnil (Syntax.ttcons (Syntax.tcons (Syntax.tyInt Syntax.w64) (Syntax.tcons (Syntax.tyInt Syntax.w64) Syntax.tnil)) (Syntax.ttcons Syntax.tnil (Syntax.ttcons (Syntax.tcons (Syntax.tyInt Syntax.w16) Syntax.tnil) (Syntax.ttcons Syntax.tnil (Syntax.ttcons (Syntax.tcons (Syntax.tyInt Syntax.w64) Syntax.tnil) (Syntax.ttcons Syntax.tnil (Syntax.ttcons (Syntax.tcons (Syntax.tyInt Syntax.w16) Syntax.tnil) Syntax.ttnil)))))))))) (Syntax.tcons (Syntax.tyStruct (List._∷_ 115 (List._∷_ 113 (List._∷_ 108 (List._∷_ 99 (List._∷_ 97 (List._∷_ 114 (List._∷_ 100 (List._∷_ 58 (List._∷_ 58 (List._∷_ 83 (List._∷_ 113 (List._∷_ 108 (List._∷_ 67 (List._∷_ 97 (List._∷_ 114 (List._∷_ 100 List.[])))))))))))))))) (Syntax.tcons Syntax.tyBool (Syntax.tcons (Syntax.tyInt Syntax.w32) (Syntax.tcons (Syntax.tyArray (Syntax.tyInt Syntax.w8) 5) (Syntax.tcons (Syntax.tyArray (Syntax.tyInt Syntax.w8) 8) (Syntax.tcons (Syntax.tyInt Syntax.w8) (Syntax.tcons (Syntax.tyArray (Syntax.tyInt Syntax.w32) 6) (Syntax.tcons (Syntax.tyInt Syntax.w64) (Syntax.tcons (Syntax.tyInt Syntax.w32) (Syntax.tcons (Syntax.tyArray (Syntax.tyInt Syntax.w8) 11) (Syntax.tcons (Syntax.tyInt Syntax.w64) (Syntax.tcons (Syntax.tyInt Syntax.w64) Syntax.tnil)))))))))))) (Syntax.tcons (Syntax.tyInt Syntax.w64) Syntax.tnil)))) Path'.refl)) d11
 
           d13 : Typed.Typed 𝓤 H A 𝓣 E G17 b13 Δ1 (at13 bs)
           d13 = Typed.g-pre 𝓤 H A W 𝓣 E G17 G19 b13 Δ1 (Typed.pass T17 T19 (s16 bs)) (at12 bs) (Scalar.g-room 𝓤 H A W E G17 6 (Syntax.tyArray (ColumnMetadataRow.ty) 4096) (Init.room-arr 𝓤 H A W (ColumnMetadataRow.RT) 4096 0 4096 Path'.refl)) d12
@@ -1447,7 +1447,7 @@ module _ (claims· : Claims) where
           d15 = Typed.g-pre 𝓤 H A W 𝓣 E G32 G33 b14 Δ1 (Typed.pass T32 T33 (s30 bs)) (at14 bs) (Scalar.g-room 𝓤 H A W E G32 15 Syntax.tyBool (Scalar.room-sc 𝓤 H A W Row.sBool)) d14
 
           d16 : Typed.Typed 𝓤 H A 𝓣 E G17 b14 Δ1 (at16 bs)
-          d16 = Typed.g-pre 𝓤 H A W 𝓣 E G17 G32 b14 Δ1 (Typed.pass T17 T32 (s29 bs)) (at15 bs) (Scalar.g-room 𝓤 H A W E G17 8 (Syntax.tyEnum (List._∷_ 111 (List._∷_ 117 (List._∷_ 116 (List._∷_ 99 (List._∷_ 111 (List._∷_ 109 (List._∷_ 101 (List._∷_ 58 (List._∷_ 58 (List._∷_ 79 (List._∷_ 117 (List._∷_ 116 (List._∷_ 99 (List._∷_ 111 (List._∷_ 109 (List._∷_ 101 List.[])))))))))))))))) (Syntax.ttcons Syntax.tnil (Syntax.ttcons Syntax.tnil (Syntax.ttcons (Syntax.tcons (Syntax.tyInt Syntax.w64) (Syntax.tcons (Syntax.tyInt Syntax.w64) Syntax.tnil)) (Syntax.ttcons Syntax.tnil (Syntax.ttcons (Syntax.tcons (Syntax.tyInt Syntax.w16) Syntax.tnil) (Syntax.ttcons Syntax.tnil (Syntax.ttcons (Syntax.tcons (Syntax.tyInt Syntax.w64) Syntax.tnil) (Syntax.ttcons Syntax.tnil Syntax.ttnil))))))))) (Local.room-whole 𝓤 H A W (Declared.row Outcome.the-type) (Syntax.tyEnum (List._∷_ 111 (List._∷_ 117 (List._∷_ 116 (List._∷_ 99 (List._∷_ 111 (List._∷_ 109 (List._∷_ 101 (List._∷_ 58 (List._∷_ 58 (List._∷_ 79 (List._∷_ 117 (List._∷_ 116 (List._∷_ 99 (List._∷_ 111 (List._∷_ 109 (List._∷_ 101 List.[])))))))))))))))) (Syntax.ttcons Syntax.tnil (Syntax.ttcons Syntax.tnil (Syntax.ttcons (Syntax.tcons (Syntax.tyInt Syntax.w64) (Syntax.tcons (Syntax.tyInt Syntax.w64) Syntax.tnil)) (Syntax.ttcons Syntax.tnil (Syntax.ttcons (Syntax.tcons (Syntax.tyInt Syntax.w16) Syntax.tnil) (Syntax.ttcons Syntax.tnil (Syntax.ttcons (Syntax.tcons (Syntax.tyInt Syntax.w64) Syntax.tnil) (Syntax.ttcons Syntax.tnil Syntax.ttnil))))))))) Path'.refl)) d15
+          d16 = Typed.g-pre 𝓤 H A W 𝓣 E G17 G32 b14 Δ1 (Typed.pass T17 T32 (s29 bs)) (at15 bs) (Scalar.g-room 𝓤 H A W E G17 8 (Syntax.tyEnum (List._∷_ 111 (List._∷_ 117 (List._∷_ 116 (List._∷_ 99 (List._∷_ 111 (List._∷_ 109 (List._∷_ 101 (List._∷_ 58 (List._∷_ 58 (List._∷_ 79 (List._∷_ 117 (List._∷_ 116 (List._∷_ 99 (List._∷_ 111 (List._∷_ 109 (List._∷_ 101 List.[])))))))))))))))) (Syntax.ttcons Syntax.tnil (Syntax.ttcons Syntax.tnil (Syntax.ttcons (Syntax.tcons (Syntax.tyInt Syntax.w64) (Syntax.tcons (Syntax.tyInt Syntax.w64) Syntax.tnil)) (Syntax.ttcons Syntax.tnil (Syntax.ttcons (Syntax.tcons (Syntax.tyInt Syntax.w16) Syntax.tnil) (Syntax.ttcons Syntax.tnil (Syntax.ttcons (Syntax.tcons (Syntax.tyInt Syntax.w64) Syntax.tnil) (Syntax.ttcons Syntax.tnil (Syntax.ttcons (Syntax.tcons (Syntax.tyInt Syntax.w16) Syntax.tnil) Syntax.ttnil)))))))))) (Local.room-whole 𝓤 H A W (Declared.row Outcome.the-type) (Syntax.tyEnum (List._∷_ 111 (List._∷_ 117 (List._∷_ 116 (List._∷_ 99 (List._∷_ 111 (List._∷_ 109 (List._∷_ 101 (List._∷_ 58 (List._∷_ 58 (List._∷_ 79 (List._∷_ 117 (List._∷_ 116 (List._∷_ 99 (List._∷_ 111 (List._∷_ 109 (List._∷_ 101 List.[])))))))))))))))) (Syntax.ttcons Syntax.tnil (Syntax.ttcons Syntax.tnil (Syntax.ttcons (Syntax.tcons (Syntax.tyInt Syntax.w64) (Syntax.tcons (Syntax.tyInt Syntax.w64) Syntax.tnil)) (Syntax.ttcons Syntax.tnil (Syntax.ttcons (Syntax.tcons (Syntax.tyInt Syntax.w16) Syntax.tnil) (Syntax.ttcons Syntax.tnil (Syntax.ttcons (Syntax.tcons (Syntax.tyInt Syntax.w64) Syntax.tnil) (Syntax.ttcons Syntax.tnil (Syntax.ttcons (Syntax.tcons (Syntax.tyInt Syntax.w16) Syntax.tnil) Syntax.ttnil)))))))))) Path'.refl)) d15
 
           d17 : Typed.Typed 𝓤 H A 𝓣 E G17 b15 Δ1 (at17 bs)
           d17 = Scalar.t-cond 𝓤 H A W E 𝓣 G17 15 (λ x. x) b13 b14 Δ1 (at13 bs) (at16 bs) (Scalar.reads-sc 𝓤 H A W Row.sBool) Path'.refl d13 d16
@@ -1588,10 +1588,10 @@ module _ (claims· : Claims) where
           d62 = Typed.g-pre 𝓤 H A W 𝓣 E G36 G37 b44 Δ0 (λ Ψ. Ψ) (at61 bs) (Lifetime.g-begin 𝓤 H A W E G36 5 (tt, (tt, (tt, (tt, (tt, (tt, (tt, (tt, (tt, (tt, (tt, (tt, (tt, (tt, (tt, (tt, (tt, (tt, (tt, (tt, (tt, (tt, (tt, (tt, (tt, (tt, (tt, (tt, tt))))))))))))))))))))))))))))) d61
 
           d63 : Typed.Typed 𝓤 H A 𝓣 E G35 b44 Δ0 (at63 bs)
-          d63 = Typed.g-pre 𝓤 H A W 𝓣 E G35 G36 b44 Δ0 (Typed.pass T35 T36 (s33 bs)) (at62 bs) (Scalar.g-room 𝓤 H A W E G35 7 (Syntax.tyStruct (List._∷_ 115 (List._∷_ 113 (List._∷_ 108 (List._∷_ 100 (List._∷_ 97 (List._∷_ 114 (List._∷_ 100 (List._∷_ 58 (List._∷_ 58 (List._∷_ 83 (List._∷_ 113 (List._∷_ 108 (List._∷_ 100 (List._∷_ 97 (List._∷_ 114 (List._∷_ 100 (List._∷_ 65 (List._∷_ 110 (List._∷_ 115 (List._∷_ 119 (List._∷_ 101 (List._∷_ 114 List.[])))))))))))))))))))))) (Syntax.tcons (Syntax.tyEnum (List._∷_ 111 (List._∷_ 117 (List._∷_ 116 (List._∷_ 99 (List._∷_ 111 (List._∷_ 109 (List._∷_ 101 (List._∷_ 58 (List._∷_ 58 (List._∷_ 79 (List._∷_ 117 (List._∷_ 116 (List._∷_ 99 (List._∷_ 111 (List._∷_ 109 (List._∷_ 101 List.[])))))))))))))))) (Syntax.ttcons Syntax.tnil (Syntax.ttcons Syntax.tnil (Syntax.ttcons (Syntax.tcons (Syntax.tyInt Syntax.w64) (Syntax.tcons (Syntax.tyInt Syntax.w64) Syntax.tnil)) (Syntax.ttcons Syntax.tnil (Syntax.ttcons (Syntax.tcons (Syntax.tyInt Syntax.w16) Syntax.tnil) (Syntax.ttcons Syntax.tnil (Syntax.ttcons (Syntax.tcons (Syntax.tyInt Syntax.w64) Syntax.tnil) (Syntax.ttcons Syntax.tnil Syntax.ttnil))))))))) (Syntax.tcons (Syntax.tyStruct (List._∷_ 115 (List._∷_ 113 (List._∷_ 108 (List._∷_ 99 (List._∷_ 97 (List._∷_ 114 (List._∷_ 100 (List._∷_ 58 (List._∷_ 58 (List._∷_ 83 (List._∷_ 113 (List._∷_ 108 (List._∷_ 67 (List._∷_ 97 (List._∷_ 114 (List._∷_ 100 List.[])))))))))))))))) (Syntax.tcons Syntax.tyBool (Syntax.tcons (Syntax.tyInt Syntax.w32) (Syntax.tcons (Syntax.tyArray (Syntax.tyInt Syntax.w8) 5) (Syntax.tcons (Syntax.tyArray (Syntax.tyInt Syntax.w8) 8) (Syntax.tcons (Syntax.tyInt Syntax.w8) (Syntax.tcons (Syntax.tyArray (Syntax.tyInt Syntax.w32) 6) (Syntax.tcons (Syntax.tyInt Syntax.w64) (Syntax.tcons (Syntax.tyInt Syntax.w32) (Syntax.tcons (Syntax.tyArray (Syntax.tyInt Syntax.w8) 11) (Syntax.tcons (Syntax.tyInt Syntax.w64) (Syntax.tcons (Syntax.tyInt Syntax.w64) Syntax.tnil)))))))))))) (Syntax.tcons (Syntax.tyInt Syntax.w64) Syntax.tnil)))) (Local.room-whole 𝓤 H A W (Declared'.row SqldardAnswer.the-type) (Syntax.tyStruct (List._∷_ 115 (List._∷_ 113 (List._∷_ 108 (List._∷_ 100 (List._∷_ 97 (List._∷_ 114 (List._∷_ 100 (List._∷_ 58 (List._∷_ 58 (List._∷_ 83 (List._∷_ 113 (List._∷_ 108 (List._∷_ 100 (List._∷_ 97 (List._∷_ 114 (List._∷_ 100 (List._∷_ 65 (List._∷_ 110 (List._∷_ 115 (List._∷_ 119 (List._∷_ 101 (List._∷_ 114 List.[])))))))))))))))))))))) (Syntax.tcons (Syntax.tyEnum (List._∷_ 111 (List._∷_ 117 (List._∷_ 116 (List._∷_ 99 (List._∷_ 111 (List._∷_ 109 (List._∷_ 101 (List._∷_ 58 (List._∷_ 58 (List._∷_ 79 (List._∷_ 117 (List._∷_ 116 (List._∷_ 99 (List._∷_ 111 (List._∷_ 109 (List._∷_ 101 List.[])))))))))))))))) (Syntax.ttcons Syntax.tnil (Syntax.ttcons Syntax.tnil (Syntax.ttcons (Syntax.tcons (Syntax.tyInt Syntax.w64) (Syntax.tcons (Syntax.tyInt Syntax.w64) Syntax.tnil)) (Syntax.ttcons Syntax.tnil (Syntax.ttcons (Syntax.tcons (Syntax.tyInt Syntax.w16) Syntax.tnil) (Syntax.ttcons Syntax.tnil (Syntax.ttcons (Syntax.tcons (Syntax.tyInt Syntax.w64) Syntax.tnil) (Syntax.ttcons Syntax.tnil Syntax.ttnil))))))))) (Syntax.tcons (Syntax.tyStruct (List._∷_ 115 (List._∷_ 113 (List._∷_ 108 (List._∷_ 99 (List._∷_ 97 (List._∷_ 114 (List._∷_ 100 (List._∷_ 58 (List._∷_ 58 (List._∷_ 83 (List._∷_ 113 (List._∷_ 108 (List._∷_ 67 (List._∷_ 97 (List._∷_ 114 (List._∷_ 100 List.[])))))))))))))))) (Syntax.tcons Syntax.tyBool (Syntax.tcons (Syntax.tyInt Syntax.w32) (Syntax.tcons (Syntax.tyArray (Syntax.tyInt Syntax.w8) 5) (Syntax.tcons (Syntax.tyArray (Syntax.tyInt Syntax.w8) 8) (Syntax.tcons (Syntax.tyInt Syntax.w8) (Syntax.tcons (Syntax.tyArray (Syntax.tyInt Syntax.w32) 6) (Syntax.tcons (Syntax.tyInt Syntax.w64) (Syntax.tcons (Syntax.tyInt Syntax.w32) (Syntax.tcons (Syntax.tyArray (Syntax.tyInt Syntax.w8) 11) (Syntax.tcons (Syntax.tyInt Syntax.w64) (Syntax.tcons (Syntax.tyInt Syntax.w64) Syntax.tnil)))))))))))) (Syntax.tcons (Syntax.tyInt Syntax.w64) Syntax.tnil)))) Path'.refl)) d62
+          d63 = Typed.g-pre 𝓤 H A W 𝓣 E G35 G36 b44 Δ0 (Typed.pass T35 T36 (s33 bs)) (at62 bs) (Scalar.g-room 𝓤 H A W E G35 7 (Syntax.tyStruct (List._∷_ 115 (List._∷_ 113 (List._∷_ 108 (List._∷_ 100 (List._∷_ 97 (List._∷_ 114 (List._∷_ 100 (List._∷_ 58 (List._∷_ 58 (List._∷_ 83 (List._∷_ 113 (List._∷_ 108 (List._∷_ 100 (List._∷_ 97 (List._∷_ 114 (List._∷_ 100 (List._∷_ 65 (List._∷_ 110 (List._∷_ 115 (List._∷_ 119 (List._∷_ 101 (List._∷_ 114 List.[])))))))))))))))))))))) (Syntax.tcons (Syntax.tyEnum (List._∷_ 111 (List._∷_ 117 (List._∷_ 116 (List._∷_ 99 (List._∷_ 111 (List._∷_ 109 (List._∷_ 101 (List._∷_ 58 (List._∷_ 58 (List._∷_ 79 (List._∷_ 117 (List._∷_ 116 (List._∷_ 99 (List._∷_ 111 (List._∷_ 109 (List._∷_ 101 List.[])))))))))))))))) (Syntax.ttcons Syntax.tnil (Syntax.ttcons Syntax.tnil (Syntax.ttcons (Syntax.tcons (Syntax.tyInt Syntax.w64) (Syntax.tcons (Syntax.tyInt Syntax.w64) Syntax.tnil)) (Syntax.ttcons Syntax.tnil (Syntax.ttcons (Syntax.tcons (Syntax.tyInt Syntax.w16) Syntax.tnil) (Syntax.ttcons Syntax.tnil (Syntax.ttcons (Syntax.tcons (Syntax.tyInt Syntax.w64) Syntax.tnil) (Syntax.ttcons Syntax.tnil (Syntax.ttcons (Syntax.tcons (Syntax.tyInt Syntax.w16) Syntax.tnil) Syntax.ttnil)))))))))) (Syntax.tcons (Syntax.tyStruct (List._∷_ 115 (List._∷_ 113 (List._∷_ 108 (List._∷_ 99 (List._∷_ 97 (List._∷_ 114 (List._∷_ 100 (List._∷_ 58 (List._∷_ 58 (List._∷_ 83 (List._∷_ 113 (List._∷_ 108 (List._∷_ 67 (List._∷_ 97 (List._∷_ 114 (List._∷_ 100 List.[])))))))))))))))) (Syntax.tcons Syntax.tyBool (Syntax.tcons (Syntax.tyInt Syntax.w32) (Syntax.tcons (Syntax.tyArray (Syntax.tyInt Syntax.w8) 5) (Syntax.tcons (Syntax.tyArray (Syntax.tyInt Syntax.w8) 8) (Syntax.tcons (Syntax.tyInt Syntax.w8) (Syntax.tcons (Syntax.tyArray (Syntax.tyInt Syntax.w32) 6) (Syntax.tcons (Syntax.tyInt Syntax.w64) (Syntax.tcons (Syntax.tyInt Syntax.w32) (Syntax.tcons (Syntax.tyArray (Syntax.tyInt Syntax.w8) 11) (Syntax.tcons (Syntax.tyInt Syntax.w64) (Syntax.tcons (Syntax.tyInt Syntax.w64) Syntax.tnil)))))))))))) (Syntax.tcons (Syntax.tyInt Syntax.w64) Syntax.tnil)))) (Local.room-whole 𝓤 H A W (Declared'.row SqldardAnswer.the-type) (Syntax.tyStruct (List._∷_ 115 (List._∷_ 113 (List._∷_ 108 (List._∷_ 100 (List._∷_ 97 (List._∷_ 114 (List._∷_ 100 (List._∷_ 58 (List._∷_ 58 (List._∷_ 83 (List._∷_ 113 (List._∷_ 108 (List._∷_ 100 (List._∷_ 97 (List._∷_ 114 (List._∷_ 100 (List._∷_ 65 (List._∷_ 110 (List._∷_ 115 (List._∷_ 119 (List._∷_ 101 (List._∷_ 114 List.[])))))))))))))))))))))) (Syntax.tcons (Syntax.tyEnum (List._∷_ 111 (List._∷_ 117 (List._∷_ 116 (List._∷_ 99 (List._∷_ 111 (List._∷_ 109 (List._∷_ 101 (List._∷_ 58 (List._∷_ 58 (List._∷_ 79 (List._∷_ 117 (List._∷_ 116 (List._∷_ 99 (List._∷_ 111 (List._∷_ 109 (List._∷_ 101 List.[])))))))))))))))) (Syntax.ttcons Syntax.tnil (Syntax.ttcons Syntax.tnil (Syntax.ttcons (Syntax.tcons (Syntax.tyInt Syntax.w64) (Syntax.tcons (Syntax.tyInt Syntax.w64) Syntax.tnil)) (Syntax.ttcons Syntax.tnil (Syntax.ttcons (Syntax.tcons (Syntax.tyInt Syntax.w16) Syntax.tnil) (Syntax.ttcons Syntax.tnil (Syntax.ttcons (Syntax.tcons (Syntax.tyInt Syntax.w64) Syntax.tnil) (Syntax.ttcons Syntax.tnil (Syntax.ttcons (Syntax.tcons (Syntax.tyInt Syntax.w16) Syntax.tnil) Syntax.ttnil)))))))))) (Syntax.tcons (Syntax.tyStruct (List._∷_ 115 (List._∷_ 113 (List._∷_ 108 (List._∷_ 99 (List._∷_ 97 (List._∷_ 114 (List._∷_ 100 (List._∷_ 58 (List._∷_ 58 (List._∷_ 83 (List._∷_ 113 (List._∷_ 108 (List._∷_ 67 (List._∷_ 97 (List._∷_ 114 (List._∷_ 100 List.[])))))))))))))))) (Syntax.tcons Syntax.tyBool (Syntax.tcons (Syntax.tyInt Syntax.w32) (Syntax.tcons (Syntax.tyArray (Syntax.tyInt Syntax.w8) 5) (Syntax.tcons (Syntax.tyArray (Syntax.tyInt Syntax.w8) 8) (Syntax.tcons (Syntax.tyInt Syntax.w8) (Syntax.tcons (Syntax.tyArray (Syntax.tyInt Syntax.w32) 6) (Syntax.tcons (Syntax.tyInt Syntax.w64) (Syntax.tcons (Syntax.tyInt Syntax.w32) (Syntax.tcons (Syntax.tyArray (Syntax.tyInt Syntax.w8) 11) (Syntax.tcons (Syntax.tyInt Syntax.w64) (Syntax.tcons (Syntax.tyInt Syntax.w64) Syntax.tnil)))))))))))) (Syntax.tcons (Syntax.tyInt Syntax.w64) Syntax.tnil)))) Path'.refl)) d62
 
           d64 : Typed.Typed 𝓤 H A 𝓣 E G34 b45 Δ0 (at64 bs)
-          d64 = Typed.s-seq 𝓤 H A W 𝓣 E G34 G35 b17 b44 Δ0 (Typed.both (s32 bs)) (at63 bs) (WayStmt.t-way-copy-out 𝓤 H A W E 𝓣 (Declared'.row SqlCard.the-type) Path'.refl (Copies.cStruct SqlCard.the-type Laws'.the-laws Laws'.the-copy .copy 𝓤 H A W) (λ ρ. Unit) G34 (Row.out 7 (G34 .locals)) (λ u. Row.drop 7 (G34 .locals) u) (G34 .slots) 7 (λ t. List._∷_ (Syntax.field 1) t) (Syntax.tyStruct (List._∷_ 115 (List._∷_ 113 (List._∷_ 108 (List._∷_ 99 (List._∷_ 97 (List._∷_ 114 (List._∷_ 100 (List._∷_ 58 (List._∷_ 58 (List._∷_ 83 (List._∷_ 113 (List._∷_ 108 (List._∷_ 67 (List._∷_ 97 (List._∷_ 114 (List._∷_ 100 List.[])))))))))))))))) (Syntax.tcons Syntax.tyBool (Syntax.tcons (Syntax.tyInt Syntax.w32) (Syntax.tcons (Syntax.tyArray (Syntax.tyInt Syntax.w8) 5) (Syntax.tcons (Syntax.tyArray (Syntax.tyInt Syntax.w8) 8) (Syntax.tcons (Syntax.tyInt Syntax.w8) (Syntax.tcons (Syntax.tyArray (Syntax.tyInt Syntax.w32) 6) (Syntax.tcons (Syntax.tyInt Syntax.w64) (Syntax.tcons (Syntax.tyInt Syntax.w32) (Syntax.tcons (Syntax.tyArray (Syntax.tyInt Syntax.w8) 11) (Syntax.tcons (Syntax.tyInt Syntax.w64) (Syntax.tcons (Syntax.tyInt Syntax.w64) Syntax.tnil)))))))))))) (Syntax.tyStruct (List._∷_ 115 (List._∷_ 113 (List._∷_ 108 (List._∷_ 99 (List._∷_ 97 (List._∷_ 114 (List._∷_ 100 (List._∷_ 58 (List._∷_ 58 (List._∷_ 83 (List._∷_ 113 (List._∷_ 108 (List._∷_ 67 (List._∷_ 97 (List._∷_ 114 (List._∷_ 100 List.[])))))))))))))))) (Syntax.tcons Syntax.tyBool (Syntax.tcons (Syntax.tyInt Syntax.w32) (Syntax.tcons (Syntax.tyArray (Syntax.tyInt Syntax.w8) 5) (Syntax.tcons (Syntax.tyArray (Syntax.tyInt Syntax.w8) 8) (Syntax.tcons (Syntax.tyInt Syntax.w8) (Syntax.tcons (Syntax.tyArray (Syntax.tyInt Syntax.w32) 6) (Syntax.tcons (Syntax.tyInt Syntax.w64) (Syntax.tcons (Syntax.tyInt Syntax.w32) (Syntax.tcons (Syntax.tyArray (Syntax.tyInt Syntax.w8) 11) (Syntax.tcons (Syntax.tyInt Syntax.w64) (Syntax.tcons (Syntax.tyInt Syntax.w64) Syntax.tnil)))))))))))) 10 (Rows'.whole (Declared'.row SqlCard.the-type)) (λ x. x) (λ u. At.getAt (SqldardAnswer.the-type .parts) 1 (SqldardAnswer.struct .as-values (u .1 .1 .1 .1 .1 .1 .1 .0))) (λ u. (Row.hd 0 (Row.tl (Row.tl (Row.tl (Row.tl (Row.tl (Row.tl (Row.tl bs))))))), Nat._+_ 0 24)) (λ T′. record { locals = Row.setRow 7 (7, Rows'.whole (Declared'.row SqldardAnswer.the-type)) T′; slots = G34 .slots }) (λ u T′ m′. Row.set 7 (7, Rows'.whole (Declared'.row SqldardAnswer.the-type)) (u .1 .1 .1 .1 .1 .1 .1 .0) T′ m′) (λ u. Unit) (λ x. Unit) (Own.told-none 𝓤 H A (G34 .slots)) (DerefMove.learns-nothing 𝓤 H A (Declared'.row SqlCard.the-type)) (λ ρ told u asked. Way'.w-partˢ 𝓤 H A W E (Declared'.row SqldardAnswer.the-type) (Declared'.row SqlCard.the-type) (Syntax.tyStruct (List._∷_ 115 (List._∷_ 113 (List._∷_ 108 (List._∷_ 100 (List._∷_ 97 (List._∷_ 114 (List._∷_ 100 (List._∷_ 58 (List._∷_ 58 (List._∷_ 83 (List._∷_ 113 (List._∷_ 108 (List._∷_ 100 (List._∷_ 97 (List._∷_ 114 (List._∷_ 100 (List._∷_ 65 (List._∷_ 110 (List._∷_ 115 (List._∷_ 119 (List._∷_ 101 (List._∷_ 114 List.[])))))))))))))))))))))) (Syntax.tcons (Syntax.tyEnum (List._∷_ 111 (List._∷_ 117 (List._∷_ 116 (List._∷_ 99 (List._∷_ 111 (List._∷_ 109 (List._∷_ 101 (List._∷_ 58 (List._∷_ 58 (List._∷_ 79 (List._∷_ 117 (List._∷_ 116 (List._∷_ 99 (List._∷_ 111 (List._∷_ 109 (List._∷_ 101 List.[])))))))))))))))) (Syntax.ttcons Syntax.tnil (Syntax.ttcons Syntax.tnil (Syntax.ttcons (Syntax.tcons (Syntax.tyInt Syntax.w64) (Syntax.tcons (Syntax.tyInt Syntax.w64) Syntax.tnil)) (Syntax.ttcons Syntax.tnil (Syntax.ttcons (Syntax.tcons (Syntax.tyInt Syntax.w16) Syntax.tnil) (Syntax.ttcons Syntax.tnil (Syntax.ttcons (Syntax.tcons (Syntax.tyInt Syntax.w64) Syntax.tnil) (Syntax.ttcons Syntax.tnil Syntax.ttnil))))))))) (Syntax.tcons (Syntax.tyStruct (List._∷_ 115 (List._∷_ 113 (List._∷_ 108 (List._∷_ 99 (List._∷_ 97 (List._∷_ 114 (List._∷_ 100 (List._∷_ 58 (List._∷_ 58 (List._∷_ 83 (List._∷_ 113 (List._∷_ 108 (List._∷_ 67 (List._∷_ 97 (List._∷_ 114 (List._∷_ 100 List.[])))))))))))))))) (Syntax.tcons Syntax.tyBool (Syntax.tcons (Syntax.tyInt Syntax.w32) (Syntax.tcons (Syntax.tyArray (Syntax.tyInt Syntax.w8) 5) (Syntax.tcons (Syntax.tyArray (Syntax.tyInt Syntax.w8) 8) (Syntax.tcons (Syntax.tyInt Syntax.w8) (Syntax.tcons (Syntax.tyArray (Syntax.tyInt Syntax.w32) 6) (Syntax.tcons (Syntax.tyInt Syntax.w64) (Syntax.tcons (Syntax.tyInt Syntax.w32) (Syntax.tcons (Syntax.tyArray (Syntax.tyInt Syntax.w8) 11) (Syntax.tcons (Syntax.tyInt Syntax.w64) (Syntax.tcons (Syntax.tyInt Syntax.w64) Syntax.tnil)))))))))))) (Syntax.tcons (Syntax.tyInt Syntax.w64) Syntax.tnil)))) (Syntax.tyStruct (List._∷_ 115 (List._∷_ 113 (List._∷_ 108 (List._∷_ 99 (List._∷_ 97 (List._∷_ 114 (List._∷_ 100 (List._∷_ 58 (List._∷_ 58 (List._∷_ 83 (List._∷_ 113 (List._∷_ 108 (List._∷_ 67 (List._∷_ 97 (List._∷_ 114 (List._∷_ 100 List.[])))))))))))))))) (Syntax.tcons Syntax.tyBool (Syntax.tcons (Syntax.tyInt Syntax.w32) (Syntax.tcons (Syntax.tyArray (Syntax.tyInt Syntax.w8) 5) (Syntax.tcons (Syntax.tyArray (Syntax.tyInt Syntax.w8) 8) (Syntax.tcons (Syntax.tyInt Syntax.w8) (Syntax.tcons (Syntax.tyArray (Syntax.tyInt Syntax.w32) 6) (Syntax.tcons (Syntax.tyInt Syntax.w64) (Syntax.tcons (Syntax.tyInt Syntax.w32) (Syntax.tcons (Syntax.tyArray (Syntax.tyInt Syntax.w8) 11) (Syntax.tcons (Syntax.tyInt Syntax.w64) (Syntax.tcons (Syntax.tyInt Syntax.w64) Syntax.tnil)))))))))))) 1 24 (u .1 .1 .1 .1 .1 .1 .1 .0) (At.getAt (SqldardAnswer.the-type .parts) 1 (SqldardAnswer.struct .as-values (u .1 .1 .1 .1 .1 .1 .1 .0))) (Row.hd 0 (Row.tl (Row.tl (Row.tl (Row.tl (Row.tl (Row.tl (Row.tl bs))))))), 0) (Way.w-look 𝓤 H A W E (Way.w-local 𝓤 H A W E G34 ρ u (G34 .slots) 7 (Declared'.row SqldardAnswer.the-type) (Rows'.whole (Declared'.row SqldardAnswer.the-type)) (λ x. x) (λ x. x) (u .1 .1 .1 .1 .1 .1 .1 .0) (Local.mem-whole 𝓤 H A W (Declared'.row SqldardAnswer.the-type) ρ (u .1 .1 .1 .1 .1 .1 .1 .0) (Row.hd 0 (Row.tl (Row.tl (Row.tl (Row.tl (Row.tl (Row.tl (Row.tl bs))))))))) (Local.whole-mem 𝓤 H A W (Declared'.row SqldardAnswer.the-type) ρ (u .1 .1 .1 .1 .1 .1 .1 .0) (Row.hd 0 (Row.tl (Row.tl (Row.tl (Row.tl (Row.tl (Row.tl (Row.tl bs))))))))))) Path'.refl λ q. Inner.cut-record 𝓤 H A q (Declared'.row SqldardAnswer.the-type) SqlCard.the-type 24 (u .1 .1 .1 .1 .1 .1 .1 .0) (u .1 .1 .1 .1 .1 .1 .1 .0) (At.getAt (SqldardAnswer.the-type .parts) 1 (SqldardAnswer.struct .as-values (u .1 .1 .1 .1 .1 .1 .1 .0))) (At.getAt (SqldardAnswer.the-type .parts) 1 (SqldardAnswer.struct .as-values (u .1 .1 .1 .1 .1 .1 .1 .0))) (Row.hd 0 (Row.tl (Row.tl (Row.tl (Row.tl (Row.tl (Row.tl (Row.tl bs))))))), 0) (Behind.look-at 𝓤 H A W q SqldardAnswer.the-type Laws''.the-laws 1 24 Path'.refl Path'.refl (Row.hd 0 (Row.tl (Row.tl (Row.tl (Row.tl (Row.tl (Row.tl (Row.tl bs))))))), 0) (u .1 .1 .1 .1 .1 .1 .1 .0) (SqldardAnswer.struct .as-values (u .1 .1 .1 .1 .1 .1 .1 .0)) Path'.refl)) (Reads'.room-gone 𝓤 H A (Syntax.tyStruct (List._∷_ 115 (List._∷_ 113 (List._∷_ 108 (List._∷_ 99 (List._∷_ 97 (List._∷_ 114 (List._∷_ 100 (List._∷_ 58 (List._∷_ 58 (List._∷_ 83 (List._∷_ 113 (List._∷_ 108 (List._∷_ 67 (List._∷_ 97 (List._∷_ 114 (List._∷_ 100 List.[])))))))))))))))) (Syntax.tcons Syntax.tyBool (Syntax.tcons (Syntax.tyInt Syntax.w32) (Syntax.tcons (Syntax.tyArray (Syntax.tyInt Syntax.w8) 5) (Syntax.tcons (Syntax.tyArray (Syntax.tyInt Syntax.w8) 8) (Syntax.tcons (Syntax.tyInt Syntax.w8) (Syntax.tcons (Syntax.tyArray (Syntax.tyInt Syntax.w32) 6) (Syntax.tcons (Syntax.tyInt Syntax.w64) (Syntax.tcons (Syntax.tyInt Syntax.w32) (Syntax.tcons (Syntax.tyArray (Syntax.tyInt Syntax.w8) 11) (Syntax.tcons (Syntax.tyInt Syntax.w64) (Syntax.tcons (Syntax.tyInt Syntax.w64) Syntax.tnil))))))))))))) (Yields.makes-mem 𝓤 H A W (λ ρ. Unit) (Declared'.row SqlCard.the-type) Path'.refl (Rows'.whole (Declared'.row SqlCard.the-type)) (λ x. x) λ ρ told. Local.whole-mem 𝓤 H A W (Declared'.row SqlCard.the-type) ρ) Path'.refl Path'.refl Path'.refl) d63
+          d64 = Typed.s-seq 𝓤 H A W 𝓣 E G34 G35 b17 b44 Δ0 (Typed.both (s32 bs)) (at63 bs) (WayStmt.t-way-copy-out 𝓤 H A W E 𝓣 (Declared'.row SqlCard.the-type) Path'.refl (Copies.cStruct SqlCard.the-type Laws'.the-laws Laws'.the-copy .copy 𝓤 H A W) (λ ρ. Unit) G34 (Row.out 7 (G34 .locals)) (λ u. Row.drop 7 (G34 .locals) u) (G34 .slots) 7 (λ t. List._∷_ (Syntax.field 1) t) (Syntax.tyStruct (List._∷_ 115 (List._∷_ 113 (List._∷_ 108 (List._∷_ 99 (List._∷_ 97 (List._∷_ 114 (List._∷_ 100 (List._∷_ 58 (List._∷_ 58 (List._∷_ 83 (List._∷_ 113 (List._∷_ 108 (List._∷_ 67 (List._∷_ 97 (List._∷_ 114 (List._∷_ 100 List.[])))))))))))))))) (Syntax.tcons Syntax.tyBool (Syntax.tcons (Syntax.tyInt Syntax.w32) (Syntax.tcons (Syntax.tyArray (Syntax.tyInt Syntax.w8) 5) (Syntax.tcons (Syntax.tyArray (Syntax.tyInt Syntax.w8) 8) (Syntax.tcons (Syntax.tyInt Syntax.w8) (Syntax.tcons (Syntax.tyArray (Syntax.tyInt Syntax.w32) 6) (Syntax.tcons (Syntax.tyInt Syntax.w64) (Syntax.tcons (Syntax.tyInt Syntax.w32) (Syntax.tcons (Syntax.tyArray (Syntax.tyInt Syntax.w8) 11) (Syntax.tcons (Syntax.tyInt Syntax.w64) (Syntax.tcons (Syntax.tyInt Syntax.w64) Syntax.tnil)))))))))))) (Syntax.tyStruct (List._∷_ 115 (List._∷_ 113 (List._∷_ 108 (List._∷_ 99 (List._∷_ 97 (List._∷_ 114 (List._∷_ 100 (List._∷_ 58 (List._∷_ 58 (List._∷_ 83 (List._∷_ 113 (List._∷_ 108 (List._∷_ 67 (List._∷_ 97 (List._∷_ 114 (List._∷_ 100 List.[])))))))))))))))) (Syntax.tcons Syntax.tyBool (Syntax.tcons (Syntax.tyInt Syntax.w32) (Syntax.tcons (Syntax.tyArray (Syntax.tyInt Syntax.w8) 5) (Syntax.tcons (Syntax.tyArray (Syntax.tyInt Syntax.w8) 8) (Syntax.tcons (Syntax.tyInt Syntax.w8) (Syntax.tcons (Syntax.tyArray (Syntax.tyInt Syntax.w32) 6) (Syntax.tcons (Syntax.tyInt Syntax.w64) (Syntax.tcons (Syntax.tyInt Syntax.w32) (Syntax.tcons (Syntax.tyArray (Syntax.tyInt Syntax.w8) 11) (Syntax.tcons (Syntax.tyInt Syntax.w64) (Syntax.tcons (Syntax.tyInt Syntax.w64) Syntax.tnil)))))))))))) 10 (Rows'.whole (Declared'.row SqlCard.the-type)) (λ x. x) (λ u. At.getAt (SqldardAnswer.the-type .parts) 1 (SqldardAnswer.struct .as-values (u .1 .1 .1 .1 .1 .1 .1 .0))) (λ u. (Row.hd 0 (Row.tl (Row.tl (Row.tl (Row.tl (Row.tl (Row.tl (Row.tl bs))))))), Nat._+_ 0 24)) (λ T′. record { locals = Row.setRow 7 (7, Rows'.whole (Declared'.row SqldardAnswer.the-type)) T′; slots = G34 .slots }) (λ u T′ m′. Row.set 7 (7, Rows'.whole (Declared'.row SqldardAnswer.the-type)) (u .1 .1 .1 .1 .1 .1 .1 .0) T′ m′) (λ u. Unit) (λ x. Unit) (Own.told-none 𝓤 H A (G34 .slots)) (DerefMove.learns-nothing 𝓤 H A (Declared'.row SqlCard.the-type)) (λ ρ told u asked. Way'.w-partˢ 𝓤 H A W E (Declared'.row SqldardAnswer.the-type) (Declared'.row SqlCard.the-type) (Syntax.tyStruct (List._∷_ 115 (List._∷_ 113 (List._∷_ 108 (List._∷_ 100 (List._∷_ 97 (List._∷_ 114 (List._∷_ 100 (List._∷_ 58 (List._∷_ 58 (List._∷_ 83 (List._∷_ 113 (List._∷_ 108 (List._∷_ 100 (List._∷_ 97 (List._∷_ 114 (List._∷_ 100 (List._∷_ 65 (List._∷_ 110 (List._∷_ 115 (List._∷_ 119 (List._∷_ 101 (List._∷_ 114 List.[])))))))))))))))))))))) (Syntax.tcons (Syntax.tyEnum (List._∷_ 111 (List._∷_ 117 (List._∷_ 116 (List._∷_ 99 (List._∷_ 111 (List._∷_ 109 (List._∷_ 101 (List._∷_ 58 (List._∷_ 58 (List._∷_ 79 (List._∷_ 117 (List._∷_ 116 (List._∷_ 99 (List._∷_ 111 (List._∷_ 109 (List._∷_ 101 List.[])))))))))))))))) (Syntax.ttcons Syntax.tnil (Syntax.ttcons Syntax.tnil (Syntax.ttcons (Syntax.tcons (Syntax.tyInt Syntax.w64) (Syntax.tcons (Syntax.tyInt Syntax.w64) Syntax.tnil)) (Syntax.ttcons Syntax.tnil (Syntax.ttcons (Syntax.tcons (Syntax.tyInt Syntax.w16) Syntax.tnil) (Syntax.ttcons Syntax.tnil (Syntax.ttcons (Syntax.tcons (Syntax.tyInt Syntax.w64) Syntax.tnil) (Syntax.ttcons Syntax.tnil (Syntax.ttcons (Syntax.tcons (Syntax.tyInt Syntax.w16) Syntax.tnil) Syntax.ttnil)))))))))) (Syntax.tcons (Syntax.tyStruct (List._∷_ 115 (List._∷_ 113 (List._∷_ 108 (List._∷_ 99 (List._∷_ 97 (List._∷_ 114 (List._∷_ 100 (List._∷_ 58 (List._∷_ 58 (List._∷_ 83 (List._∷_ 113 (List._∷_ 108 (List._∷_ 67 (List._∷_ 97 (List._∷_ 114 (List._∷_ 100 List.[])))))))))))))))) (Syntax.tcons Syntax.tyBool (Syntax.tcons (Syntax.tyInt Syntax.w32) (Syntax.tcons (Syntax.tyArray (Syntax.tyInt Syntax.w8) 5) (Syntax.tcons (Syntax.tyArray (Syntax.tyInt Syntax.w8) 8) (Syntax.tcons (Syntax.tyInt Syntax.w8) (Syntax.tcons (Syntax.tyArray (Syntax.tyInt Syntax.w32) 6) (Syntax.tcons (Syntax.tyInt Syntax.w64) (Syntax.tcons (Syntax.tyInt Syntax.w32) (Syntax.tcons (Syntax.tyArray (Syntax.tyInt Syntax.w8) 11) (Syntax.tcons (Syntax.tyInt Syntax.w64) (Syntax.tcons (Syntax.tyInt Syntax.w64) Syntax.tnil)))))))))))) (Syntax.tcons (Syntax.tyInt Syntax.w64) Syntax.tnil)))) (Syntax.tyStruct (List._∷_ 115 (List._∷_ 113 (List._∷_ 108 (List._∷_ 99 (List._∷_ 97 (List._∷_ 114 (List._∷_ 100 (List._∷_ 58 (List._∷_ 58 (List._∷_ 83 (List._∷_ 113 (List._∷_ 108 (List._∷_ 67 (List._∷_ 97 (List._∷_ 114 (List._∷_ 100 List.[])))))))))))))))) (Syntax.tcons Syntax.tyBool (Syntax.tcons (Syntax.tyInt Syntax.w32) (Syntax.tcons (Syntax.tyArray (Syntax.tyInt Syntax.w8) 5) (Syntax.tcons (Syntax.tyArray (Syntax.tyInt Syntax.w8) 8) (Syntax.tcons (Syntax.tyInt Syntax.w8) (Syntax.tcons (Syntax.tyArray (Syntax.tyInt Syntax.w32) 6) (Syntax.tcons (Syntax.tyInt Syntax.w64) (Syntax.tcons (Syntax.tyInt Syntax.w32) (Syntax.tcons (Syntax.tyArray (Syntax.tyInt Syntax.w8) 11) (Syntax.tcons (Syntax.tyInt Syntax.w64) (Syntax.tcons (Syntax.tyInt Syntax.w64) Syntax.tnil)))))))))))) 1 24 (u .1 .1 .1 .1 .1 .1 .1 .0) (At.getAt (SqldardAnswer.the-type .parts) 1 (SqldardAnswer.struct .as-values (u .1 .1 .1 .1 .1 .1 .1 .0))) (Row.hd 0 (Row.tl (Row.tl (Row.tl (Row.tl (Row.tl (Row.tl (Row.tl bs))))))), 0) (Way.w-look 𝓤 H A W E (Way.w-local 𝓤 H A W E G34 ρ u (G34 .slots) 7 (Declared'.row SqldardAnswer.the-type) (Rows'.whole (Declared'.row SqldardAnswer.the-type)) (λ x. x) (λ x. x) (u .1 .1 .1 .1 .1 .1 .1 .0) (Local.mem-whole 𝓤 H A W (Declared'.row SqldardAnswer.the-type) ρ (u .1 .1 .1 .1 .1 .1 .1 .0) (Row.hd 0 (Row.tl (Row.tl (Row.tl (Row.tl (Row.tl (Row.tl (Row.tl bs))))))))) (Local.whole-mem 𝓤 H A W (Declared'.row SqldardAnswer.the-type) ρ (u .1 .1 .1 .1 .1 .1 .1 .0) (Row.hd 0 (Row.tl (Row.tl (Row.tl (Row.tl (Row.tl (Row.tl (Row.tl bs))))))))))) Path'.refl λ q. Inner.cut-record 𝓤 H A q (Declared'.row SqldardAnswer.the-type) SqlCard.the-type 24 (u .1 .1 .1 .1 .1 .1 .1 .0) (u .1 .1 .1 .1 .1 .1 .1 .0) (At.getAt (SqldardAnswer.the-type .parts) 1 (SqldardAnswer.struct .as-values (u .1 .1 .1 .1 .1 .1 .1 .0))) (At.getAt (SqldardAnswer.the-type .parts) 1 (SqldardAnswer.struct .as-values (u .1 .1 .1 .1 .1 .1 .1 .0))) (Row.hd 0 (Row.tl (Row.tl (Row.tl (Row.tl (Row.tl (Row.tl (Row.tl bs))))))), 0) (Behind.look-at 𝓤 H A W q SqldardAnswer.the-type Laws''.the-laws 1 24 Path'.refl Path'.refl (Row.hd 0 (Row.tl (Row.tl (Row.tl (Row.tl (Row.tl (Row.tl (Row.tl bs))))))), 0) (u .1 .1 .1 .1 .1 .1 .1 .0) (SqldardAnswer.struct .as-values (u .1 .1 .1 .1 .1 .1 .1 .0)) Path'.refl)) (Reads'.room-gone 𝓤 H A (Syntax.tyStruct (List._∷_ 115 (List._∷_ 113 (List._∷_ 108 (List._∷_ 99 (List._∷_ 97 (List._∷_ 114 (List._∷_ 100 (List._∷_ 58 (List._∷_ 58 (List._∷_ 83 (List._∷_ 113 (List._∷_ 108 (List._∷_ 67 (List._∷_ 97 (List._∷_ 114 (List._∷_ 100 List.[])))))))))))))))) (Syntax.tcons Syntax.tyBool (Syntax.tcons (Syntax.tyInt Syntax.w32) (Syntax.tcons (Syntax.tyArray (Syntax.tyInt Syntax.w8) 5) (Syntax.tcons (Syntax.tyArray (Syntax.tyInt Syntax.w8) 8) (Syntax.tcons (Syntax.tyInt Syntax.w8) (Syntax.tcons (Syntax.tyArray (Syntax.tyInt Syntax.w32) 6) (Syntax.tcons (Syntax.tyInt Syntax.w64) (Syntax.tcons (Syntax.tyInt Syntax.w32) (Syntax.tcons (Syntax.tyArray (Syntax.tyInt Syntax.w8) 11) (Syntax.tcons (Syntax.tyInt Syntax.w64) (Syntax.tcons (Syntax.tyInt Syntax.w64) Syntax.tnil))))))))))))) (Yields.makes-mem 𝓤 H A W (λ ρ. Unit) (Declared'.row SqlCard.the-type) Path'.refl (Rows'.whole (Declared'.row SqlCard.the-type)) (λ x. x) λ ρ told. Local.whole-mem 𝓤 H A W (Declared'.row SqlCard.the-type) ρ) Path'.refl Path'.refl Path'.refl) d63
 
           d65 : Typed.Typed 𝓤 H A 𝓣 E G18 b46 Δ0 (at65 bs)
           d65 = Typed.s-seq 𝓤 H A W 𝓣 E G18 G34 b16 b45 Δ0 (Typed.pass T18 T34 (s31 bs)) (at64 bs) (Scalar.t-use 𝓤 H A W E 𝓣 G18 (Scalar.oFld 7 (List._∷_ (Syntax.field 2) List.[]) (Syntax.tyInt Syntax.w64) 112 (Reads.fieldV SqldardAnswer.the-type Laws''.the-laws 2)) 9 (Rows'.sc-here (Row.sInt Syntax.w64)) (Syntax.tyInt Syntax.w64) (Row.valS (Row.sInt Syntax.w64)) (Row.sInt Syntax.w64 .of) (Reads.reads-field 𝓤 H A W SqldardAnswer.the-type Laws''.the-laws 2 (Syntax.tyInt Syntax.w64) 112 Path'.refl, Path'.refl) (Reads'.room-gone 𝓤 H A (Syntax.tyInt Syntax.w64)) (Scalar.holds-sc 𝓤 H A W (Row.sInt Syntax.w64)) Path'.refl (λ u. Path'.refl) λ u. tt) d64
@@ -1603,7 +1603,7 @@ module _ (claims· : Claims) where
           d67 = Typed.s-seq 𝓤 H A W 𝓣 E G16 G17 b6 b47 Δ0 (Typed.both (s15 bs)) (at66 bs) (Plain.t-call-plain 𝓤 H A W 𝓣 0 ps·2 r·2 (claims· .4) (claims· .5) "outcome::is_refused" (known .2) E (λ pos β. β) G16 (record { pos = 8; st = List.[]; d = 0; at = λ x. x }, tt) 15 List.[] (Call.sub-id 𝓤 H A W (G16 .slots)) ((Yields.yields-copy 𝓤 H A W (λ ρ. Unit) (Declared.row Outcome.the-type) Path'.refl (Copies.cEnum Outcome.the-type Laws.the-laws Laws.the-copy .copy 𝓤 H A W) (Rows'.whole (Declared.row Outcome.the-type)) (λ x. x) (λ x. x) (λ ρ told. Local.mem-whole 𝓤 H A W (Declared.row Outcome.the-type) ρ) λ ρ told. Local.whole-mem 𝓤 H A W (Declared.row Outcome.the-type) ρ, Path'.refl), tt) (Reads'.room-gone 𝓤 H A Syntax.tyBool) tt Path'.refl) d66
 
           d68 : Typed.Typed 𝓤 H A 𝓣 E G15 b49 Δ0 (at68 bs)
-          d68 = Typed.s-seq 𝓤 H A W 𝓣 E G15 G16 b5 b48 Δ0 (Typed.pass T14 T16 (s14 bs)) (at67 bs) (CopyOut.t-copy-told 𝓤 H A W E 𝓣 (Declared.row Outcome.the-type) Path'.refl (Laws'4.val Outcome.the-type Laws.the-laws) (Laws'4.lawful Outcome.the-type Laws.the-laws 𝓤 H A W tt) (Laws'4.makes Outcome.the-type Laws.the-plain 𝓤 H A) G15 8 (Scalar.oFld 7 (List._∷_ (Syntax.field 0) List.[]) (Syntax.tyEnum (List._∷_ 111 (List._∷_ 117 (List._∷_ 116 (List._∷_ 99 (List._∷_ 111 (List._∷_ 109 (List._∷_ 101 (List._∷_ 58 (List._∷_ 58 (List._∷_ 79 (List._∷_ 117 (List._∷_ 116 (List._∷_ 99 (List._∷_ 111 (List._∷_ 109 (List._∷_ 101 List.[])))))))))))))))) (Syntax.ttcons Syntax.tnil (Syntax.ttcons Syntax.tnil (Syntax.ttcons (Syntax.tcons (Syntax.tyInt Syntax.w64) (Syntax.tcons (Syntax.tyInt Syntax.w64) Syntax.tnil)) (Syntax.ttcons Syntax.tnil (Syntax.ttcons (Syntax.tcons (Syntax.tyInt Syntax.w16) Syntax.tnil) (Syntax.ttcons Syntax.tnil (Syntax.ttcons (Syntax.tcons (Syntax.tyInt Syntax.w64) Syntax.tnil) (Syntax.ttcons Syntax.tnil Syntax.ttnil))))))))) 0 λ x. Laws'4.val Outcome.the-type Laws.the-laws (SqldardAnswer.struct .as-values x .0)) (λ m. SqldardAnswer.struct .as-values (m .1 .1 .1 .1 .1 .1 .1 .0) .0) (λ m. Laws'5.Is (Declared'.row SqldardAnswer.the-type) (m .1 .1 .1 .1 .1 .1 .1 .0) (Laws'6.vals SqldardAnswer.the-type Laws''.the-laws (m .1 .1 .1 .1 .1 .1 .1 .0))) (Reads'.room-gone 𝓤 H A (Syntax.tyEnum (List._∷_ 111 (List._∷_ 117 (List._∷_ 116 (List._∷_ 99 (List._∷_ 111 (List._∷_ 109 (List._∷_ 101 (List._∷_ 58 (List._∷_ 58 (List._∷_ 79 (List._∷_ 117 (List._∷_ 116 (List._∷_ 99 (List._∷_ 111 (List._∷_ 109 (List._∷_ 101 List.[])))))))))))))))) (Syntax.ttcons Syntax.tnil (Syntax.ttcons Syntax.tnil (Syntax.ttcons (Syntax.tcons (Syntax.tyInt Syntax.w64) (Syntax.tcons (Syntax.tyInt Syntax.w64) Syntax.tnil)) (Syntax.ttcons Syntax.tnil (Syntax.ttcons (Syntax.tcons (Syntax.tyInt Syntax.w16) Syntax.tnil) (Syntax.ttcons Syntax.tnil (Syntax.ttcons (Syntax.tcons (Syntax.tyInt Syntax.w64) Syntax.tnil) (Syntax.ttcons Syntax.tnil Syntax.ttnil)))))))))) (Reads.reads-field 𝓤 H A W SqldardAnswer.the-type Laws''.the-laws 0 (Syntax.tyEnum (List._∷_ 111 (List._∷_ 117 (List._∷_ 116 (List._∷_ 99 (List._∷_ 111 (List._∷_ 109 (List._∷_ 101 (List._∷_ 58 (List._∷_ 58 (List._∷_ 79 (List._∷_ 117 (List._∷_ 116 (List._∷_ 99 (List._∷_ 111 (List._∷_ 109 (List._∷_ 101 List.[])))))))))))))))) (Syntax.ttcons Syntax.tnil (Syntax.ttcons Syntax.tnil (Syntax.ttcons (Syntax.tcons (Syntax.tyInt Syntax.w64) (Syntax.tcons (Syntax.tyInt Syntax.w64) Syntax.tnil)) (Syntax.ttcons Syntax.tnil (Syntax.ttcons (Syntax.tcons (Syntax.tyInt Syntax.w16) Syntax.tnil) (Syntax.ttcons Syntax.tnil (Syntax.ttcons (Syntax.tcons (Syntax.tyInt Syntax.w64) Syntax.tnil) (Syntax.ttcons Syntax.tnil Syntax.ttnil))))))))) 0 Path'.refl, Path'.refl) Path'.refl (λ ρ m. Make.tells-row 𝓤 H A W E ρ (Row.out 8 (G15 .locals)) m 7 (Laws'5.Is (Declared'.row SqldardAnswer.the-type) (m .1 .1 .1 .1 .1 .1 .1 .0) (Laws'6.vals SqldardAnswer.the-type Laws''.the-laws (m .1 .1 .1 .1 .1 .1 .1 .0))) (Make.whole-is 𝓤 H A W E (Declared'.row SqldardAnswer.the-type) Path'.refl (Laws'6.val SqldardAnswer.the-type Laws''.the-laws) (Laws'6.tells SqldardAnswer.the-type Laws''.the-laws) ρ 7 (m .1 .1 .1 .1 .1 .1 .1 .0))) (λ m k wa. Path'.refl) λ m k wa. Laws'6.owed SqldardAnswer.the-type Laws''.the-laws (m .1 .1 .1 .1 .1 .1 .1 .0) (Laws'6.vals SqldardAnswer.the-type Laws''.the-laws (m .1 .1 .1 .1 .1 .1 .1 .0)) k .0) d67
+          d68 = Typed.s-seq 𝓤 H A W 𝓣 E G15 G16 b5 b48 Δ0 (Typed.pass T14 T16 (s14 bs)) (at67 bs) (CopyOut.t-copy-told 𝓤 H A W E 𝓣 (Declared.row Outcome.the-type) Path'.refl (Laws'4.val Outcome.the-type Laws.the-laws) (Laws'4.lawful Outcome.the-type Laws.the-laws 𝓤 H A W tt) (Laws'4.makes Outcome.the-type Laws.the-plain 𝓤 H A) G15 8 (Scalar.oFld 7 (List._∷_ (Syntax.field 0) List.[]) (Syntax.tyEnum (List._∷_ 111 (List._∷_ 117 (List._∷_ 116 (List._∷_ 99 (List._∷_ 111 (List._∷_ 109 (List._∷_ 101 (List._∷_ 58 (List._∷_ 58 (List._∷_ 79 (List._∷_ 117 (List._∷_ 116 (List._∷_ 99 (List._∷_ 111 (List._∷_ 109 (List._∷_ 101 List.[])))))))))))))))) (Syntax.ttcons Syntax.tnil (Syntax.ttcons Syntax.tnil (Syntax.ttcons (Syntax.tcons (Syntax.tyInt Syntax.w64) (Syntax.tcons (Syntax.tyInt Syntax.w64) Syntax.tnil)) (Syntax.ttcons Syntax.tnil (Syntax.ttcons (Syntax.tcons (Syntax.tyInt Syntax.w16) Syntax.tnil) (Syntax.ttcons Syntax.tnil (Syntax.ttcons (Syntax.tcons (Syntax.tyInt Syntax.w64) Syntax.tnil) (Syntax.ttcons Syntax.tnil (Syntax.ttcons (Syntax.tcons (Syntax.tyInt Syntax.w16) Syntax.tnil) Syntax.ttnil)))))))))) 0 λ x. Laws'4.val Outcome.the-type Laws.the-laws (SqldardAnswer.struct .as-values x .0)) (λ m. SqldardAnswer.struct .as-values (m .1 .1 .1 .1 .1 .1 .1 .0) .0) (λ m. Laws'5.Is (Declared'.row SqldardAnswer.the-type) (m .1 .1 .1 .1 .1 .1 .1 .0) (Laws'6.vals SqldardAnswer.the-type Laws''.the-laws (m .1 .1 .1 .1 .1 .1 .1 .0))) (Reads'.room-gone 𝓤 H A (Syntax.tyEnum (List._∷_ 111 (List._∷_ 117 (List._∷_ 116 (List._∷_ 99 (List._∷_ 111 (List._∷_ 109 (List._∷_ 101 (List._∷_ 58 (List._∷_ 58 (List._∷_ 79 (List._∷_ 117 (List._∷_ 116 (List._∷_ 99 (List._∷_ 111 (List._∷_ 109 (List._∷_ 101 List.[])))))))))))))))) (Syntax.ttcons Syntax.tnil (Syntax.ttcons Syntax.tnil (Syntax.ttcons (Syntax.tcons (Syntax.tyInt Syntax.w64) (Syntax.tcons (Syntax.tyInt Syntax.w64) Syntax.tnil)) (Syntax.ttcons Syntax.tnil (Syntax.ttcons (Syntax.tcons (Syntax.tyInt Syntax.w16) Syntax.tnil) (Syntax.ttcons Syntax.tnil (Syntax.ttcons (Syntax.tcons (Syntax.tyInt Syntax.w64) Syntax.tnil) (Syntax.ttcons Syntax.tnil (Syntax.ttcons (Syntax.tcons (Syntax.tyInt Syntax.w16) Syntax.tnil) Syntax.ttnil))))))))))) (Reads.reads-field 𝓤 H A W SqldardAnswer.the-type Laws''.the-laws 0 (Syntax.tyEnum (List._∷_ 111 (List._∷_ 117 (List._∷_ 116 (List._∷_ 99 (List._∷_ 111 (List._∷_ 109 (List._∷_ 101 (List._∷_ 58 (List._∷_ 58 (List._∷_ 79 (List._∷_ 117 (List._∷_ 116 (List._∷_ 99 (List._∷_ 111 (List._∷_ 109 (List._∷_ 101 List.[])))))))))))))))) (Syntax.ttcons Syntax.tnil (Syntax.ttcons Syntax.tnil (Syntax.ttcons (Syntax.tcons (Syntax.tyInt Syntax.w64) (Syntax.tcons (Syntax.tyInt Syntax.w64) Syntax.tnil)) (Syntax.ttcons Syntax.tnil (Syntax.ttcons (Syntax.tcons (Syntax.tyInt Syntax.w16) Syntax.tnil) (Syntax.ttcons Syntax.tnil (Syntax.ttcons (Syntax.tcons (Syntax.tyInt Syntax.w64) Syntax.tnil) (Syntax.ttcons Syntax.tnil (Syntax.ttcons (Syntax.tcons (Syntax.tyInt Syntax.w16) Syntax.tnil) Syntax.ttnil)))))))))) 0 Path'.refl, Path'.refl) Path'.refl (λ ρ m. Make.tells-row 𝓤 H A W E ρ (Row.out 8 (G15 .locals)) m 7 (Laws'5.Is (Declared'.row SqldardAnswer.the-type) (m .1 .1 .1 .1 .1 .1 .1 .0) (Laws'6.vals SqldardAnswer.the-type Laws''.the-laws (m .1 .1 .1 .1 .1 .1 .1 .0))) (Make.whole-is 𝓤 H A W E (Declared'.row SqldardAnswer.the-type) Path'.refl (Laws'6.val SqldardAnswer.the-type Laws''.the-laws) (Laws'6.tells SqldardAnswer.the-type Laws''.the-laws) ρ 7 (m .1 .1 .1 .1 .1 .1 .1 .0))) (λ m k wa. Path'.refl) λ m k wa. Laws'6.owed SqldardAnswer.the-type Laws''.the-laws (m .1 .1 .1 .1 .1 .1 .1 .0) (Laws'6.vals SqldardAnswer.the-type Laws''.the-laws (m .1 .1 .1 .1 .1 .1 .1 .0)) k .0) d67
 
           d69 : Typed.Typed 𝓤 H A 𝓣 E G14 b49 Δ0 (at69 bs)
           d69 = Typed.g-pre 𝓤 H A W 𝓣 E G14 G15 b49 Δ0 (λ Ψ. Ψ) (at68 bs) (Lifetime.g-forget 𝓤 H A W E G14 3 Row.dead Path'.refl) d68
@@ -1615,7 +1615,7 @@ module _ (claims· : Claims) where
           d71 = Typed.g-pre 𝓤 H A W 𝓣 E G12 G13 b49 Δ0 (λ Ψ. Ψ) (at70 bs) (Lifetime.g-end 𝓤 H A W E G12 3 Path'.refl) d70
 
           d72 : Typed.Typed 𝓤 H A 𝓣 E G11 b50 Δ0 (at72 bs)
-          d72 = Typed.s-seq 𝓤 H A W 𝓣 E G11 G12 b4 b49 Δ0 (Typed.both (s10 bs)) (at71 bs) (Plain.t-call-plain 𝓤 H A W 𝓣 2 ps·1 r·1 (claims· .2) (claims· .3) "sqldard::parse_sqldard_data" (known .1) E (λ pos β. β) G11 (record { pos = 3; ty = Syntax.tyRef (Syntax.named 1) Syntax.imm (Syntax.tyInt Syntax.w8); ref = λ x. x }, (record { pos = 14; ty = Syntax.tyRef Syntax.erased Syntax.mut ColumnMetadataRow.named; ref = λ x. x }, tt)) 7 (List._∷_ 1 (List._∷_ 3 List.[])) (Call.sub-id 𝓤 H A W (G11 .slots)) (ShrSlice.spares-sslice 𝓤 H A W (Referent.rtF (Referent.fInt Syntax.w8)) (Syntax.tyRef (Syntax.named 1) Syntax.imm (Syntax.tyInt Syntax.w8)) 1, Shared.reads-sslice 𝓤 H A W (Referent.rtF (Referent.fInt Syntax.w8)) (Syntax.tyRef (Syntax.named 1) Syntax.imm (Syntax.tyInt Syntax.w8)) 1, Path'.refl, (Reads'.as-is 𝓤 H A (Mut.mslice (ColumnMetadataRow.RT) (Syntax.tyRef Syntax.erased Syntax.mut ColumnMetadataRow.named) 3), Mut.reads-mslice 𝓤 H A W (ColumnMetadataRow.RT) (Syntax.tyRef Syntax.erased Syntax.mut ColumnMetadataRow.named) 3, Path'.refl, tt)) (Reads'.room-gone 𝓤 H A (Syntax.tyStruct (List._∷_ 115 (List._∷_ 113 (List._∷_ 108 (List._∷_ 100 (List._∷_ 97 (List._∷_ 114 (List._∷_ 100 (List._∷_ 58 (List._∷_ 58 (List._∷_ 83 (List._∷_ 113 (List._∷_ 108 (List._∷_ 100 (List._∷_ 97 (List._∷_ 114 (List._∷_ 100 (List._∷_ 65 (List._∷_ 110 (List._∷_ 115 (List._∷_ 119 (List._∷_ 101 (List._∷_ 114 List.[])))))))))))))))))))))) (Syntax.tcons (Syntax.tyEnum (List._∷_ 111 (List._∷_ 117 (List._∷_ 116 (List._∷_ 99 (List._∷_ 111 (List._∷_ 109 (List._∷_ 101 (List._∷_ 58 (List._∷_ 58 (List._∷_ 79 (List._∷_ 117 (List._∷_ 116 (List._∷_ 99 (List._∷_ 111 (List._∷_ 109 (List._∷_ 101 List.[])))))))))))))))) (Syntax.ttcons Syntax.tnil (Syntax.ttcons Syntax.tnil (Syntax.ttcons (Syntax.tcons (Syntax.tyInt Syntax.w64) (Syntax.tcons (Syntax.tyInt Syntax.w64) Syntax.tnil)) (Syntax.ttcons Syntax.tnil (Syntax.ttcons (Syntax.tcons (Syntax.tyInt Syntax.w16) Syntax.tnil) (Syntax.ttcons Syntax.tnil (Syntax.ttcons (Syntax.tcons (Syntax.tyInt Syntax.w64) Syntax.tnil) (Syntax.ttcons Syntax.tnil Syntax.ttnil))))))))) (Syntax.tcons (Syntax.tyStruct (List._∷_ 115 (List._∷_ 113 (List._∷_ 108 (List._∷_ 99 (List._∷_ 97 (List._∷_ 114 (List._∷_ 100 (List._∷_ 58 (List._∷_ 58 (List._∷_ 83 (List._∷_ 113 (List._∷_ 108 (List._∷_ 67 (List._∷_ 97 (List._∷_ 114 (List._∷_ 100 List.[])))))))))))))))) (Syntax.tcons Syntax.tyBool (Syntax.tcons (Syntax.tyInt Syntax.w32) (Syntax.tcons (Syntax.tyArray (Syntax.tyInt Syntax.w8) 5) (Syntax.tcons (Syntax.tyArray (Syntax.tyInt Syntax.w8) 8) (Syntax.tcons (Syntax.tyInt Syntax.w8) (Syntax.tcons (Syntax.tyArray (Syntax.tyInt Syntax.w32) 6) (Syntax.tcons (Syntax.tyInt Syntax.w64) (Syntax.tcons (Syntax.tyInt Syntax.w32) (Syntax.tcons (Syntax.tyArray (Syntax.tyInt Syntax.w8) 11) (Syntax.tcons (Syntax.tyInt Syntax.w64) (Syntax.tcons (Syntax.tyInt Syntax.w64) Syntax.tnil)))))))))))) (Syntax.tcons (Syntax.tyInt Syntax.w64) Syntax.tnil))))) (tt, (tt, tt)) Path'.refl) d71
+          d72 = Typed.s-seq 𝓤 H A W 𝓣 E G11 G12 b4 b49 Δ0 (Typed.both (s10 bs)) (at71 bs) (Plain.t-call-plain 𝓤 H A W 𝓣 2 ps·1 r·1 (claims· .2) (claims· .3) "sqldard::parse_sqldard_data" (known .1) E (λ pos β. β) G11 (record { pos = 3; ty = Syntax.tyRef (Syntax.named 1) Syntax.imm (Syntax.tyInt Syntax.w8); ref = λ x. x }, (record { pos = 14; ty = Syntax.tyRef Syntax.erased Syntax.mut ColumnMetadataRow.named; ref = λ x. x }, tt)) 7 (List._∷_ 1 (List._∷_ 3 List.[])) (Call.sub-id 𝓤 H A W (G11 .slots)) (ShrSlice.spares-sslice 𝓤 H A W (Referent.rtF (Referent.fInt Syntax.w8)) (Syntax.tyRef (Syntax.named 1) Syntax.imm (Syntax.tyInt Syntax.w8)) 1, Shared.reads-sslice 𝓤 H A W (Referent.rtF (Referent.fInt Syntax.w8)) (Syntax.tyRef (Syntax.named 1) Syntax.imm (Syntax.tyInt Syntax.w8)) 1, Path'.refl, (Reads'.as-is 𝓤 H A (Mut.mslice (ColumnMetadataRow.RT) (Syntax.tyRef Syntax.erased Syntax.mut ColumnMetadataRow.named) 3), Mut.reads-mslice 𝓤 H A W (ColumnMetadataRow.RT) (Syntax.tyRef Syntax.erased Syntax.mut ColumnMetadataRow.named) 3, Path'.refl, tt)) (Reads'.room-gone 𝓤 H A (Syntax.tyStruct (List._∷_ 115 (List._∷_ 113 (List._∷_ 108 (List._∷_ 100 (List._∷_ 97 (List._∷_ 114 (List._∷_ 100 (List._∷_ 58 (List._∷_ 58 (List._∷_ 83 (List._∷_ 113 (List._∷_ 108 (List._∷_ 100 (List._∷_ 97 (List._∷_ 114 (List._∷_ 100 (List._∷_ 65 (List._∷_ 110 (List._∷_ 115 (List._∷_ 119 (List._∷_ 101 (List._∷_ 114 List.[])))))))))))))))))))))) (Syntax.tcons (Syntax.tyEnum (List._∷_ 111 (List._∷_ 117 (List._∷_ 116 (List._∷_ 99 (List._∷_ 111 (List._∷_ 109 (List._∷_ 101 (List._∷_ 58 (List._∷_ 58 (List._∷_ 79 (List._∷_ 117 (List._∷_ 116 (List._∷_ 99 (List._∷_ 111 (List._∷_ 109 (List._∷_ 101 List.[])))))))))))))))) (Syntax.ttcons Syntax.tnil (Syntax.ttcons Syntax.tnil (Syntax.ttcons (Syntax.tcons (Syntax.tyInt Syntax.w64) (Syntax.tcons (Syntax.tyInt Syntax.w64) Syntax.tnil)) (Syntax.ttcons Syntax.tnil (Syntax.ttcons (Syntax.tcons (Syntax.tyInt Syntax.w16) Syntax.tnil) (Syntax.ttcons Syntax.tnil (Syntax.ttcons (Syntax.tcons (Syntax.tyInt Syntax.w64) Syntax.tnil) (Syntax.ttcons Syntax.tnil (Syntax.ttcons (Syntax.tcons (Syntax.tyInt Syntax.w16) Syntax.tnil) Syntax.ttnil)))))))))) (Syntax.tcons (Syntax.tyStruct (List._∷_ 115 (List._∷_ 113 (List._∷_ 108 (List._∷_ 99 (List._∷_ 97 (List._∷_ 114 (List._∷_ 100 (List._∷_ 58 (List._∷_ 58 (List._∷_ 83 (List._∷_ 113 (List._∷_ 108 (List._∷_ 67 (List._∷_ 97 (List._∷_ 114 (List._∷_ 100 List.[])))))))))))))))) (Syntax.tcons Syntax.tyBool (Syntax.tcons (Syntax.tyInt Syntax.w32) (Syntax.tcons (Syntax.tyArray (Syntax.tyInt Syntax.w8) 5) (Syntax.tcons (Syntax.tyArray (Syntax.tyInt Syntax.w8) 8) (Syntax.tcons (Syntax.tyInt Syntax.w8) (Syntax.tcons (Syntax.tyArray (Syntax.tyInt Syntax.w32) 6) (Syntax.tcons (Syntax.tyInt Syntax.w64) (Syntax.tcons (Syntax.tyInt Syntax.w32) (Syntax.tcons (Syntax.tyArray (Syntax.tyInt Syntax.w8) 11) (Syntax.tcons (Syntax.tyInt Syntax.w64) (Syntax.tcons (Syntax.tyInt Syntax.w64) Syntax.tnil)))))))))))) (Syntax.tcons (Syntax.tyInt Syntax.w64) Syntax.tnil))))) (tt, (tt, tt)) Path'.refl) d71
 
           d73 : Typed.Typed 𝓤 H A 𝓣 E G10 b51 Δ0 (at73 bs)
           d73 = Typed.s-seq 𝓤 H A W 𝓣 E G10 G11 b3 b50 Δ0 (Typed.ask (s9 bs)) (at72 bs) (Relend.t-sl-aggregate 𝓤 H A W E (ColumnMetadataRow.RT) 𝓣 (Relend.asMut (ColumnMetadataRow.RT)) G10 13 14 3 (Syntax.tyRef Syntax.erased Syntax.mut (Syntax.tyArray ColumnMetadataRow.named 4096)) (Syntax.tyRef Syntax.erased Syntax.mut ColumnMetadataRow.named) (λ x. x) (Scalar.oBig Syntax.w64 4096) (Reads'.as-is 𝓤 H A (Relend.msptr (ColumnMetadataRow.RT) (Syntax.tyRef Syntax.erased Syntax.mut (Syntax.tyArray ColumnMetadataRow.named 4096)) 3)) (Reads'.room-gone 𝓤 H A (Syntax.tyStruct (List._∷_ 38 (List._∷_ 91 (List._∷_ 93 List.[]))) (Syntax.tcons (Syntax.tyRef Syntax.erased Syntax.mut ColumnMetadataRow.named) (Syntax.tcons (Syntax.tyInt Syntax.w64) Syntax.tnil)))) record { lower = record { fits = Dec'.lit< tt } } Path'.refl Path'.refl λ b o k. tt) d72
