@@ -5,10 +5,10 @@ use mathlib.Core.Bool.{Bool, true, false, not, and-eq-true-iff}
 use mathlib.Core.List.{List, [], _∷_}
 use Prim.Native.Nat.{ℕ, zero, suc, _+_, _-_, _≤_, _<_}
 use native.Mathlib.Omega.{arith}
-use lib.Dec.{ltb, eqb}
+use lib.Dec.{ltb}
 use lib.ListN.{length}
-use borrow.Author.Tests.{lt-ltb, le-ltb, ltb-true, ltb-false, ne-eqb}
-use Rattle.search.specs.Search.{pick}
+use borrow.Author.Tests.{lt-ltb, le-ltb, ltb-true, ne-eqb}
+use Rattle.search.specs.Search.{pick, front}
 use Rattle.search.specs.Walks.{firstOf, first}
 use Rattle.search.proofs.Index.{first-is}
 use Rattle.field.specs.declared.ByteOrder.the-variants.{BigEndian}
@@ -32,7 +32,7 @@ module _ (s : List ℕ) where
   by-first last (suc k) p h = go (isKept s last p) (by-first last k (suc p) (omega arith))
     where
       go : (b : Bool) → candidatesIn s last k (suc p) ≡ headed (firstOf (isKept s last) k (suc p))
-          → pick b (stringTextAt s p ∷ candidatesIn s (stringTextAt s p) k (suc p)) (candidatesIn s last k (suc p))
+          → front b (stringTextAt s p) (candidatesIn s (pick b (stringTextAt s p) last) k (suc p))
           ≡ headed (pick b p (firstOf (isKept s last) k (suc p)))
       go true e =
           let n : length s - suc p ≡ k = omega arith in

@@ -1,10 +1,10 @@
 -- Candidates for names: strings of the reply by their 16-bit BE length, whatever they stand in (01, Name scan).
 use mathlib.Core.Bool.{Bool, not, _&&_}
-use mathlib.Core.List.{List, [], _∷_}
+use mathlib.Core.List.{List, []}
 use Prim.Native.Nat.{ℕ, zero, suc, _+_, _-_}
 use lib.Dec.{eqb, ltb, leb}
 use lib.ListN.{length, take, drop}
-use Rattle.search.specs.Search.{pick, alike}
+use Rattle.search.specs.Search.{pick, front, alike}
 use Rattle.field.specs.declared.ByteOrder.the-variants.{BigEndian}
 use Rattle.field.specs.Numbers.{number}
 use Rattle.text.specs.declared.Text.{Text}
@@ -46,7 +46,7 @@ isKept s last p = isCandidate s p && not (isNearRepeat s last (stringTextAt s p)
 unfoldable pub candidatesIn : List ℕ → Text → ℕ → ℕ → List Text
 candidatesIn s last zero p = []
 candidatesIn s last (suc k) p =
-    pick (isKept s last p) (stringTextAt s p ∷ candidatesIn s (stringTextAt s p) k (suc p)) (candidatesIn s last k (suc p))
+    front (isKept s last p) (stringTextAt s p) (candidatesIn s (pick (isKept s last p) (stringTextAt s p) last) k (suc p))
 
 -- those from p on (01, Name scan)
 unfoldable pub candidatesFrom : List ℕ → Text → ℕ → List Text

@@ -43,7 +43,7 @@ inView s v = shown (v .first) (behind s v)
 abbrev pub Inside : List ℕ → Text → Type 0
 Inside s t = t .place + t .length ≤ lib.ListN.length s
 
--- what holds of a view: its texts lie in the reply, and so does the position where it goes on
+-- what holds of a view: its texts lie in the reply, and so does the position where it goes on (01, Answers: place, length)
 pub record Within (s : List ℕ) (v : View) : Type 0 where
   pub first : Inside s (v .first)
   pub second : Inside s (v .second)

@@ -1,14 +1,14 @@
 -- The ways out of `write_text` and of `name_text`: what is refused leaves the buffer as it was.
 -- Assumes nothing.
 use mathlib.Core.Path.{_≡_, refl, sym, ap, _∙_}
-use mathlib.Core.Bool.{Bool, true, false}
-use mathlib.Core.List.{List, [], _∷_}
+use mathlib.Core.Bool.{true, false}
+use mathlib.Core.List.{List}
 use Prim.Native.Nat.{ℕ, _<_, _≤_}
 use native.Mathlib.Omega.{arith}
 use lib.Dec.{ltb}
 use lib.ListN.{length}
 use borrow.Author.Tests.{lt-ltb, le-ltb, eq-eqb, ne-eqb}
-use Rattle.search.specs.Search.{pick, over}
+use Rattle.search.specs.Search.{over}
 use Rattle.codepage.specs.Page.{Page}
 use Rattle.outcome.specs.Refusal.{refusalOf, isRefused}
 use Rattle.outcome.specs.declared.Outcome.{Outcome}
@@ -47,15 +47,6 @@ Answers page s c buffer m b =
     (refusalOf (m .outcome) ≡ nameRefusal page s c (length buffer))
     × ((m .length ≡ nameLength page s c (length buffer)) × (b ≡ nameWritten page s c buffer))
 
--- a text is refused where there is no room for it
-refused-room : (text : List ℕ) (room : ℕ) → isRefused (roomRefusal text room) ≡ ltb room (length text)
-unfolding roomRefusal
-refused-room text room = go (ltb room (length text)) (length text)
-  where
-    go : (b : Bool) (n : ℕ) → isRefused (pick b (6 ∷ n ∷ []) (0 ∷ [])) ≡ b
-    go true n = refl
-    go false n = refl
-
 module _ (page : Page) (s : List ℕ) (c : ColumnMetadata) where
   pub name-generated : c .name .alphabet ≡ 0 → generatedName (c .number) ≡ nameOf page s c
   unfolding nameOf
@@ -68,19 +59,16 @@ module _ (page : Page) (s : List ℕ) (c : ColumnMetadata) where
   -- a name that has its bytes is answered as its text is
   module _ (z : isRefused (partRefusal s (c .name)) ≡ false) where
     refuses-as : (room : ℕ) → nameRefusal page s c room ≡ roomRefusal (nameOf page s c) room
-    unfolding nameRefusal roomRefusal
+    unfolding nameRefusal
     refuses-as room = rw z refl
 
-    refused-as : (room : ℕ) → isRefused (nameRefusal page s c room) ≡ ltb room (length (nameOf page s c))
-    refused-as room = ap isRefused (refuses-as room) ∙ refused-room (nameOf page s c) room
-
     long-as : (room : ℕ) → nameLength page s c room ≡ roomLength (nameOf page s c) room
-    unfolding nameLength roomLength
-    long-as room = rw (refused-as room) refl
+    unfolding nameLength
+    long-as room = rw z refl
 
     written-as : (buffer : List ℕ) → nameWritten page s c buffer ≡ roomWritten (nameOf page s c) buffer
-    unfolding nameWritten roomWritten
-    written-as buffer = rw (refused-as (length buffer)) refl
+    unfolding nameWritten
+    written-as buffer = rw z refl
 
   module _ (buffer : List ℕ) (m : NameText) where
     pub answers-refused : (o : Outcome) → refusalOf o ≡ partRefusal s (c .name) → isRefused (refusalOf o) ≡ true
@@ -89,7 +77,7 @@ module _ (page : Page) (s : List ℕ) (c : ColumnMetadata) where
     answers-refused o e z q =
         let y : isRefused (partRefusal s (c .name)) ≡ true = rw e at z in (
           ap refusalOf (q .0) ∙ e ∙ rw y refl,
-          (q .1 ∙ rw (y, y) refl, rw (y, y) refl),
+          (q .1 ∙ rw y refl, rw y refl),
         )
 
     pub answers-text : isRefused (partRefusal s (c .name)) ≡ false → (text : List ℕ) → text ≡ nameOf page s c → (b : List ℕ) → Writes text buffer m b

@@ -2,11 +2,12 @@
 use mathlib.Core.List.{List, [], _∷_, _++_}
 use Prim.Native.Nat.{ℕ, zero, suc, _+_, _/_, _%_}
 use lib.Dec.{eqb, ltb}
-use Rattle.search.specs.Search.{pick, over}
+use Rattle.search.specs.Search.{pick}
 use Rattle.codepage.specs.Page.{Page}
 use Rattle.outcome.specs.Refusal.{isRefused}
 use Rattle.text.specs.Chars.{chars}
 use Rattle.types.specs.declared.ColumnMetadata.{ColumnMetadata}
+use Rattle.column_name.specs.Room.{roomRefusal, roomLength, roomWritten}
 use Rattle.column_name.specs.Part.{partRefusal, ownBytes}
 
 -- an ASCII digit (01, Numbers of refusal: in decimal)
@@ -28,14 +29,12 @@ nameOf page s c = pick (eqb (c .name .alphabet) 0) (generatedName (c .number)) (
 
 -- as name part refuses; then 6 with the length needed; else 0 (01, Numbers of refusal: name part and name text)
 unfoldable pub nameRefusal : Page → List ℕ → ColumnMetadata → ℕ → List ℕ
-nameRefusal page s c room =
-    pick (isRefused (partRefusal s (c .name))) (partRefusal s (c .name))
-    (pick (ltb room (lib.ListN.length (nameOf page s c))) (6 ∷ lib.ListN.length (nameOf page s c) ∷ []) (0 ∷ []))
+nameRefusal page s c room = pick (isRefused (partRefusal s (c .name))) (partRefusal s (c .name)) (roomRefusal (nameOf page s c) room)
 
 -- the text's length; 0 where refused (01, Answers: name text)
 unfoldable pub nameLength : Page → List ℕ → ColumnMetadata → ℕ → ℕ
-nameLength page s c room = pick (isRefused (nameRefusal page s c room)) 0 (lib.ListN.length (nameOf page s c))
+nameLength page s c room = pick (isRefused (partRefusal s (c .name))) 0 (roomLength (nameOf page s c) room)
 
 -- the text over the buffer's front; the buffer as it was where refused (01, Numbers of refusal: a refusal changes nothing)
 unfoldable pub nameWritten : Page → List ℕ → ColumnMetadata → List ℕ → List ℕ
-nameWritten page s c buffer = pick (isRefused (nameRefusal page s c (lib.ListN.length buffer))) buffer (over (nameOf page s c) buffer)
+nameWritten page s c buffer = pick (isRefused (partRefusal s (c .name))) buffer (roomWritten (nameOf page s c) buffer)

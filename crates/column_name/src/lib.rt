@@ -122,7 +122,7 @@ fn write_page037(bytes: &[u8], buffer: &mut [u8])
     }
 }
 
-// The entry name text: its length, which is 0 where it is refused.
+// How long the text is; 0 where the outcome is a refusal.
 pub struct NameText {
     pub outcome: Outcome,
     pub length: usize,
@@ -155,6 +155,7 @@ fn write_text(bytes: &[u8], alphabet: u8, buffer: &mut [u8]) -> NameText
     }
 }
 
+// The entry name text. Nothing is written where it refuses.
 pub fn name_text(reply: &[u8], column: ColumnMetadata, buffer: &mut [u8]) -> NameText
     ensures refuses { λ r. ⌜ refusalOf (r .outcome) ≡ nameRefusal page037 (now (reply .entry)) column (length (now (buffer .entry))) ⌝ }
     ensures gives { λ r. ⌜ r .length ≡ nameLength page037 (now (reply .entry)) column (length (now (buffer .entry))) ⌝ }

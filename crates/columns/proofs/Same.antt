@@ -41,7 +41,7 @@ unfolding sameColumn
 same-whole c d s =
     rw (eq-eqb _ _ (s .code), eq-eqb _ _ (s .size), eq-eqb _ _ (s .precise), eq-eqb _ _ (s .scaled)) (eq-eqb _ _ (s .order))
 
-column-refl : (c : ColumnMetadata) → sameColumn c c ≡ true
+pub column-refl : (c : ColumnMetadata) → sameColumn c c ≡ true
 column-refl c = same-whole c c (record { code = refl; size = refl; precise = refl; scaled = refl; order = refl })
 
 eqb-sym : (a b : ℕ) → eqb a b ≡ eqb b a

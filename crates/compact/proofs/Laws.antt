@@ -11,8 +11,9 @@ use borrow.Author.Tests.{eq-eqb, ne-eqb, lt-ltb, le-ltb, le-leb, lt-leb, ltb-tru
 use Rattle.search.specs.Search.{pick, each}
 use Rattle.search.specs.Walks.{first}
 use Rattle.search.proofs.Index.{first-done}
+use Rattle.codepage.specs.Page.{page037}
 use Rattle.field.specs.Strings.{noString}
-use Rattle.text.specs.Chars.{isNameChar}
+use Rattle.text.specs.Chars.{isNameChar, charOf, isNameOf}
 use Rattle.text.proofs.Decode.{lent}
 use Rattle.compact_table.specs.Table.{nextHere, nextCompact}
 use Rattle.compact.specs.declared.Ends.{Ends}
@@ -41,10 +42,10 @@ module _ (s : List ℕ) (e q : ℕ) where
   unfolding nameHere
   name-over h g = rw (h, lt-leb (q + 1 + getD s q 0) e g) refl
 
-  -- the bytes are those that the code lends
+  -- the bytes are those that the code lends, and characters of ASCII are bytes
   pub name-by-chars : (r : Bool) → (leb 1 (getD s q 0) && leb (getD s q 0) 64) ≡ true → q + 1 + getD s q 0 ≤ e
-      → r ≡ each isNameChar (take (q + 1 + getD s q 0 - (q + 1)) (drop (q + 1) s)) → r ≡ nameHere s e q
-  unfolding nameHere
+      → r ≡ each (isNameOf page037 1) (take (q + 1 + getD s q 0 - (q + 1)) (drop (q + 1) s)) → r ≡ nameHere s e q
+  unfolding nameHere charOf
   name-by-chars r h g f = rw (h, le-leb (q + 1 + getD s q 0) e g) (f ∙ ap (each isNameChar) (lent s (q + 1) (getD s q 0)))
 
 pub name-found : (s : List ℕ) (p e q : ℕ) → q ≡ nameAt s p e → q < e → record { place = q + 1; length = getD s q 0; next = e } ≡ compactName s p e

@@ -40,7 +40,7 @@ fn name_here(reply: &[u8], end: usize, offset: usize) -> bool
     if (1 <= length) & (length <= 64) {
         let start = offset + 1;
         if start + length <= end {
-            return text::all_name_chars(&reply[start..start + length]);
+            return text::all_name_chars(&reply[start..start + length], 1);
         }
         return false;
     }

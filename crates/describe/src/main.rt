@@ -58,7 +58,7 @@ fn put_rows(
     next
 }
 
-// All that is written of a reply. It has fewer than 4,096 columns: each takes 16 bytes of 65,536, and something stands before them.
+// All that is written of a reply. It has at most 4,095 columns (`reading-few`), so the list is never too short.
 fn put_description(out: &mut [u8], used: usize, reply: &[u8], room: &mut [u8]) -> usize
     requires { ⌜ used ≤ length (now out) ⌝ }
     ensures { λ r. ⌜ r ≤ length (now (out .exit)) ⌝ }

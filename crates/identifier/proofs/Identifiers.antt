@@ -13,14 +13,15 @@ use Rattle.codepage.specs.Page.{Page}
 use Rattle.codepage.specs.Rearranged.{rearranged}
 use Rattle.codepage.specs.Blank.{isBlank, isBlankIn}
 use Rattle.codepage.proofs.Pages.{blanksAsIn037}
-use Rattle.text.specs.Chars.{isAscii, isNameChar, charOf, chars}
+use Rattle.text.specs.Chars.{isAscii, isNameChar, charOf, chars, isNameOf, isBlankOf}
 use Rattle.text.specs.Text.{leading, kept, trimmedOf, trimmed, placed, textOn}
 use Rattle.text.specs.Generated.{isGenerated}
 use Rattle.text.proofs.Decode.{lent}
-use Rattle.text.proofs.Generated.{SpellsColAsIn037, charOf-page, charOf-other, each-map}
+use Rattle.text.proofs.Generated.{SpellsColAsIn037, charOf-other, each-map}
+use Rattle.text.proofs.Bytes.{blank-same}
 use Rattle.text.proofs.Quick.{ascii-chars, page-chars}
 use Rattle.text.proofs.Trim.{kept-le}
-use Rattle.identifier.specs.Identifier.{isBlankOf, isNameOf, isIdentifier, isIdentifierAt}
+use Rattle.identifier.specs.Identifier.{isIdentifier, isIdentifierAt}
 use Rattle.identifier.proofs.Trims.{trimmed-map, trimmed-twice}
 
 -- ---- characters of bytes
@@ -107,19 +108,15 @@ module _ (page : Page) (r : T (rearranged (page .table))) (h : T (blanksAsIn037 
   at-ascii e =
       rw (lent s p c) (ap (λ (cs : List ℕ). isIdentifier (trimmedOf isBlank cs)) (sym (ascii-chars page r h sp n s p c l (rw (lent s p c) at e))))
 
-  blank-same : isBlankIn page ≡ isBlankOf page (page .alphabet)
-  unfolding isBlankIn
-  blank-same = λ k b. isBlank (charOf-page page (page .alphabet) b refl k)
-
   -- the text of the page is trimmed already
   trimmed-page : (bs : List ℕ) → trimmedOf isBlank (chars page (page .alphabet) (trimmed page bs)) ≡ trimmedOf isBlank (chars page (page .alphabet) bs)
   unfolding trimmed
   trimmed-page bs =
       let a = page .alphabet in
       trimmed-map isBlank (charOf page a) (trimmedOf (isBlankIn page) bs)
-      ∙ ap (λ (g : ℕ → Bool). chars page a (trimmedOf g (trimmedOf (isBlankIn page) bs))) (sym blank-same)
+      ∙ ap (λ (g : ℕ → Bool). chars page a (trimmedOf g (trimmedOf (isBlankIn page) bs))) (blank-same page)
       ∙ ap (chars page a) (trimmed-twice (isBlankIn page) bs)
-      ∙ ap (λ (g : ℕ → Bool). chars page a (trimmedOf g bs)) blank-same
+      ∙ ap (λ (g : ℕ → Bool). chars page a (trimmedOf g bs)) (sym (blank-same page))
       ∙ sym (trimmed-map isBlank (charOf page a) bs)
 
   at-page : isAscii lentBytes ≡ false → in-alphabet (page .alphabet) ≡ isIdentifierAt page s p c

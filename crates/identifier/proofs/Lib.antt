@@ -1,4 +1,3 @@
 pub mod Trims
-pub mod Bytes
 pub mod Identifiers
 pub mod Cases

@@ -7,17 +7,9 @@ use lib.ListN.{length}
 use Rattle.search.specs.Search.{each}
 use Rattle.codepage.specs.Page.{Page}
 use Rattle.codepage.specs.Blank.{isBlank}
-use Rattle.text.specs.Chars.{isNameChar, charOf}
+use Rattle.text.specs.Chars.{isNameChar}
 use Rattle.text.specs.Text.{trimmedOf, textOf}
 use Rattle.text.specs.Generated.{isGenerated, textChars}
-
--- a byte of a text whose character trimming drops (01, Name scan: when trimmed)
-abbrev pub isBlankOf : Page → ℕ → ℕ → Bool
-isBlankOf page alphabet b = isBlank (charOf page alphabet b)
-
--- a byte of a text whose character is a name character (01, Name scan)
-abbrev pub isNameOf : Page → ℕ → ℕ → Bool
-isNameOf page alphabet b = isNameChar (charOf page alphabet b)
 
 -- so many name characters at most (01, Name scan: 1 to 128, 2 to 128 name characters)
 abbrev pub longest : ℕ

@@ -8,8 +8,7 @@ use native.Mathlib.Omega.{arith}
 use lib.Dec.{eqb}
 use lib.ListN.{length}
 use mir.Val.{boolByte}
-use borrow.Author.Tests.{eqb-true, eqb-false, eq-eqb, ne-eqb}
-use Rattle.search.specs.Search.{pick}
+use Rattle.search.specs.Search.{pick, front}
 use Rattle.text.specs.declared.Text.{Text}
 use Rattle.text.specs.Text.{emptyText}
 use Rattle.candidates.specs.declared.View.{View}
@@ -24,25 +23,29 @@ use Rattle.listing.specs.Listing.{later, isListed, after, unlisted, list
 
 -- ---- how many there are at most
 
+front-few : (b : Bool) (x : Text) (l : List Text) → length (front b x l) ≤ suc (length l)
+front-few true x l = omega arith
+front-few false x l = omega arith
+
 candidates-few : (s : List ℕ) (last : Text) (k p : ℕ) → length (candidatesIn s last k p) ≤ k
 unfolding candidatesIn
 candidates-few s last zero p = omega arith
-candidates-few s last (suc k) p = go (isKept s last p) (candidates-few s (stringTextAt s p) k (suc p)) (candidates-few s last k (suc p))
-  where
-    go : (b : Bool) → length (candidatesIn s (stringTextAt s p) k (suc p)) ≤ k → length (candidatesIn s last k (suc p)) ≤ k
-        → length (pick b (stringTextAt s p ∷ candidatesIn s (stringTextAt s p) k (suc p)) (candidatesIn s last k (suc p))) ≤ suc k
-    go true g h = omega arith
-    go false g h = omega arith
+candidates-few s last (suc k) p =
+    omega (
+      arith,
+      front-few (isKept s last p) (stringTextAt s p) (candidatesIn s (pick (isKept s last p) (stringTextAt s p) last) k (suc p)),
+      candidates-few s (pick (isKept s last p) (stringTextAt s p) last) k (suc p),
+    )
 
 listed-few : (s : List ℕ) (rule : Rule) (z : Listing) (l : List Text) → length (listed s rule z l) ≤ length l
 unfolding listed
 listed-few s rule z [] = omega arith
-listed-few s rule z (x ∷ l) = go (isListed s rule z x l) (listed-few s rule (after z x (isListed s rule z x l)) l)
-  where
-    go : (b : Bool) → length (listed s rule (after z x (isListed s rule z x l)) l) ≤ length l
-        → length (pick b (x ∷ listed s rule (after z x (isListed s rule z x l)) l) (listed s rule (after z x (isListed s rule z x l)) l)) ≤ suc (length l)
-    go true h = omega arith
-    go false h = omega arith
+listed-few s rule z (x ∷ l) =
+    omega (
+      arith,
+      front-few (isListed s rule z x l) x (listed s rule (after z x (isListed s rule z x l)) l),
+      listed-few s rule (after z x (isListed s rule z x l)) l,
+    )
 
 -- no more names than bytes
 pub listedBy-few : (s : List ℕ) (rule : Rule) → length (listedBy s rule) ≤ length s
@@ -67,24 +70,17 @@ module _ (s : List ℕ) (v : View) where
     in-view-less = omega (arith, ap length in-view-next)
 
     module _ (rule : Rule) (z : Listing) (b : Bool) (f : b ≡ isListed s rule z (v .first) (behind s v)) where
-      listed-next : listed s rule z (inView s v)
-          ≡ pick b (v .first ∷ listed s rule (after z (v .first) b) (inView s (shifted s v))) (listed s rule (after z (v .first) b) (inView s (shifted s v)))
+      listed-next : listed s rule z (inView s v) ≡ front b (v .first) (listed s rule (after z (v .first) b) (inView s (shifted s v)))
       unfolding listed
       listed-next =
           let g : b ≡ isListed s rule z (v .first) (inView s (shifted s v)) = f ∙ ap (isListed s rule z (v .first)) (behind-shifted s v h) in
           ap (listed s rule z) in-view-next ∙ rw (← g) refl
 
       pub listed-yes : b ≡ true → listed s rule z (inView s v) ≡ v .first ∷ listed s rule (after z (v .first) b) (inView s (shifted s v))
-      listed-yes g =
-          listed-next
-          ∙ ap (λ (c : Bool). pick c (v .first ∷ listed s rule (after z (v .first) b) (inView s (shifted s v)))
-          (listed s rule (after z (v .first) b) (inView s (shifted s v)))) g
+      listed-yes g = listed-next ∙ ap (λ (c : Bool). front c (v .first) (listed s rule (after z (v .first) b) (inView s (shifted s v)))) g
 
       pub listed-no : b ≡ false → listed s rule z (inView s v) ≡ listed s rule (after z (v .first) b) (inView s (shifted s v))
-      listed-no g =
-          listed-next
-          ∙ ap (λ (c : Bool). pick c (v .first ∷ listed s rule (after z (v .first) b) (inView s (shifted s v)))
-          (listed s rule (after z (v .first) b) (inView s (shifted s v)))) g
+      listed-no g = listed-next ∙ ap (λ (c : Bool). front c (v .first) (listed s rule (after z (v .first) b) (inView s (shifted s v)))) g
 
       -- n are listed before it, m in all
       pub counted-next : (n m : ℕ) → n + length (listed s rule z (inView s v)) ≡ m

@@ -1,6 +1,6 @@
 -- The rules by what is in view: a law for each way out of their tests.
 -- Assumes nothing.
-use mathlib.Core.Path.{_≡_, refl, sym, ap, _∙_}
+use mathlib.Core.Path.{_≡_, refl, sym, _∙_}
 use mathlib.Core.Bool.{Bool, true, false, not, _&&_, _||_, false≢true}
 use mathlib.Core.List.{List, [], _∷_}
 use Prim.Native.Nat.{ℕ, _-_}
@@ -10,13 +10,12 @@ use lib.ListN.{length}
 use borrow.Author.Tests.{eq-eqb, ne-eqb, le-leb}
 use Rattle.search.specs.Search.{pick}
 use Rattle.text.specs.declared.Text.{Text}
-use Rattle.text.specs.Text.{emptyText}
 use Rattle.candidates.specs.declared.View.{View}
 use Rattle.candidates.specs.Candidates.{sameText, candidatesFrom}
 use Rattle.candidates.specs.View.{shown, behind}
 use Rattle.listing.specs.declared.Rule.the-variants.{Returning, BeforeFirst}
 use Rattle.listing.specs.declared.Listing.{Listing}
-use Rattle.listing.specs.Listing.{later, returns, isBefore, isListed, after, unlisted}
+use Rattle.listing.specs.Listing.{returns, isBefore, isListed, after}
 
 -- ---- how many are in view
 

@@ -4,7 +4,7 @@ use mathlib.Core.List.{List, [], _∷_}
 use Prim.Native.Nat.{ℕ, _-_}
 use lib.Dec.{eqb, leb}
 use lib.ListN.{length, getD}
-use Rattle.search.specs.Search.{pick}
+use Rattle.search.specs.Search.{pick, front}
 use Rattle.text.specs.declared.Text.{Text}
 use Rattle.text.specs.Text.{emptyText}
 use Rattle.candidates.specs.declared.View.{View}
@@ -41,8 +41,7 @@ after z x listed = record { first = z .first; skip = pick listed 4 (z .skip - 1)
 -- the candidates that a rule lists (01, Name scan)
 unfoldable pub listed : List ℕ → Rule → Listing → List Text → List Text
 listed s rule z [] = []
-listed s rule z (x ∷ l) =
-    pick (isListed s rule z x l) (x ∷ listed s rule (after z x (isListed s rule z x l)) l) (listed s rule (after z x (isListed s rule z x l)) l)
+listed s rule z (x ∷ l) = front (isListed s rule z x l) x (listed s rule (after z x (isListed s rule z x l)) l)
 
 -- before any candidate (01, Name scan: the first)
 abbrev pub unlisted : Text → Listing

@@ -1,5 +1,4 @@
 // The entries that scan for names: N and n.
-ghost use mathlib.Core.Path.{_≡_};
 ghost use Prim.Native.Nat.{_≤_};
 ghost use lib.ListN.{length};
 use names::NamesAnswer;

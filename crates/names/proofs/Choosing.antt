@@ -20,7 +20,7 @@ use Rattle.name_run.specs.declared.NameRun.{NameRun}
 use Rattle.name_run.specs.Run.{longestNameRun, namesOfRun}
 use Rattle.name_run.proofs.Runs.{longest-counted}
 use Rattle.names.specs.declared.Plan.{Plan}
-use Rattle.names.specs.Names.{fromTwo, chosenNames, columnNames}
+use Rattle.names.specs.Names.{chosenNames, columnNames}
 use Rattle.names.specs.Decision.{listedPlan, runPlan, Plans}
 
 -- ---- the choice

@@ -3,3 +3,4 @@ pub mod Known
 pub mod Choosing
 pub mod Deciding
 pub mod Listed
+pub mod Cases

@@ -1,11 +1,10 @@
 -- The loop that writes the names that a rule lists: `Filling` is its invariant. Of n names i are written to l, which was l₀; the others come
 -- from the cursor on.
 -- Assumes nothing.
-use mathlib.Core.Path.{_≡_, refl, sym, ap, _∙_, subst}
+use mathlib.Core.Path.{_≡_, refl, ap, _∙_, subst}
 use mathlib.Core.Bool.{Bool, true, false}
 use mathlib.Core.List.{List, [], _∷_, _++_}
 use Prim.Native.Nat.{ℕ, suc, _+_, _-_, _≤_, _<_}
-use native.Mathlib.Numerals.{add-one}
 use native.Mathlib.Omega.{arith}
 use lib.Dec.{eqb}
 use lib.ListN.{length, take, drop, set}

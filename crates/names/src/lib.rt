@@ -1,5 +1,5 @@
 // The name scan: the names of a reply's columns by their strings alone, written into a list that the caller lends.
-ghost use mathlib.Core.List.{List, [], _++_};
+ghost use mathlib.Core.List.{List, _++_};
 ghost use mathlib.Core.Path.{_≡_};
 ghost use Prim.Native.Nat.{ℕ, _≤_};
 ghost use lib.ListN.{length, take, drop};

@@ -9,6 +9,11 @@ abbrev pub pick : {A : Type 0} → Bool → A → A → A
 pick true x y = x
 pick false x y = y
 
+-- x in front of a list where the test holds, else the list alone
+abbrev pub front : {A : Type 0} → Bool → A → List A → List A
+front true x l = x ∷ l
+front false x l = l
+
 -- the test holds at every number below n
 abbrev pub below : ℕ → (ℕ → Bool) → Bool
 below zero f = true

@@ -1,5 +1,6 @@
 pub mod Trim
 pub mod Decode
 pub mod Generated
+pub mod Bytes
 pub mod Quick
 pub mod Cases

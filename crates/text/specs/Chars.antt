@@ -5,6 +5,7 @@ use Prim.Native.Nat.{ℕ}
 use lib.Dec.{leb, eqb, ltb}
 use Rattle.search.specs.Search.{pick, each}
 use Rattle.codepage.specs.Page.{Page, charIn}
+use Rattle.codepage.specs.Blank.{isBlank}
 
 -- bytes that are ASCII: all below 80 (01, Parts 2: decode_text)
 unfoldable pub isAscii : List ℕ → Bool
@@ -31,3 +32,11 @@ chars page alphabet bs = map (charOf page alphabet) bs
 -- a byte of a text whose character is a digit (01, Parts 2)
 abbrev pub isDigitOf : Page → ℕ → ℕ → Bool
 isDigitOf page alphabet b = isDigit (charOf page alphabet b)
+
+-- a byte of a text whose character is a name character (01, Parts 2: a name character)
+abbrev pub isNameOf : Page → ℕ → ℕ → Bool
+isNameOf page alphabet b = isNameChar (charOf page alphabet b)
+
+-- a byte of a text whose character trimming drops (01, Parts 2: decode_text; 01, Name scan: when trimmed)
+abbrev pub isBlankOf : Page → ℕ → ℕ → Bool
+isBlankOf page alphabet b = isBlank (charOf page alphabet b)

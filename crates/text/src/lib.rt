@@ -4,8 +4,7 @@ ghost use Prim.Native.Nat.{_+_, _<_, _≤_};
 ghost use lib.ListN.{length};
 ghost use Rattle.search.specs.Search.{each};
 ghost use Rattle.codepage.specs.Page.{page037};
-ghost use Rattle.codepage.specs.Blank.{isBlankIn};
-ghost use Rattle.text.specs.Chars.{isAscii, isNameChar, isDigitOf, chars};
+ghost use Rattle.text.specs.Chars.{isAscii, isNameChar, chars, isDigitOf, isNameOf, isBlankOf};
 ghost use Rattle.text.specs.Text.{leading, kept, trimmed, textOf};
 ghost use Rattle.text.specs.Generated.{isGenerated, startsCol, textChars};
 
@@ -16,7 +15,7 @@ pub struct Text {
     pub alphabet: u8,
 }
 
-pub fn is_name_char(character: u8) -> bool
+fn is_name_char(character: u8) -> bool
     ensures { λ r. ⌜ r ≡ isNameChar character ⌝ }
 {
     (character >= 0x41) & (character <= 0x5A)
@@ -28,12 +27,33 @@ pub fn is_name_char(character: u8) -> bool
         | (character == 0x40)
 }
 
-pub fn all_name_chars(bytes: &[u8]) -> bool
-    ensures { λ r. ⌜ r ≡ each isNameChar (now (bytes .entry)) ⌝ }
+// This and the tests below tell characters of page 037 by their bytes: naming its table would copy it at each call.
+fn is_name_char_in(byte: u8, alphabet: u8) -> bool
+    ensures { λ r. ⌜ r ≡ isNameOf page037 alphabet byte ⌝ }
+{
+    if alphabet == 2 {
+        (byte >= 0xC1) & (byte <= 0xC9)
+            | (byte >= 0xD1) & (byte <= 0xD9)
+            | (byte >= 0xE2) & (byte <= 0xE9)
+            | (byte >= 0x81) & (byte <= 0x89)
+            | (byte >= 0x91) & (byte <= 0x99)
+            | (byte >= 0xA2) & (byte <= 0xA9)
+            | (byte >= 0xF0) & (byte <= 0xF9)
+            | (byte == 0x6D)
+            | (byte == 0x5B)
+            | (byte == 0x7B)
+            | (byte == 0x7C)
+    } else {
+        is_name_char(byte)
+    }
+}
+
+pub fn all_name_chars(bytes: &[u8], alphabet: u8) -> bool
+    ensures { λ r. ⌜ r ≡ each (isNameOf page037 alphabet) (now (bytes .entry)) ⌝ }
 {
     let mut i = 0;
     while i < bytes.len() {
-        if !is_name_char(bytes[i]) {
+        if !is_name_char_in(bytes[i], alphabet) {
             return false;
         }
         i += 1;
@@ -54,12 +74,22 @@ pub fn is_ascii(bytes: &[u8]) -> bool
     true
 }
 
-fn leading_blanks(bytes: &[u8]) -> usize
-    ensures { λ r. ⌜ r ≡ leading (isBlankIn page037) (now (bytes .entry)) ⌝ }
+fn is_blank_in(byte: u8, alphabet: u8) -> bool
+    ensures { λ r. ⌜ r ≡ isBlankOf page037 alphabet byte ⌝ }
+{
+    if alphabet == 2 {
+        codepage::is_blank_byte(byte)
+    } else {
+        (byte >= 0x09) & (byte <= 0x0D) | (byte == 0x20) | (byte == 0x85) | (byte == 0xA0)
+    }
+}
+
+pub fn leading_blanks(bytes: &[u8], alphabet: u8) -> usize
+    ensures { λ r. ⌜ r ≡ leading (isBlankOf page037 alphabet) (now (bytes .entry)) ⌝ }
 {
     let mut i = 0;
     while i < bytes.len() {
-        if !codepage::is_blank_byte(bytes[i]) {
+        if !is_blank_in(bytes[i], alphabet) {
             return i;
         }
         i += 1;
@@ -67,12 +97,12 @@ fn leading_blanks(bytes: &[u8]) -> usize
     i
 }
 
-fn kept_bytes(bytes: &[u8]) -> usize
-    ensures { λ r. ⌜ r ≡ kept (isBlankIn page037) (now (bytes .entry)) ⌝ }
+pub fn kept_bytes(bytes: &[u8], alphabet: u8) -> usize
+    ensures { λ r. ⌜ r ≡ kept (isBlankOf page037 alphabet) (now (bytes .entry)) ⌝ }
 {
     let mut end = bytes.len();
     while 0 < end {
-        if !codepage::is_blank_byte(bytes[end - 1]) {
+        if !is_blank_in(bytes[end - 1], alphabet) {
             return end;
         }
         end -= 1;
@@ -100,8 +130,8 @@ pub fn decode_text(reply: &[u8], start: usize, length: usize) -> Text
             alphabet: 1,
         };
     }
-    let first = leading_blanks(bytes);
-    let end = kept_bytes(bytes);
+    let first = leading_blanks(bytes, 2);
+    let end = kept_bytes(bytes, 2);
     Text {
         place: start + first,
         length: end - first,
@@ -109,7 +139,6 @@ pub fn decode_text(reply: &[u8], start: usize, length: usize) -> Text
     }
 }
 
-// By the bytes that letters and digits have in page 037: naming its table would copy it at each call.
 fn is_digit_in(byte: u8, alphabet: u8) -> bool
     ensures { λ r. ⌜ r ≡ isDigitOf page037 alphabet byte ⌝ }
 {
@@ -161,14 +190,14 @@ pub fn is_generated(bytes: &[u8], alphabet: u8) -> bool
 fn is_generated_trimmed(bytes: &[u8]) -> bool
     ensures { λ r. ⌜ r ≡ isGenerated (chars page037 2 (trimmed page037 (now (bytes .entry)))) ⌝ }
 {
-    let first = leading_blanks(bytes);
+    let first = leading_blanks(bytes, 2);
     if bytes.len() - first <= 3 {
         return false;
     }
     if bytes[first] != 0xC3 {
         return false;
     }
-    let end = kept_bytes(bytes);
+    let end = kept_bytes(bytes, 2);
     is_generated(&bytes[first..end], 2)
 }
 

@@ -13,13 +13,13 @@ returns c = candidate-short _ _ _ (c .no-text .ensures) (omega (arith, c .before
 returns-2 : tie.Need-returns-2
 returns-2 c =
     let read = c .before .before in
-    candidate-few _ _ _ (read .u16-at .ensures) (omega (arith, read .before .if1 .left)) _ (c .no-text2 .ensures) (c .before .if2 .taken)
+    candidate-few _ _ _ (read .u16-at .ensures) (omega (arith, read .before .if1 .left)) _ (c .no-text2 .ensures) (omega (arith, c .before .if2 .taken))
 
 returns-3 : tie.Need-returns-3
 returns-3 c =
     let some = c .before .before in
     let read = some .before in
-    candidate-outside _ _ _ (read .u16-at .ensures) (omega (arith, read .before .if1 .left)) _ (c .no-text3 .ensures) (some .if2 .left) (omega (arith, c .before .if3 .taken))
+    candidate-outside _ _ _ (read .u16-at .ensures) (omega (arith, read .before .if1 .left)) _ (c .no-text3 .ensures) (omega (arith, some .if2 .left)) (omega (arith, c .before .if3 .taken))
 
 returns-4 : tie.Need-returns-4
 returns-4 c =
@@ -27,7 +27,7 @@ returns-4 c =
     let fits = test .before .before in
     let some = fits .before in
     let read = some .before in
-    candidate-other _ _ _ (read .u16-at .ensures) (omega (arith, read .before .if1 .left)) _ (test .is-identifier .ensures) (some .if2 .left)
+    candidate-other _ _ _ (read .u16-at .ensures) (omega (arith, read .before .if1 .left)) _ (test .is-identifier .ensures) (omega (arith, some .if2 .left))
     (omega (arith, fits .if3 .left)) _ (c .no-text4 .ensures) (not-true _ (c .before .if4 .taken))
 
 returns-5 : tie.Need-returns-5
@@ -36,7 +36,7 @@ returns-5 c =
     let fits = test .before .before in
     let some = fits .before in
     let read = some .before in
-    candidate-is _ _ _ (read .u16-at .ensures) (omega (arith, read .before .if1 .left)) _ (test .is-identifier .ensures) (some .if2 .left)
+    candidate-is _ _ _ (read .u16-at .ensures) (omega (arith, read .before .if1 .left)) _ (test .is-identifier .ensures) (omega (arith, some .if2 .left))
     (omega (arith, fits .if3 .left)) (not-false _ (c .if4 .left))
 
 pub candidate-at-spec : {M : Type 1} → statement M

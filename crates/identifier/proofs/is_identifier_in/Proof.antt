@@ -18,7 +18,7 @@ returns-2 c =
 
 returns-3 : tie.Need-returns-3
 returns-3 c =
-    let n = c .before .all-name-chars-in in
+    let n = c .before .all-name-chars in
     let l = c .before .before in
     let a = l .before .before .before .args in
     identifier-other page037 (a .alphabet) (a .bytes .now) (omega (arith, l .before .if1 .left)) (omega (arith, l .if2 .left)) (n .result) (n .ensures)
@@ -26,7 +26,7 @@ returns-3 c =
 
 returns-4 : tie.Need-returns-4
 returns-4 c =
-    let n = c .before .before .all-name-chars-in in
+    let n = c .before .before .all-name-chars in
     let l = c .before .before .before in
     let a = l .before .before .before .args in
     identifier-named page037 (a .alphabet) (a .bytes .now) (omega (arith, l .before .if1 .left)) (omega (arith, l .if2 .left)) (n .result) (n .ensures)

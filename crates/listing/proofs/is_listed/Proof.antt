@@ -1,9 +1,6 @@
 -- Each rule's own test.
 -- Assumes nothing.
-use mathlib.Core.Path.{_∙_, sym, ap}
 use borrow.Author.Needs.{needs}
-use Rattle.listing.specs.declared.Rule.{Rule}
-use Rattle.listing.specs.Listing.{isListed}
 use borrow.Author.Needs.{needs}
 use Rattle.listing.proofs.is_listed.Statement.{statement}
 use Rattle.listing.proofs.is_listed.Tie as tie

@@ -2,9 +2,8 @@
 -- Assumes nothing.
 mod Lts
 mod Tie
-use Prim.Native.Nat.{_<_, _-_}
+use Prim.Native.Nat.{_-_}
 use lib.ListN.{length}
-use native.Mathlib.Omega.{arith}
 use borrow.Author.Needs.{needs}
 use Rattle.name_output.proofs.are_marks.Statement.{statement}
 use Rattle.name_output.proofs.are_marks.Proof.Tie as tie

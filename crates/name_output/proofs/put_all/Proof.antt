@@ -3,9 +3,8 @@
 mod Lts
 mod Tie
 use mathlib.Core.Path.{_≡_}
-use Prim.Native.Nat.{_≤_, _<_, _-_}
+use Prim.Native.Nat.{_≤_, _-_}
 use lib.ListN.{length}
-use native.Mathlib.Omega.{arith}
 use borrow.Author.Needs.{needs}
 use Rattle.name_output.proofs.put_all.Statement.{statement}
 use Rattle.name_output.proofs.put_all.Proof.Tie as tie

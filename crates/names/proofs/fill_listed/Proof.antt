@@ -2,8 +2,7 @@
 -- Assumes nothing.
 mod Lts
 mod Tie
-use Prim.Native.Nat.{_<_, _-_}
-use lib.ListN.{length}
+use Prim.Native.Nat.{_-_}
 use native.Mathlib.Omega.{arith}
 use borrow.Author.Needs.{needs}
 use Rattle.names.proofs.Listed.{Filling, filling-none, filling-more, filling-done}

@@ -2,7 +2,7 @@
 -- Assumes nothing.
 mod Lts
 mod Tie
-use mathlib.Core.Path.{_∙_, ap, sym}
+use mathlib.Core.Path.{_∙_}
 use Prim.Native.Nat.{_<_, _≤_, _-_}
 use lib.ListN.{length}
 use native.Mathlib.Omega.{arith}

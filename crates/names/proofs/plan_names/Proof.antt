@@ -23,7 +23,7 @@ returns-2 c =
     let counts = first .before .before .count-names .ensures in
     plan-first _ _ _ (first-within _ _ _ (first .first-cursor .ensures) (counts .1 .1))
     (λ rule. first-to-come _ rule _ _ (first .first-cursor .ensures) (counts .1 .0)) _ _ (counts .0 .0) (counts .0 .1) _ (other .if1 .left)
-    (c .before .if2 .taken) (c .listed-plan2 .ensures)
+    (omega (arith, c .before .if2 .taken)) (c .listed-plan2 .ensures)
 
 returns-3 : tie.Need-returns-3
 returns-3 c =
@@ -32,7 +32,7 @@ returns-3 c =
     let counts = first .before .before .count-names .ensures in
     plan-run _ _ _ (first-within _ _ _ (first .first-cursor .ensures) (counts .1 .1))
     (λ rule. first-to-come _ rule _ _ (first .first-cursor .ensures) (counts .1 .0)) _ _ (counts .0 .0) (counts .0 .1) _ (few .before .if1 .left)
-    (few .if2 .left) _ (c .before .longest-name-run .ensures) (c .run-plan .ensures)
+    (omega (arith, few .if2 .left)) _ (c .before .longest-name-run .ensures) (c .run-plan .ensures)
 
 pub plan-names-spec : {M : Type 1} → statement M
 plan-names-spec =

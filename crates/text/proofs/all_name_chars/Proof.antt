@@ -8,33 +8,34 @@ use borrow.Author.Needs.{needs}
 use borrow.Author.Tests.{not-true, not-false}
 use Rattle.search.specs.Search.{each}
 use Rattle.search.proofs.Each.{each-more, each-fails, each-done}
-use Rattle.text.specs.Chars.{isNameChar}
+use Rattle.codepage.specs.Page.{page037}
+use Rattle.text.specs.Chars.{isNameOf}
 use Rattle.text.proofs.all_name_chars.Statement.{statement}
 use Rattle.text.proofs.all_name_chars.Tie as tie
 
 abbrev Inv-loop : tie.InvT-loop
-Inv-loop bytes i₀ i = (i ≤ length bytes) × (each isNameChar bytes ≡ each isNameChar (drop i bytes))
+Inv-loop bytes alphabet i₀ i = (i ≤ length bytes) × (each (isNameOf page037 alphabet) bytes ≡ each (isNameOf page037 alphabet) (drop i bytes))
 
 abbrev μ-loop : tie.MeasureT-loop
-μ-loop bytes i₀ i = length bytes - i
+μ-loop bytes alphabet i₀ i = length bytes - i
 
 loop-holds : tie.Need-loop-holds Inv-loop μ-loop
 loop-holds c = (omega arith, refl)
 
 returns : tie.Need-returns Inv-loop μ-loop
 returns c =
-    each-fails isNameChar _ 0 _ _ (c .before .before .before .before .loop .inv .1) (c .before .before .before .loop-test .taken)
-    (sym (c .before .is-name-char .ensures) ∙ not-true _ (c .if1 .taken))
+    each-fails (isNameOf page037 (c .before .before .before .before .before .before .args .alphabet)) _ 0 _ _ (c .before .before .before .before .loop .inv .1) (c .before .before .before .loop-test .taken)
+    (sym (c .before .is-name-char-in .ensures) ∙ not-true _ (c .if1 .taken))
 
 loop-again : tie.Need-loop-again Inv-loop μ-loop
 loop-again c = (
   omega arith,
-  each-more isNameChar _ 0 _ _ (c .before .before .before .before .loop .inv .1) (c .before .before .before .loop-test .taken)
-      (sym (c .before .is-name-char .ensures) ∙ not-false _ (c .if1 .left)),
+  each-more (isNameOf page037 (c .before .before .before .before .before .before .args .alphabet)) _ 0 _ _ (c .before .before .before .before .loop .inv .1) (c .before .before .before .loop-test .taken)
+      (sym (c .before .is-name-char-in .ensures) ∙ not-false _ (c .if1 .left)),
 )
 
 returns-2 : tie.Need-returns-2 Inv-loop μ-loop
-returns-2 c = each-done isNameChar _ 0 _ _ (c .before .loop .inv .1) (c .loop-test .left)
+returns-2 c = each-done (isNameOf page037 (c .before .before .before .args .alphabet)) _ 0 _ _ (c .before .loop .inv .1) (c .loop-test .left)
 
 pub all-name-chars-spec : {M : Type 1} → statement M
 all-name-chars-spec =

@@ -5,6 +5,7 @@ use mathlib.Core.Path.{sym, _∙_}
 use borrow.Author.Needs.{needs}
 use Rattle.codepage.specs.Page.{page037}
 use Rattle.codepage.proofs.Pages.{rearranged-037, blanks-037}
+use Rattle.text.proofs.Bytes.{leading-same, kept-same}
 use Rattle.text.proofs.Decode.{decode-none, decode-ascii, decode-bounds, decode-page}
 use Rattle.text.proofs.decode_text.Statement.{statement}
 use Rattle.text.proofs.decode_text.Tie as tie
@@ -30,8 +31,8 @@ add-t8 c =
     decode-bounds page037 rearranged-037 blanks-037 (a .reply .now) (a .start) (a .length) (s .pre) (c .before .leading-blanks .result)
     (c .kept-bytes .result)
     (sym (c .before .before .before .is-ascii .ensures) ∙ c .before .before .if2 .left)
-    (c .before .leading-blanks .ensures)
-    (c .kept-bytes .ensures) in
+    (leading-same page037 _ _ (c .before .leading-blanks .ensures))
+    (kept-same page037 _ _ (c .kept-bytes .ensures)) in
     omega (arith, s .pre)
 
 sub-t10 : tie.Need-sub-t10
@@ -42,8 +43,8 @@ sub-t10 c =
     decode-bounds page037 rearranged-037 blanks-037 (a .reply .now) (a .start) (a .length) (s .pre) (c .before .leading-blanks .result)
     (c .kept-bytes .result)
     (sym (c .before .before .before .is-ascii .ensures) ∙ c .before .before .if2 .left)
-    (c .before .leading-blanks .ensures)
-    (c .kept-bytes .ensures) in
+    (leading-same page037 _ _ (c .before .leading-blanks .ensures))
+    (kept-same page037 _ _ (c .kept-bytes .ensures)) in
     omega (arith, s .pre)
 
 returns-3 : tie.Need-returns-3
@@ -53,8 +54,8 @@ returns-3 c =
     decode-page page037 rearranged-037 blanks-037 (a .reply .now) (a .start) (a .length) (s .pre) (c .before .leading-blanks .result)
     (c .kept-bytes .result)
     (sym (c .before .before .before .is-ascii .ensures) ∙ c .before .before .if2 .left)
-    (c .before .leading-blanks .ensures)
-    (c .kept-bytes .ensures)
+    (leading-same page037 _ _ (c .before .leading-blanks .ensures))
+    (kept-same page037 _ _ (c .kept-bytes .ensures))
 
 pub decode-text-spec : {M : Type 1} → statement M
 decode-text-spec =

@@ -8,37 +8,39 @@ use lib.Seq.{take-length}
 use borrow.Author.Needs.{needs}
 use borrow.Author.Tests.{not-true, not-false}
 use Rattle.codepage.specs.Page.{page037}
-use Rattle.codepage.specs.Blank.{isBlankIn}
+use Rattle.text.specs.Chars.{isBlankOf}
 use Rattle.text.specs.Text.{kept}
 use Rattle.text.proofs.Trim.{kept-less, kept-stop, kept-done}
 use Rattle.text.proofs.kept_bytes.Statement.{statement}
 use Rattle.text.proofs.kept_bytes.Tie as tie
 
 abbrev Inv-loop : tie.InvT-loop
-Inv-loop bytes end₀ end = (end ≤ length bytes) × (kept (isBlankIn page037) bytes ≡ kept (isBlankIn page037) (take end bytes))
+Inv-loop bytes alphabet end₀ end = (end ≤ length bytes) × (kept (isBlankOf page037 alphabet) bytes ≡ kept (isBlankOf page037 alphabet) (take end bytes))
 
 abbrev μ-loop : tie.MeasureT-loop
-μ-loop bytes end₀ end = end
+μ-loop bytes alphabet end₀ end = end
 
 loop-holds : tie.Need-loop-holds Inv-loop μ-loop
-loop-holds c = (omega arith, ap (kept (isBlankIn page037)) (sym (take-length (c .before .args .bytes .now))))
+loop-holds c = (omega arith, ap (kept (isBlankOf page037 (c .before .args .alphabet))) (sym (take-length (c .before .args .bytes .now))))
 
 returns : tie.Need-returns Inv-loop μ-loop
 returns c =
-    kept-stop (isBlankIn page037) _ _ _ (c .before .before .before .before .loop .inv .1) (c .before .before .before .loop-test .taken)
+    kept-stop (isBlankOf page037 (c .before .before .before .before .before .before .args .alphabet)) _ _ _ (c .before .before .before .before .loop .inv .1) (omega (arith, c .before .before .before .loop-test .taken))
     (c .before .before .before .before .loop .inv .0)
-    (sym (c .before .is-blank-byte .ensures) ∙ not-true _ (c .if1 .taken))
+    (sym (c .before .is-blank-in .ensures) ∙ not-true _ (c .if1 .taken))
 
 loop-again : tie.Need-loop-again Inv-loop μ-loop
 loop-again c = (
   omega arith,
-  kept-less (isBlankIn page037) _ _ _ (c .before .before .before .before .loop .inv .1) (c .before .before .before .loop-test .taken)
+  kept-less (isBlankOf page037 (c .before .before .before .before .before .before .args .alphabet)) _ _ _ (c .before .before .before .before .loop .inv .1) (omega (arith, c .before .before .before .loop-test .taken))
       (c .before .before .before .before .loop .inv .0)
-      (sym (c .before .is-blank-byte .ensures) ∙ not-false _ (c .if1 .left)),
+      (sym (c .before .is-blank-in .ensures) ∙ not-false _ (c .if1 .left)),
 )
 
 returns-2 : tie.Need-returns-2 Inv-loop μ-loop
-returns-2 c = kept-done (isBlankIn page037) _ _ _ (c .before .loop .inv .1) (c .loop-test .left)
+returns-2 c =
+    kept-done (isBlankOf page037 (c .before .before .before .args .alphabet)) _ (c .before .loop .end) _ (c .before .loop .inv .1)
+    (omega (arith, c .loop-test .left))
 
 pub kept-bytes-spec : {M : Type 1} → statement M
 kept-bytes-spec =

@@ -1,7 +1,7 @@
 -- Characters told by their bytes: page 037 passes the test for name characters, and what the test gives of any page that passes it.
 -- Assumes nothing.
 use Prim.Native.Nat.{ℕ, _<_}
-use mathlib.Core.Path.{_≡_, sym, ap, _∙_}
+use mathlib.Core.Path.{_≡_, refl, sym, ap, _∙_}
 use mathlib.Core.List.{List}
 use mathlib.Core.Bool.{Bool, _&&_, _||_}
 use lib.ListN.{getD}
@@ -10,9 +10,9 @@ use Rattle.search.specs.Search.{below}
 use Rattle.search.proofs.Tests.{agree, agree-same, below-at}
 use Rattle.codepage.specs.Page.{Page, table037, charIn}
 use Rattle.codepage.specs.Blank.{isBlank, isBlankIn}
-use Rattle.text.specs.Chars.{isNameChar}
+use Rattle.text.specs.Chars.{isNameChar, isNameOf, isBlankOf}
+use Rattle.text.specs.Text.{leading, kept}
 use Rattle.text.proofs.Generated.{charOf-page, charOf-other}
-use Rattle.identifier.specs.Identifier.{isBlankOf, isNameOf}
 
 -- the bytes whose characters are name characters, in page 037
 abbrev pub isNameByte : ℕ → Bool
@@ -47,3 +47,16 @@ module _ (page : Page) (a b : ℕ) where
 
   pub blank-other : (a ≡ page .alphabet → ⊥) → isBlank b ≡ isBlankOf page a b
   blank-other n = ap isBlank (charOf-other page a b n)
+
+-- a blank of the page is one of its alphabet, so that trimming by either is the same
+module _ (page : Page) where
+  pub blank-same : isBlankOf page (page .alphabet) ≡ isBlankIn page
+  unfolding isBlankIn
+  blank-same = λ k b. isBlank (sym (charOf-page page (page .alphabet) b refl) k)
+
+  module _ (bs : List ℕ) (n : ℕ) where
+    pub leading-same : n ≡ leading (isBlankOf page (page .alphabet)) bs → n ≡ leading (isBlankIn page) bs
+    leading-same e = e ∙ ap (λ (g : ℕ → Bool). leading g bs) blank-same
+
+    pub kept-same : n ≡ kept (isBlankOf page (page .alphabet)) bs → n ≡ kept (isBlankIn page) bs
+    kept-same e = e ∙ ap (λ (g : ℕ → Bool). kept g bs) blank-same

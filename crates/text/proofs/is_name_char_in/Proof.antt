@@ -2,9 +2,9 @@
 -- Assumes nothing.
 use borrow.Author.Needs.{needs}
 use Rattle.codepage.specs.Page.{page037}
-use Rattle.identifier.proofs.Bytes.{names-037, name-page, name-other}
-use Rattle.identifier.proofs.is_name_char_in.Statement.{statement}
-use Rattle.identifier.proofs.is_name_char_in.Tie as tie
+use Rattle.text.proofs.Bytes.{names-037, name-page, name-other}
+use Rattle.text.proofs.is_name_char_in.Statement.{statement}
+use Rattle.text.proofs.is_name_char_in.Tie as tie
 
 returns : tie.Need-returns
 returns c = name-page page037 (c .before .args .alphabet) (c .before .args .byte) names-037 (c .if1 .taken) (search needs)

@@ -2,9 +2,9 @@
 -- Assumes nothing.
 use borrow.Author.Needs.{needs}
 use Rattle.codepage.specs.Page.{page037}
-use Rattle.identifier.proofs.Bytes.{blank-page, blank-other}
-use Rattle.identifier.proofs.is_blank_in.Statement.{statement}
-use Rattle.identifier.proofs.is_blank_in.Tie as tie
+use Rattle.text.proofs.Bytes.{blank-page, blank-other}
+use Rattle.text.proofs.is_blank_in.Statement.{statement}
+use Rattle.text.proofs.is_blank_in.Tie as tie
 
 returns : tie.Need-returns
 returns c =
