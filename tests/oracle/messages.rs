@@ -235,7 +235,8 @@ pub fn case(r: &mut Random) -> Vec<u8> {
     payload
 }
 
-fn short_filler(r: &mut Random) -> Vec<u8> {
+/// Some bytes or none, in front of a text or behind it.
+pub fn short_filler(r: &mut Random) -> Vec<u8> {
     let mut out = Vec::new();
     let count = r.pick(&[0, 0, 1, 5, 40]);
     filler(r, &mut out, count);

@@ -1,8 +1,8 @@
 //! Cases of T and U: a column's number and where its name is said to stand, and a reply.
 
 use crate::frame;
-use crate::groups::{filler, number, random_bytes, Order};
-use crate::messages;
+use crate::groups::{number, random_bytes, Order};
+use crate::messages::{self, short_filler};
 use crate::random::Random;
 use crate::texts;
 
@@ -78,13 +78,6 @@ pub fn case(r: &mut Random, with_room: bool) -> Vec<u8> {
     }
     payload.append(&mut reply);
     payload
-}
-
-fn short_filler(r: &mut Random) -> Vec<u8> {
-    let mut out = Vec::new();
-    let count = r.pick(&[0, 0, 1, 5, 40]);
-    filler(r, &mut out, count);
-    out
 }
 
 /// A name, blanks around it or not, other bytes, all of page 037, none.

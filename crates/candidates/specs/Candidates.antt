@@ -3,17 +3,13 @@ use mathlib.Core.Bool.{Bool, not, _&&_}
 use mathlib.Core.List.{List, []}
 use Prim.Native.Nat.{ℕ, zero, suc, _+_, _-_}
 use lib.Dec.{eqb, ltb, leb}
-use lib.ListN.{length, take, drop}
+use lib.ListN.{length}
 use Rattle.search.specs.Search.{pick, front, alike}
 use Rattle.field.specs.declared.ByteOrder.the-variants.{BigEndian}
 use Rattle.field.specs.Numbers.{number}
 use Rattle.text.specs.declared.Text.{Text}
-use Rattle.text.specs.Text.{textIs, emptyText}
+use Rattle.text.specs.Text.{textIs, emptyText, bytesOf}
 use Rattle.identifier.specs.Identifier.{isIdentifier}
-
--- the bytes of a text of the reply s (01, Answers: place, length)
-abbrev pub bytesOf : List ℕ → Text → List ℕ
-bytesOf s t = take (t .length) (drop (t .place) s)
 
 -- two texts of ASCII are equal: they have the same bytes (01, Name scan: a repeat)
 unfoldable pub sameText : List ℕ → Text → Text → Bool

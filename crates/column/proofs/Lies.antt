@@ -4,7 +4,7 @@ use mathlib.Core.Path.{_≡_, refl, sym}
 use mathlib.Core.Bool.{Bool, true, false}
 use mathlib.Core.List.{List, [], _∷_}
 use Prim.Native.Nat.{ℕ, _+_, _-_, _≤_, min}
-use native.Mathlib.Nat.{le-refl, le-trans}
+use native.Mathlib.Nat.{le-trans}
 use native.Mathlib.Omega.{arith}
 use lib.Dec.{eqb}
 use lib.ListN.{take, drop, length-take}
@@ -17,12 +17,12 @@ use Rattle.field.specs.Strings.{chosen, noString}
 use Rattle.field.proofs.Windows.{Window, part-same}
 use Rattle.text.specs.declared.Text.{Text}
 use Rattle.text.specs.Chars.{isAscii}
-use Rattle.text.specs.Text.{textIs, emptyText, placed, leading, kept, textOn}
+use Rattle.text.specs.Text.{textIs, emptyText, placed, leading, kept, textOn, bytesOf}
 use Rattle.text.proofs.Trim.{kept-le, leading-le}
 use Rattle.types.specs.declared.ColumnMetadata.{ColumnMetadata}
 use Rattle.column.specs.declared.Described.{Described}
 use Rattle.column.specs.Column.{stringText, nameText, generatedText, columnWith}
-use Rattle.column.specs.Moved.{moveText, moveColumn, textBytes, columnBytes, Lies, LiesAll}
+use Rattle.column.specs.Moved.{moveText, moveColumn, columnBytes, Lies, LiesAll}
 
 -- ---- strings
 
@@ -117,8 +117,8 @@ column-lies page s i p q d l =
 -- ---- bytes in a window
 
 module _ (s : List ℕ) (a : ℕ) (s′ : List ℕ) (b n : ℕ) (w : Window s a s′ b n) where
-  text-bytes : (t : Text) → Lies a (a + n) t → textBytes s′ (moveText a b t) ≡ textBytes s t
-  unfolding textBytes moveText
+  text-bytes : (t : Text) → Lies a (a + n) t → bytesOf s′ (moveText a b t) ≡ bytesOf s t
+  unfolding moveText
   text-bytes t l = go (eqb (t .length) 0) refl
     where
       moved : Bool → Text

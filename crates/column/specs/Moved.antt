@@ -3,10 +3,9 @@ use mathlib.Core.List.{List, [], _∷_}
 use mathlib.Core.Path.{_≡_}
 use Prim.Native.Nat.{ℕ, _+_, _-_, _≤_}
 use lib.Dec.{eqb}
-use lib.ListN.{take, drop}
 use Rattle.search.specs.Search.{pick}
 use Rattle.text.specs.declared.Text.{Text}
-use Rattle.text.specs.Text.{textIs}
+use Rattle.text.specs.Text.{textIs, bytesOf}
 use Rattle.types.specs.declared.ColumnMetadata.{ColumnMetadata}
 
 -- a text that has bytes, moved as far as from a to b; one that has none stays (01, What each entry owes (e): places of texts that have bytes)
@@ -31,14 +30,10 @@ moveColumn a b c = record {
   «schema_name» = moveText a b (c .«schema_name»);
 }
 
--- the bytes of a text of the reply s (01, Answers: place, length)
-unfoldable pub textBytes : List ℕ → Text → List ℕ
-textBytes s t = take (t .length) (drop (t .place) s)
-
 -- the bytes of a column's four texts (01, Answers: name, label, base table, schema)
 unfoldable pub columnBytes : List ℕ → ColumnMetadata → List (List ℕ)
 columnBytes s c =
-    textBytes s (c .name) ∷ textBytes s (c .label) ∷ textBytes s (c .«base_table_name») ∷ textBytes s (c .«schema_name») ∷ []
+    bytesOf s (c .name) ∷ bytesOf s (c .label) ∷ bytesOf s (c .«base_table_name») ∷ bytesOf s (c .«schema_name») ∷ []
 
 -- a text's bytes, if it has any, lie from p on and up to q (01, What each entry owes (e): texts that have bytes)
 pub record Lies (p q : ℕ) (t : Text) : Type 0 where

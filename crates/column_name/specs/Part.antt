@@ -2,10 +2,10 @@
 use mathlib.Core.List.{List, [], _∷_}
 use Prim.Native.Nat.{ℕ, _+_}
 use lib.Dec.{eqb, ltb}
-use lib.ListN.{take, drop}
 use Rattle.search.specs.Search.{pick}
 use Rattle.outcome.specs.Refusal.{isRefused}
 use Rattle.text.specs.declared.Text.{Text}
+use Rattle.text.specs.Text.{bytesOf}
 
 -- 5 over 65,536 bytes; 7 for an alphabet above 2, and for a place plus length beyond the reply; else 0 (01, Numbers of refusal: name part)
 unfoldable pub partRefusal : List ℕ → Text → List ℕ
@@ -15,7 +15,7 @@ partRefusal s t =
 
 -- the bytes of a text of the reply, none of a generated one (01, Answers: empty for alphabet 0)
 abbrev pub ownBytes : List ℕ → Text → List ℕ
-ownBytes s t = pick (eqb (t .alphabet) 0) [] (take (t .length) (drop (t .place) s))
+ownBytes s t = pick (eqb (t .alphabet) 0) [] (bytesOf s t)
 
 -- the name's own bytes, none where it is refused (01, Answers: name part)
 unfoldable pub partOf : List ℕ → Text → List ℕ

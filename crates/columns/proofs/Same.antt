@@ -92,7 +92,7 @@ same-cut-trans a b c p q = alike-trans sameColumn column-trans a b c p q
 pub cut-answered : (a b : List ColumnMetadata) → length a ≤ mostColumns → length b ≤ mostColumns
     → (cutRefusal a b ≡ 0 ∷ []) × (cutAnswer a b ≡ sameCut a b)
 cut-answered a b h k =
-    let t = cut-accepted a b (rw (le-ltb mostColumns (length a) h) (le-ltb mostColumns (length b) k)) in
+    let t = cut-accepted a b (rw (le-ltb mostColumns (length a) h) (le-ltb mostColumns (length b) k)) (sameCut a b) refl in
     (sym (t .0), sym (t .1))
 
 -- a yes says that neither list is too long, and that they make the same cut

@@ -135,17 +135,27 @@ pub fn same_cut(a: &[ColumnMetadata], b: &[ColumnMetadata]) -> CutAnswer
             same: false,
         };
     }
-    let mut same = a.len() == b.len();
+    if a.len() != b.len() {
+        return CutAnswer {
+            outcome: Outcome::Accepted,
+            same: false,
+        };
+    }
     let mut i = 0;
-    while same & (i < a.len()) {
+    while i < a.len() {
         let c = a[i];
         let d = b[i];
-        same = same_column(c, d);
+        if !same_column(c, d) {
+            return CutAnswer {
+                outcome: Outcome::Accepted,
+                same: false,
+            };
+        }
         i += 1;
     }
     CutAnswer {
         outcome: Outcome::Accepted,
-        same,
+        same: true,
     }
 }
 

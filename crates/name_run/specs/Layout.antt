@@ -17,8 +17,7 @@ use Rattle.name_run.specs.declared.ScannedName.{ScannedName}
 abbrev pub isNameString : Page → List ℕ → StringRead → Bool
 isNameString page s r = isIdentifierAt page s (r .place) (r .length)
 
--- the strings that may be the name of the layout at p: m, s, and the extension's, of which m counts before s where not empty (DRDA V1: SQLNAME_m, SQLNAME_s,
--- SQLXNAME; 01, Name scan: m, else s, else the extension's)
+-- the strings that may be the name of the layout at p, in their order (DRDA V1: SQLNAME_m, SQLNAME_s, SQLXNAME; 01, Name scan: m, else s, else the extension's)
 abbrev pub nameStrings : List ℕ → ℕ → List StringRead
 nameStrings s p = stringAt s (p + 19) ∷ stringAt s (stringEnd s (p + 19)) ∷ dxPair 7 s (dxStart lenient s (p + 17)) ∷ []
 

@@ -22,6 +22,10 @@ emptyText = textIs 0 0 1
 unfoldable pub placed : ℕ → ℕ → ℕ → Text
 placed p n a = pick (eqb n 0) emptyText (textIs p n a)
 
+-- the bytes of a text of the reply s (01, Answers: place, length)
+abbrev pub bytesOf : List ℕ → Text → List ℕ
+bytesOf s t = take (t .length) (drop (t .place) s)
+
 -- how many elements at the front pass the test: what trimming drops there (01, Parts 2)
 unfoldable pub leading : (ℕ → Bool) → List ℕ → ℕ
 leading f [] = 0
