@@ -86,7 +86,7 @@ pub fn order_number(order: ByteOrder) -> u64
     }
 }
 
-fn order_of(number: u64) -> ByteOrder
+pub fn order_of(number: u64) -> ByteOrder
     ensures { λ r. ⌜ r ≡ orderOf number ⌝ }
 {
     if number == 0 {
@@ -97,7 +97,7 @@ fn order_of(number: u64) -> ByteOrder
 }
 
 // Values at the front of what is lent.
-fn put_values(values: &[u64], numbers: &mut [u64])
+pub fn put_values(values: &[u64], numbers: &mut [u64])
     requires { ⌜ length (now values) ≤ length (now numbers) ⌝ }
     ensures { λ _. ⌜ now (numbers .exit) ≡ now (values .entry) ++ drop (length (now (values .entry))) (now (numbers .entry)) ⌝ }
 {
@@ -144,7 +144,8 @@ pub fn put_column(reply: &[u8], number: u16, described: Described, numbers: &mut
     put_values(&values, numbers);
 }
 
-fn text_from(numbers: &[u64], at: usize) -> Text
+// The text whose three numbers stand from `at` on.
+pub fn text_from(numbers: &[u64], at: usize) -> Text
     requires { ⌜ at + 2 < length (now numbers) ⌝ }
     requires { ⌜ getD (now numbers) (at + 2) 0 < 256 ⌝ }
     ensures { λ r. ⌜ r ≡ textFrom (now (numbers .entry)) at (at + 1) (at + 2) ⌝ }

@@ -20,6 +20,7 @@ pub enum Outcome {
 }
 
 // A refusal's number and its values in document 01's order: `count` of them, the others 0. Number 0 is none.
+#[repr(C)]
 pub struct Refusal {
     pub number: u8,
     pub count: u8,

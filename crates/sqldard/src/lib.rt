@@ -24,9 +24,9 @@ pub struct SqldardAnswer {
 }
 
 // What is answered, and the plan of the columns to write: none where the answer is a refusal.
-struct Decision {
-    plan: Plan,
-    answer: SqldardAnswer,
+pub struct Decision {
+    pub plan: Plan,
+    pub answer: SqldardAnswer,
 }
 
 fn no_columns() -> Plan
@@ -74,7 +74,7 @@ fn card_by(reply: &[u8], alone: bool) -> SqlCard
 }
 
 // Every refusal is decided here, before the list is written.
-fn decide(reply: &[u8], room: usize) -> Decision
+pub fn decide(reply: &[u8], room: usize) -> Decision
     ensures { λ r. ⌜ Decides page037 room (now (reply .entry)) r (description page037 room (now (reply .entry))) ⌝ }
 {
     if reply.len() > 65536 {
@@ -100,7 +100,7 @@ fn decide(reply: &[u8], room: usize) -> Decision
     }
 }
 
-fn decide_at(code_point: u16, reply: &[u8], room: usize) -> Decision
+pub fn decide_at(code_point: u16, reply: &[u8], room: usize) -> Decision
     ensures { λ r. ⌜ Decides page037 room (now (reply .entry)) r (withCodePoint page037 room «code_point» (now (reply .entry))) ⌝ }
 {
     if code_point == 0x2411 {

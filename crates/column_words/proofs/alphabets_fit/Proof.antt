@@ -1,0 +1,29 @@
+-- The tests in the definition's own order.
+-- Assumes nothing.
+use mathlib.Core.Path.{refl}
+use borrow.Author.Needs.{needs}
+use Rattle.column_words.specs.Columns.{alphabetsFit}
+use Rattle.column_words.proofs.alphabets_fit.Statement.{statement}
+use Rattle.column_words.proofs.alphabets_fit.Tie as tie
+
+returns : tie.Need-returns
+unfolding alphabetsFit
+returns c = refl
+
+pub alphabets-fit-spec : {M : Type 1} → statement M
+alphabets-fit-spec =
+    tie.close
+    (tie.spec
+    (search needs)
+    (search needs)
+    (search needs)
+    (search needs)
+    (search needs)
+    (search needs)
+    (search needs)
+    (search needs)
+    (search needs)
+    (search needs)
+    (search needs)
+    (search needs)
+    returns)

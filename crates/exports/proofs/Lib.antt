@@ -1,0 +1,3 @@
+pub mod Parts
+pub mod Deciding
+pub mod Answers
