@@ -1,0 +1,4 @@
+pub mod Compute
+pub mod Cases
+pub mod Wrong
+pub mod Exchange

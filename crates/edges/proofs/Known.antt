@@ -1,0 +1,2 @@
+-- Made by tools/lists.py: do not edit.
+pub mod sqldard

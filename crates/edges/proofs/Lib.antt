@@ -1,0 +1,2 @@
+pub mod ColumnMetadataRow
+pub mod Known
