@@ -3,13 +3,16 @@
 use mathlib.Core.Path.{_≡_, refl, sym, ap, _∙_, subst}
 use mathlib.Core.Bool.{Bool, true, false, not, _&&_, and-eq-true-iff}
 use mathlib.Core.List.{List}
-use Prim.Native.Nat.{ℕ, _+_, _-_, _≤_, _<_}
+use Prim.Native.Nat.{ℕ, zero, suc, _+_, _-_, _≤_, _<_}
 use native.Mathlib.Numerals.{add-one}
 use native.Mathlib.Omega.{arith}
-use lib.Dec.{eqb, leb}
-use lib.ListN.{length, take, drop}
-use borrow.Author.Tests.{le-leb, lt-leb, le-ltb, lt-ltb, eq-eqb, ne-eqb, leb-true}
+use lib.Dec.{eqb, leb, ltb}
+use lib.ListN.{length, take, drop, length-drop}
+use lib.Seq.{length-take-le}
+use borrow.Author.Tests.{le-leb, lt-leb, le-ltb, lt-ltb, eq-eqb, ne-eqb, eqb-true, eqb-false, ltb-true, ltb-false, leb-true}
 use Rattle.search.specs.Search.{pick, alike}
+use Rattle.search.specs.Walks.{first}
+use Rattle.search.proofs.Index.{first-more}
 use Rattle.field.specs.declared.ByteOrder.the-variants.{BigEndian}
 use Rattle.field.specs.Numbers.{number}
 use Rattle.text.specs.declared.Text.{Text}
@@ -116,6 +119,70 @@ unfolding isCandidate
 passes s p e =
     let a = and-eq-true-iff (leb (p + 2) (length s)) _ .0 e .1 in
     leb-true 2 (number BigEndian 2 s p) (and-eq-true-iff (leb 2 (number BigEndian 2 s p)) _ .0 a .0)
+
+-- and at most 128
+most : (s : List ℕ) (p : ℕ) → isCandidate s p ≡ true → number BigEndian 2 s p ≤ 128
+unfolding isCandidate isIdentifier
+most s p e =
+    let n = number BigEndian 2 s p in
+    let bs = take n (drop (p + 2) s) in
+    let a = and-eq-true-iff (leb (p + 2) (length s)) _ .0 e .1 in
+    let b = and-eq-true-iff (leb 2 n) _ .0 a .1 in
+    let c = and-eq-true-iff (leb (p + 2 + n) (length s)) _ .0 b in
+    let d = and-eq-true-iff (leb 1 (length bs)) _ .0 (c .1) .1 in
+    let m = and-eq-true-iff (leb (length bs) 128) _ .0 d .0 in
+    let i = leb-true (p + 2 + n) (length s) (c .0) in
+    let l : length bs ≡ n = length-take-le n (drop (p + 2) s) (omega (arith, length-drop (p + 2) s)) in
+    omega (arith, leb-true (length bs) 128 m)
+
+-- where another length stands, or none, there is no candidate
+pub no-length : (s : List ℕ) (p n : ℕ) → n ≡ number BigEndian 2 s p → (leb 2 n && leb n 128) ≡ false → isCandidate s p ≡ false
+no-length s p n e f = go (isCandidate s p) refl
+  where
+    go : (b : Bool) → isCandidate s p ≡ b → b ≡ false
+    go true g =
+        let a = le-leb 2 n (omega (arith, passes s p g)) in
+        let b = le-leb n 128 (omega (arith, most s p g)) in
+        sym (rw (a, b) refl) ∙ f
+    go false g = refl
+
+pub no-room : (s : List ℕ) (p : ℕ) → length s < p + 2 → isCandidate s p ≡ false
+no-room s p h = short s p h
+
+-- none of those from i up to j
+abbrev pub NoneIn : List ℕ → ℕ → ℕ → Type 0
+NoneIn s i j = (p : ℕ) → i ≤ p → p < j → isCandidate s p ≡ false
+
+pub none-more : (s : List ℕ) (i j : ℕ) → NoneIn s i j → isCandidate s j ≡ false → NoneIn s i (j + 1)
+none-more s i j h e p a b = go (eqb p j) refl
+  where
+    go : (t : Bool) → eqb p j ≡ t → isCandidate s p ≡ false
+    go true u = ap (isCandidate s) (eqb-true p j u) ∙ e
+    go false u = h p a (let z = eqb-false p j u in omega arith)
+
+-- behind the last but one there is no room for a length
+pub none-rest : (s : List ℕ) (i j : ℕ) → NoneIn s i j → length s ≤ j + 1 → NoneIn s i (length s)
+none-rest s i j h l p a b = go (ltb p j) refl
+  where
+    go : (t : Bool) → ltb p j ≡ t → isCandidate s p ≡ false
+    go true u = h p a (ltb-true p j u)
+    go false u = no-room s p (let z = ltb-false p j u in omega arith)
+
+-- a search may start behind them
+skip : (f : ℕ → Bool) (n k i : ℕ) → i + k ≤ n → ((p : ℕ) → i ≤ p → p < i + k → f p ≡ false) → first f i n ≡ first f (i + k) n
+skip f n zero i h g = let z : i ≡ i + 0 = omega arith in ap (λ (j : ℕ). first f j n) z
+skip f n (suc k) i h g =
+    let z : i + 1 + k ≡ i + suc k = omega arith in
+    first-more f n i (first f i n) refl (omega arith) (g i (omega arith) (omega arith))
+    ∙ skip f n k (i + 1) (omega arith) (λ p a b. g p (omega arith) (omega arith))
+    ∙ ap (λ (j : ℕ). first f j n) z
+
+pub next-skip : (s : List ℕ) (last : Text) (i j t : ℕ) → i ≤ j → j ≤ length s → NoneIn s i j → t ≡ nextAt s last i → t ≡ nextAt s last j
+unfolding isKept
+next-skip s last i j t h l g e =
+    let z : i + (j - i) ≡ j = omega arith in
+    e ∙ skip (isKept s last) (length s) (j - i) i (omega arith) (λ p a b. rw (g p a (omega arith)) refl)
+    ∙ ap (λ (k : ℕ). nextAt s last k) z
 
 -- whether the candidate at p is kept
 pub keeps-at : (s : List ℕ) (last : Text) (p : ℕ) (t : Text) → t ≡ candidateAt s p → isKept s last p ≡ keeps s last t

@@ -1,12 +1,12 @@
 // Candidates for names: strings of the reply by their 16-bit length, whatever they stand in. They are found one at a time, with five in view.
-ghost use mathlib.Core.Bool.{not, _&&_};
+ghost use mathlib.Core.Bool.{false, not, _&&_};
 ghost use mathlib.Core.Path.{_≡_};
-ghost use Prim.Native.Nat.{_≤_};
+ghost use Prim.Native.Nat.{ℕ, _≤_, _<_};
 ghost use lib.Dec.{eqb};
 ghost use lib.ListN.{length};
 ghost use Rattle.search.specs.Search.{alike};
 ghost use Rattle.text.specs.Text.{emptyText};
-ghost use Rattle.candidates.specs.Candidates.{sameText, candidateAt, isNearRepeat, candidates};
+ghost use Rattle.candidates.specs.Candidates.{sameText, isCandidate, candidateAt, isNearRepeat, candidates};
 ghost use Rattle.candidates.specs.View.{Inside, nextCandidate, shifted, inView, Within};
 use field::ByteOrder;
 use text::Text;
@@ -100,6 +100,28 @@ fn is_kept(reply: &[u8], last: Text, text: Text) -> bool
     !is_near_repeat(reply, last, text)
 }
 
+// From `from` on, the first position where a length of 2 to 128 stands; past the reply where there is none. No candidate is passed over: its
+// length is tested before anything else is read.
+fn next_length(reply: &[u8], from: usize) -> usize
+    requires { ⌜ from ≤ length (now reply) ⌝ }
+    ensures { λ r. ⌜ ((from ≤ r) × (r ≤ length (now (reply .entry))))
+        × ((p : ℕ) → from ≤ p → p < r → isCandidate (now (reply .entry)) p ≡ false) ⌝ }
+{
+    let end = reply.len();
+    if end < 2 {
+        return end;
+    }
+    let mut offset = from;
+    while offset < end - 1 {
+        let length = field::u16_at(reply, offset, ByteOrder::BigEndian);
+        if (2 <= length) & (length <= 128) {
+            return offset;
+        }
+        offset += 1;
+    }
+    end
+}
+
 // A candidate, and the position from which to look for the next one. An empty text: there is none.
 pub struct Candidate {
     pub text: Text,
@@ -112,7 +134,7 @@ fn next_candidate(reply: &[u8], last: Text, from: usize) -> Candidate
     ensures { λ r. ⌜ (r ≡ nextCandidate (now (reply .entry)) last from)
         × ((Inside (now (reply .entry)) (r .text)) × (r .next ≤ length (now (reply .entry)))) ⌝ }
 {
-    let mut offset = from;
+    let mut offset = next_length(reply, from);
     while offset < reply.len() {
         let text = candidate_at(reply, offset);
         if is_kept(reply, last, text) {
@@ -121,7 +143,7 @@ fn next_candidate(reply: &[u8], last: Text, from: usize) -> Candidate
                 next: offset + 1,
             };
         }
-        offset += 1;
+        offset = next_length(reply, offset + 1);
     }
     Candidate {
         text: no_text(),
@@ -163,6 +185,17 @@ pub fn first_view(reply: &[u8]) -> View
     }
 }
 
+// The same text, field by field: a part of a struct that is handed on by its address keeps all of the struct in memory.
+fn copied(text: Text) -> Text
+    ensures { λ r. ⌜ r ≡ text ⌝ }
+{
+    Text {
+        place: text.place,
+        length: text.length,
+        alphabet: text.alphabet,
+    }
+}
+
 // The view one candidate on.
 pub fn next_view(reply: &[u8], view: View) -> View
     requires { ⌜ Within (now reply) view ⌝ }
@@ -172,7 +205,7 @@ pub fn next_view(reply: &[u8], view: View) -> View
     let second = view.third;
     let third = view.fourth;
     let fourth = view.fifth;
-    let found = next_candidate(reply, fourth, view.next);
+    let found = next_candidate(reply, copied(fourth), view.next);
     let fifth = found.text;
     View {
         first,

@@ -14,7 +14,7 @@ use Rattle.column.specs.declared.Described.{Described}
 use Rattle.column.specs.Column.{nameText, stringText, columnWith}
 use Rattle.column.specs.Numbers.{orderNumber, orderOf, textNumbers, numbersOf, textFrom, typeFrom, Fits, columnOf}
 
-order-back : (o : ByteOrder) → orderOf (orderNumber o) ≡ o
+pub order-back : (o : ByteOrder) → orderOf (orderNumber o) ≡ o
 order-back BigEndian = refl
 order-back LittleEndian = refl
 

@@ -56,11 +56,7 @@ unfoldable everything : Unit {0}
 unfolding sameColumn sameCut cutRefusal cutAnswer columnWidth rowWidth largeRefusal rowRefusal rowAnswer ConsistentFrom
 everything = tt
 
--- C: widest row 5; A's and B's are their lengths
-pub case-C-row : (rowRefusal listC ≡ 0 ∷ []) × (rowAnswer listC ≡ 5)
-unfolding everything
-case-C-row = (refl, refl)
-
+-- A's and B's rows are their lengths
 pub case-A-B-rows : (rowAnswer listA ≡ 4) × (rowAnswer listB ≡ 6)
 unfolding everything
 case-A-B-rows = (refl, refl)

@@ -22,7 +22,7 @@ pub struct RowAnswer {
 }
 
 // Whether two columns are cut from a row alike.
-fn same_column(c: ColumnMetadata, d: ColumnMetadata) -> bool
+pub fn same_column(c: ColumnMetadata, d: ColumnMetadata) -> bool
     ensures { λ r. ⌜ r ≡ sameColumn c d ⌝ }
 {
     let order = c.byte_order;
@@ -94,7 +94,7 @@ fn is_varying(db2_type: Db2Type) -> bool
     }
 }
 
-fn is_large_column(column: ColumnMetadata) -> bool
+pub fn is_large_column(column: ColumnMetadata) -> bool
     ensures { λ r. ⌜ r ≡ isLarge (column .«db2_type») ⌝ }
 {
     let db2_type = column.db2_type;
@@ -109,7 +109,7 @@ fn bytes_if(holds: bool, count: usize) -> usize
 }
 
 // The bytes that a column can take in a row.
-fn column_width(column: ColumnMetadata) -> usize
+pub fn column_width(column: ColumnMetadata) -> usize
     ensures { λ r. ⌜ r ≡ columnWidth column ⌝ }
     ensures { λ r. ⌜ r ≤ 65538 ⌝ }
 {

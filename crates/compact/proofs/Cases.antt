@@ -1,9 +1,8 @@
--- Case K of document 01, and a reply of two compact descriptors, by computation.
+-- A reply of two compact descriptors, by computation.
 -- Assumes nothing.
 use mathlib.Core.Path.{_≡_, refl}
-use mathlib.Core.List.{List, [], _∷_, _++_}
+use mathlib.Core.List.{List, [], _∷_}
 use Prim.Native.Nat.{ℕ}
-use lib.ListN.{replicate}
 use Rattle.search.specs.Walks.{firstOf, first, chain}
 use Rattle.codepage.specs.Page.{page037, table037}
 use Rattle.field.specs.Numbers.{number}
@@ -14,16 +13,7 @@ use Rattle.types.specs.Rows.{typeRows, lookup}
 use Rattle.column.specs.Column.{stringText, nameText, columnWith, isNamed}
 use Rattle.compact_table.specs.Table.{looksCompact, nextHere, nextCompact, tableHere, tableAt, tableOf}
 use Rattle.compact.specs.declared.Ends.the-variants.{Compact, Last}
-use Rattle.compact.specs.Compact.{ccsidOf, nameHere, nameAt, compactName, compactAt, compactColumn, compactEnd, ffsHere, lastEnd, endBy, compactRun}
-
--- K: the CCSID 25 00 in compact is 9472, B8 04 is 1208
-pub case-K-9472 : compactAt (replicate 14 0 ++ (0x25 ∷ 0x00 ∷ [])) 0 16 .ccsid ≡ 9472
-unfolding compactAt ccsidOf number
-case-K-9472 = refl
-
-pub case-K-1208 : compactAt (replicate 14 0 ++ (0xB8 ∷ 0x04 ∷ [])) 0 16 .ccsid ≡ 1208
-unfolding compactAt ccsidOf number
-case-K-1208 = refl
+use Rattle.compact.specs.Compact.{nameHere, nameAt, compactName, compactAt, compactColumn, compactEnd, ffsHere, lastEnd, endBy, compactRun}
 
 -- Char(4), CCSID 1208, and what follows
 abbrev char : List ℕ → List ℕ

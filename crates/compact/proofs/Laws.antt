@@ -11,11 +11,10 @@ use borrow.Author.Tests.{eq-eqb, ne-eqb, lt-ltb, le-ltb, le-leb, lt-leb, ltb-tru
 use Rattle.search.specs.Search.{pick, each}
 use Rattle.search.specs.Walks.{first}
 use Rattle.search.proofs.Index.{first-done}
-use Rattle.codepage.specs.Page.{page037}
 use Rattle.field.specs.Strings.{noString}
-use Rattle.text.specs.Chars.{isNameChar, charOf, isNameOf}
-use Rattle.text.proofs.Decode.{lent}
-use Rattle.compact_table.specs.Table.{nextHere, nextCompact}
+use Rattle.text.specs.Chars.{isNameChar}
+use Rattle.compact_table.specs.Table.{isFF, ffAt, nextHere, nextCompact}
+use Rattle.compact_table.proofs.Skips.{skip-to}
 use Rattle.compact.specs.declared.Ends.{Ends}
 use Rattle.compact.specs.declared.Ends.the-variants.{Compact, Last}
 use Rattle.compact.specs.Compact.{ccsidOf, nameHere, nameAt, compactName, compactEnd, ffsHere, lastEnd, endBy}
@@ -42,12 +41,6 @@ module _ (s : List ℕ) (e q : ℕ) where
   unfolding nameHere
   name-over h g = rw (h, lt-leb (q + 1 + getD s q 0) e g) refl
 
-  -- the bytes are those that the code lends, and characters of ASCII are bytes
-  pub name-by-chars : (r : Bool) → (leb 1 (getD s q 0) && leb (getD s q 0) 64) ≡ true → q + 1 + getD s q 0 ≤ e
-      → r ≡ each (isNameOf page037 1) (take (q + 1 + getD s q 0 - (q + 1)) (drop (q + 1) s)) → r ≡ nameHere s e q
-  unfolding nameHere charOf
-  name-by-chars r h g f = rw (h, le-leb (q + 1 + getD s q 0) e g) (f ∙ ap (each isNameChar) (lent s (q + 1) (getD s q 0)))
-
 pub name-found : (s : List ℕ) (p e q : ℕ) → q ≡ nameAt s p e → q < e → record { place = q + 1; length = getD s q 0; next = e } ≡ compactName s p e
 unfolding compactName
 name-found s p e q f h = rw (← f, lt-ltb q e h) refl
@@ -71,6 +64,15 @@ module _ (k : ℕ) (s : List ℕ) (p : ℕ) where
     pub compact-none : length s < q → length s ≡ compactEnd k s p
     unfolding compactEnd
     compact-none h = rw (ne-eqb k 0 e, ← f, lt-leb q (length s) h) refl
+
+no-ffs : (s : List ℕ) (q : ℕ) → isFF s q ≡ false → ffsHere s q ≡ false
+unfolding ffsHere
+no-ffs s q h = rw h refl
+
+-- FF FF FF starts with an FF
+pub last-later : (s : List ℕ) (i n t r : ℕ) → i ≤ n → r ≡ ffAt s i n → t ≡ first (ffsHere s) i n → t ≡ first (ffsHere s) r n
+unfolding ffAt
+last-later s i n t r h e u = skip-to (isFF s) (ffsHere s) i n t r (no-ffs s) h e u
 
 module _ (s : List ℕ) (p q : ℕ) (e : q ≡ first (ffsHere s) p (length s - 2)) where
   pub last-found : q < length s - 2 → q + 3 ≡ lastEnd s p

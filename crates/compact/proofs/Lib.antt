@@ -1,3 +1,4 @@
+pub mod Stops
 pub mod Laws
 pub mod Names
 pub mod Runs

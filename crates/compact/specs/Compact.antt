@@ -1,8 +1,9 @@
 -- Descriptors of the compact reading and of the last reader: 16 bytes of LE numbers, and a name somewhere after them (01, Layouts: Compact;
 -- 01, Choice: the last reader, numbers, names and CCSIDs as in compact). They differ in where they end.
-use mathlib.Core.Bool.{Bool, _&&_}
+use mathlib.Core.Bool.{Bool, _&&_, not}
 use mathlib.Core.List.{List}
-use Prim.Native.Nat.{ℕ, _+_, _-_, _%_}
+use mathlib.Core.Path.{_≡_}
+use Prim.Native.Nat.{ℕ, _+_, _-_, _%_, _<_}
 use lib.Dec.{ltb, leb, eqb}
 use lib.ListN.{length, getD, take, drop}
 use Rattle.search.specs.Search.{pick, each}
@@ -30,6 +31,18 @@ unfoldable pub nameHere : List ℕ → ℕ → ℕ → Bool
 nameHere s e q =
     (leb 1 (getD s q 0) && leb (getD s q 0) 64)
     && (leb (q + 1 + getD s q 0) e && each isNameChar (take (getD s q 0) (drop (q + 1) s)))
+
+-- a byte at q that is no name character (01, Layouts: Compact)
+abbrev pub isOther : List ℕ → ℕ → Bool
+isOther s q = not (isNameChar (getD s q 0))
+
+-- the first such byte from q on and before e; e if there is none (01, Layouts: Compact)
+unfoldable pub stopAt : List ℕ → ℕ → ℕ → ℕ
+stopAt s q e = first (isOther s) q e
+
+-- where r is past q, the name characters behind q, of the descriptor that ends at e, stop there (01, Layouts: Compact)
+abbrev pub Stops : List ℕ → ℕ → ℕ → ℕ → Type 0
+Stops s e q r = q < r → r ≡ stopAt s (q + 1) e
 
 -- where the first such length byte stands, of the descriptor from p to e; e if there is none (01, Layouts: Compact)
 unfoldable pub nameAt : List ℕ → ℕ → ℕ → ℕ

@@ -5,8 +5,10 @@ ghost use lib.ListN.{length};
 ghost use Rattle.codepage.specs.Page.{page037};
 ghost use Rattle.field.specs.declared.ByteOrder.the-variants.{BigEndian, LittleEndian};
 ghost use Rattle.field.specs.Numbers.{number};
+ghost use Rattle.text.specs.Chars.{isNameChar};
 ghost use Rattle.column.specs.Column.{StringsInside};
-ghost use Rattle.compact.specs.Compact.{ccsidOf, nameHere, compactName, compactAt, compactEnd, ffsHere, lastEnd, endBy, compactRun};
+ghost use Rattle.compact_table.specs.Table.{inEight};
+ghost use Rattle.compact.specs.Compact.{ccsidOf, nameHere, isOther, stopAt, Stops, compactName, compactAt, compactEnd, ffsHere, lastEnd, endBy, compactRun};
 use column::Described;
 use column::Run;
 use field::ByteOrder;
@@ -31,29 +33,109 @@ fn decode_ccsid(reply: &[u8], offset: usize) -> u16
     be
 }
 
-// Whether a name's length byte stands at a position of the descriptor that ends at `end`.
-fn name_here(reply: &[u8], end: usize, offset: usize) -> bool
+// As text's own test of ASCII characters. The compiler tests letters first, which stand last here: most characters of names are letters.
+fn is_name_char(character: u8) -> bool
+    ensures { λ r. ⌜ r ≡ isNameChar character ⌝ }
+{
+    (character == 0x40)
+        | (character == 0x23)
+        | (character == 0x24)
+        | (character == 0x5F)
+        | (character >= 0x30) & (character <= 0x39)
+        | (character >= 0x61) & (character <= 0x7A)
+        | (character >= 0x41) & (character <= 0x5A)
+}
+
+// Eight bytes are read at once, as in the search for an FF.
+fn other_in_eight(reply: &[u8], offset: usize) -> bool
+    requires { ⌜ offset + 8 ≤ length (now reply) ⌝ }
+    ensures { λ r. ⌜ r ≡ inEight (isOther (now (reply .entry))) offset ⌝ }
+{
+    !is_name_char(reply[offset])
+        | !is_name_char(reply[offset + 1])
+        | !is_name_char(reply[offset + 2])
+        | !is_name_char(reply[offset + 3])
+        | !is_name_char(reply[offset + 4])
+        | !is_name_char(reply[offset + 5])
+        | !is_name_char(reply[offset + 6])
+        | !is_name_char(reply[offset + 7])
+}
+
+fn skip_name_chars(reply: &[u8], offset: usize, end: usize) -> usize
+    requires { ⌜ (offset ≤ end) × (end ≤ length (now reply)) ⌝ }
+    ensures { λ r. ⌜ (r ≤ end) × (stopAt (now (reply .entry)) offset end ≡ stopAt (now (reply .entry)) r end) ⌝ }
+{
+    let mut i = offset;
+    while 8 <= end - i {
+        if other_in_eight(reply, i) {
+            return i;
+        }
+        i += 8;
+    }
+    i
+}
+
+// The first byte from a position on and before `end` that is no name character; `end` if there is none.
+fn name_stop(reply: &[u8], offset: usize, end: usize) -> usize
+    requires { ⌜ (offset ≤ end) × (end ≤ length (now reply)) ⌝ }
+    ensures { λ r. ⌜ (r ≡ stopAt (now (reply .entry)) offset end) × (r ≤ end) ⌝ }
+{
+    let mut i = skip_name_chars(reply, offset, end);
+    while i < end {
+        if !is_name_char(reply[i]) {
+            return i;
+        }
+        i += 1;
+    }
+    i
+}
+
+// Whether a name's length byte stands at a position, and where the name characters behind it stop, as far as that is known.
+struct NameTest {
+    found: bool,
+    stop: usize,
+}
+
+// In the descriptor that ends at `end`. Characters before `stop` were tested behind an earlier position and are not tested again.
+fn name_here(reply: &[u8], end: usize, offset: usize, stop: usize) -> NameTest
     requires { ⌜ (offset < end) × (end ≤ lib.ListN.length (now reply)) ⌝ }
-    ensures { λ r. ⌜ r ≡ nameHere (now (reply .entry)) end offset ⌝ }
+    requires { ⌜ Stops (now reply) end offset stop ⌝ }
+    ensures { λ r. ⌜ r .found ≡ nameHere (now (reply .entry)) end offset ⌝ }
+    ensures { λ r. ⌜ Stops (now (reply .entry)) end (offset + 1) (r .stop) ⌝ }
 {
     let length = reply[offset] as usize;
     if (1 <= length) & (length <= 64) {
         let start = offset + 1;
         if start + length <= end {
-            return text::all_name_chars(&reply[start..start + length], 1);
+            if offset < stop {
+                return NameTest {
+                    found: start + length <= stop,
+                    stop,
+                };
+            }
+            let next = name_stop(reply, start, start + length);
+            if next == start + length {
+                return NameTest { found: true, stop };
+            }
+            return NameTest {
+                found: false,
+                stop: next,
+            };
         }
-        return false;
+        return NameTest { found: false, stop };
     }
-    false
+    NameTest { found: false, stop }
 }
 
 fn extract_column_name(reply: &[u8], offset: usize, end: usize) -> StringRead
     requires { ⌜ (offset + 16 ≤ end) × (end ≤ lib.ListN.length (now reply)) ⌝ }
     ensures { λ r. ⌜ r ≡ compactName (now (reply .entry)) offset end ⌝ }
 {
+    let mut stop = offset + 16;
     let mut i = offset + 16;
     while i < end {
-        if name_here(reply, end, i) {
+        let test = name_here(reply, end, i, stop);
+        if test.found {
             let length = reply[i] as usize;
             return StringRead {
                 place: i + 1,
@@ -61,6 +143,7 @@ fn extract_column_name(reply: &[u8], offset: usize, end: usize) -> StringRead
                 next: end,
             };
         }
+        stop = test.stop;
         i += 1;
     }
     field::no_string(end)
@@ -125,7 +208,7 @@ fn last_descriptor_end(reply: &[u8], offset: usize) -> usize
         if ffs_here(reply, i) {
             return i + 3;
         }
-        i += 1;
+        i = compact_table::next_ff(reply, i + 1, end);
     }
     reply.len()
 }

@@ -28,6 +28,18 @@ looksCompact s p =
     && (inBounds (number LittleEndian 2 s (p + 12)) (number LittleEndian 2 s p) (number LittleEndian 2 s (p + 2)) (number LittleEndian 8 s (p + 4))
     && isKnown (number LittleEndian 2 s (p + 12)))
 
+-- FF at q (01, Layouts: Compact, a next stands behind an FF)
+abbrev pub isFF : List ℕ → ℕ → Bool
+isFF s q = eqb (getD s q 0) 0xFF
+
+-- the first FF from q on and before e; e if there is none (01, Layouts: Compact, a next stands behind an FF)
+unfoldable pub ffAt : List ℕ → ℕ → ℕ → ℕ
+ffAt s q e = first (isFF s) q e
+
+-- a test passes at one of the eight positions from q on: a word of searches for an FF (01, Layouts: Compact)
+abbrev pub inEight : (ℕ → Bool) → ℕ → Bool
+inEight f q = f q || f (q + 1) || f (q + 2) || f (q + 3) || f (q + 4) || f (q + 5) || f (q + 6) || f (q + 7)
+
 -- FF at q, and such 16 bytes after it (01, Layouts: Compact, a next)
 unfoldable pub nextHere : List ℕ → ℕ → Bool
 nextHere s q = eqb (getD s q 0) 0xFF && looksCompact s (q + 1)

@@ -2,7 +2,7 @@
 ghost use mathlib.Core.Path.{_≡_};
 ghost use Prim.Native.Nat.{_+_, _<_, _≤_};
 ghost use lib.ListN.{length};
-ghost use Rattle.compact_table.specs.Table.{inBounds, looksCompact, nextHere, nextCompact, isCount, tableHere, tableOf, Ended};
+ghost use Rattle.compact_table.specs.Table.{inBounds, isFF, ffAt, inEight, looksCompact, nextHere, nextCompact, isCount, tableHere, tableOf, Ended};
 use field::ByteOrder;
 
 // Where the first descriptor stands, and how many the table declares: 0 if there is no table.
@@ -43,6 +43,50 @@ pub fn looks_like_compact_descriptor_start(reply: &[u8], offset: usize) -> bool
     types::is_known_sql_type(sql_type)
 }
 
+// Eight bytes are read at once: one loop turn passes over them where none is FF.
+fn ff_in_eight(reply: &[u8], offset: usize) -> bool
+    requires { ⌜ offset + 8 ≤ length (now reply) ⌝ }
+    ensures { λ r. ⌜ r ≡ inEight (isFF (now (reply .entry))) offset ⌝ }
+{
+    (reply[offset] == 0xFF)
+        | (reply[offset + 1] == 0xFF)
+        | (reply[offset + 2] == 0xFF)
+        | (reply[offset + 3] == 0xFF)
+        | (reply[offset + 4] == 0xFF)
+        | (reply[offset + 5] == 0xFF)
+        | (reply[offset + 6] == 0xFF)
+        | (reply[offset + 7] == 0xFF)
+}
+
+fn skip_eights(reply: &[u8], offset: usize, end: usize) -> usize
+    requires { ⌜ (offset ≤ end) × (end ≤ length (now reply)) ⌝ }
+    ensures { λ r. ⌜ (r ≤ end) × (ffAt (now (reply .entry)) offset end ≡ ffAt (now (reply .entry)) r end) ⌝ }
+{
+    let mut i = offset;
+    while 8 <= end - i {
+        if ff_in_eight(reply, i) {
+            return i;
+        }
+        i += 8;
+    }
+    i
+}
+
+// The first FF from a position on and before `end`, which is the answer where there is none.
+pub fn next_ff(reply: &[u8], offset: usize, end: usize) -> usize
+    requires { ⌜ (offset ≤ end) × (end ≤ length (now reply)) ⌝ }
+    ensures { λ r. ⌜ (r ≡ ffAt (now (reply .entry)) offset end) × (r ≤ end) ⌝ }
+{
+    let mut i = skip_eights(reply, offset, end);
+    while i < end {
+        if reply[i] == 0xFF {
+            return i;
+        }
+        i += 1;
+    }
+    i
+}
+
 fn next_here(reply: &[u8], offset: usize) -> bool
     requires { ⌜ offset < length (now reply) ⌝ }
     ensures { λ r. ⌜ r ≡ nextHere (now (reply .entry)) offset ⌝ }
@@ -63,7 +107,7 @@ pub fn next_compact_descriptor_offset(reply: &[u8], offset: usize) -> usize
         if next_here(reply, i) {
             return i + 1;
         }
-        i += 1;
+        i = next_ff(reply, i + 1, reply.len());
     }
     i + 1
 }

@@ -1,7 +1,7 @@
 -- The groups of a descriptor: for each way out of their readers a law, from what the callees promise to what the reader does.
 -- Assumes nothing.
 use mathlib.Core.List.{List}
-use mathlib.Core.Path.{_≡_, sym, ap, _∙_}
+use mathlib.Core.Path.{_≡_, refl, sym, ap, _∙_}
 use Prim.Native.Nat.{ℕ, _+_, _≤_, _<_}
 use native.Mathlib.Omega.{arith}
 use lib.ListN.{length, getD}
@@ -9,10 +9,12 @@ use Rattle.field.specs.declared.StringRead.{StringRead}
 use Rattle.field.specs.Strings.{stringsEnd, noString, chosen, pairAt}
 use Rattle.field.proofs.Strings.{pair-next, pair-inside, chosen-inside}
 use Rattle.descriptor.specs.declared.Sqldxgrp.{Sqldxgrp}
+use Rattle.descriptor.specs.declared.Names.{Names}
 use Rattle.descriptor.specs.declared.Sqldoptgrp.{Sqldoptgrp}
+use Rattle.descriptor.specs.declared.Step.{Step}
 use Rattle.descriptor.specs.Nullable.{lenient, nullableEnd, inNullable}
 use Rattle.descriptor.specs.Descriptor.{udtEnd, dxEnd, dxStart, optEnd, dxPair, optName, optLabel, optPair}
-use Rattle.descriptor.specs.Groups.{noSqldxgrp, sqldxgrpAt, noSqldoptgrp, sqldoptgrpAt}
+use Rattle.descriptor.specs.Groups.{NamesAt, noSqldxgrp, sqldxgrpAt, noSqldoptgrp, sqldoptgrpAt, noStep, sqldxgrpStepAt, sqldoptgrpStepAt}
 use Rattle.descriptor.proofs.Flags.{nullableEnd-missing, nullableEnd-null, nullableEnd-held, inNullable-missing, inNullable-null, inNullable-held, inNullable-all}
 
 -- past a pair that was read
@@ -88,6 +90,36 @@ module _ (s : List ℕ) (p : ℕ) where
       let b′ = past-pair s (m .next) l b in
       cc
       (inNullable-held (noString 0) optName s p h f, inNullable-held (noString 0) optLabel s p h f, inNullable-held (noString 0) (optPair 3) s p h f, inNullable-held (noString 0) (optPair 5) s p h f, nullableEnd-held lenient (optEnd lenient) s p h f)
+
+-- ---- the same for counting: the name alone, and what is past the group
+
+module _ (s : List ℕ) (p : ℕ) where
+  pub dx-step-missing : (r : Step) → r ≡ noStep p → length s ≤ p → r ≡ sqldxgrpStepAt s p
+  dx-step-missing r e h = let x = dx-missing s p (noSqldxgrp p) refl h in e ∙ (λ i. record { name = x i .name; next = x i .next })
+
+  pub dx-step-null : (r : Step) → r ≡ noStep (p + 1) → p < length s → getD s p 0 ≡ 0xFF → r ≡ sqldxgrpStepAt s p
+  dx-step-null r e h f = let x = dx-null s p (noSqldxgrp (p + 1)) refl h f in e ∙ (λ i. record { name = x i .name; next = x i .next })
+
+  pub dx-step-held : (q : ℕ) (n : StringRead) → p < length s → (getD s p 0 ≡ 0xFF → ⊥) → q ≡ stringsEnd 7 s (p + 1 + 8) → n ≡ pairAt s q
+      → record { name = n; next = n .next } ≡ sqldxgrpStepAt s p
+  unfolding stringsEnd dxEnd
+  dx-step-held q n h f e z =
+      let z′ = past-pair s q n z in
+      cc (dxPair-held s p 7 h f, nullableEnd-held lenient dxEnd s p h f)
+
+  pub opt-step-missing : (r : Step) → r ≡ noStep p → length s ≤ p → r ≡ sqldoptgrpStepAt s p
+  opt-step-missing r e h = let x = opt-missing s p (noSqldoptgrp p) refl h in e ∙ (λ i. record { name = x i .name; next = x i .next })
+
+  pub opt-step-null : (r : Step) → r ≡ noStep (p + 1) → p < length s → getD s p 0 ≡ 0xFF → r ≡ sqldoptgrpStepAt s p
+  opt-step-null r e h f = let x = opt-null s p (noSqldoptgrp (p + 1)) refl h f in e ∙ (λ i. record { name = x i .name; next = x i .next })
+
+  pub opt-step-held : (u : ℕ) (t : Names) (n : StringRead) (x : Step) → p < length s → (getD s p 0 ≡ 0xFF → ⊥)
+      → NamesAt s (p + 1 + 2) t → u ≡ nullableEnd lenient udtEnd s (t .next) → x ≡ sqldxgrpStepAt s u → n ≡ chosen (t .name) (x .name)
+      → record { name = n; next = x .next } ≡ sqldoptgrpStepAt s p
+  opt-step-held u t n x h f a d e g =
+      let g′ : n ≡ chosen (t .name) (sqldxgrpAt s u .name) = g ∙ ap (λ (y : Step). chosen (t .name) (y .name)) e in
+      let all = opt-held s p (t .next) u (t .name) (t .label) n (sqldxgrpAt s u) h f (a .name) (a .label) (a .next) d refl g′ in
+      ap (λ (y : Step). record { name = n; next = y .next }) e ∙ (λ i. record { name = all i .name; next = all i .next })
 
 -- ---- the strings lie in the reply
 

@@ -20,7 +20,7 @@ use Rattle.descriptor.specs.declared.Sqldoptgrp.{Sqldoptgrp}
 use Rattle.descriptor.specs.declared.Step.{Step}
 use Rattle.descriptor.specs.Nullable.{Flags, lenient, nullableEnd, inNullable}
 use Rattle.descriptor.specs.Descriptor.{optEnd, descriptorEnd, optName, describedAt}
-use Rattle.descriptor.specs.Groups.{sqldagrpAt, sqldoptgrpAt, noStep, stepAt}
+use Rattle.descriptor.specs.Groups.{sqldagrpAt, sqldoptgrpAt, noStep, sqldoptgrpStepAt, stepAt}
 use Rattle.descriptor.proofs.Groups.{Inside, name-inside, label-inside, optPair-inside}
 use Rattle.descriptor.proofs.Ends.{descriptorEnd-grows}
 
@@ -86,17 +86,17 @@ module _ (order : ByteOrder) (s : List ℕ) (p : ℕ) where
     step-unknown r g x =
         none-stepped (length s + 1) r x (sym (descriptorEnd-unknown lenient order s p h (known-is ∙ g) ∙ omega arith)) (omega arith)
 
-    module _ (g : k ≡ true) (o : Sqldoptgrp) (x : o ≡ sqldoptgrpAt s (p + 16)) where
+    module _ (g : k ≡ true) (o : Step) (x : o ≡ sqldoptgrpStepAt s (p + 16)) where
       past-group : o .next ≡ descriptorEnd lenient order s p
-      past-group = ap (λ (o : Sqldoptgrp). o .next) x ∙ sym (descriptorEnd-known lenient order s p h (known-is ∙ g))
+      past-group = ap (λ (o : Step). o .next) x ∙ sym (descriptorEnd-known lenient order s p h (known-is ∙ g))
 
       pub step-cut : (r : Step) → r ≡ noStep (o .next) → length s < o .next → Stepped order s p r
       step-cut r y l = none-stepped (o .next) r y past-group l
 
-      pub step-read : o .next ≤ length s → Stepped order s p (record { name = o .name; next = o .next })
+      pub step-read : o .next ≤ length s → Stepped order s p o
       unfolding stepAt describedAt
       step-read l =
-          let n : o .name ≡ inNullable (noString 0) optName s (p + 16) = ap (λ (o : Sqldoptgrp). o .name) x in
+          let n : o .name ≡ inNullable (noString 0) optName s (p + 16) = ap (λ (o : Step). o .name) x in
           let u : leb (descriptorEnd lenient order s p) (length s) ≡ true = le-leb (descriptorEnd lenient order s p) (length s) (omega (arith, past-group)) in (
             (λ i. record { name = n i; next = past-group i }) ∙ sym (ap stepBy u),
             (omega (arith, descriptorEnd-grows lenient order s p, past-group), rw n (name-inside s (p + 16))),

@@ -1,12 +1,13 @@
 // One standard descriptor (SQLDAROW) at a position of a reply. Only its places are read here, no text is decoded.
 // Each of its flags may be missing where the reply ends. A position past the reply's end says that it cannot be read.
 ghost use mathlib.Core.Path.{_≡_};
+ghost use mathlib.Core.Bool.{true};
 ghost use Prim.Native.Nat.{_+_, _≤_};
 ghost use lib.ListN.{length};
 ghost use Rattle.column.specs.Column.{StringsInside};
 ghost use Rattle.descriptor.specs.Nullable.{lenient, nullableEnd};
 ghost use Rattle.descriptor.specs.Descriptor.{udtEnd, descriptorEnd, describedAt};
-ghost use Rattle.descriptor.specs.Groups.{sqldagrpAt, noSqldxgrp, sqldxgrpAt, noSqldoptgrp, sqldoptgrpAt, noStep, stepAt};
+ghost use Rattle.descriptor.specs.Groups.{sqldagrpAt, noSqldxgrp, sqldxgrpAt, noSqldoptgrp, sqldoptgrpAt, noStep, sqldxgrpStepAt, sqldoptgrpStepAt, stepAt, AllEmpty, LabelAt, NamesAt};
 use column::Described;
 use field::ByteOrder;
 use field::StringRead;
@@ -89,6 +90,108 @@ fn no_sqldoptgrp(next: usize) -> Sqldoptgrp
     }
 }
 
+// Whether so many empty strings stand at a position. Each is looked at where it is due, and no length has to be known before the next.
+fn are_empty(reply: &[u8], offset: usize, count: usize) -> bool
+    ensures { λ r. ⌜ (r ≡ true → AllEmpty count (now (reply .entry)) offset) ⌝ }
+{
+    let end = reply.len();
+    if end < offset {
+        return false;
+    }
+    if (end - offset) / 2 < count {
+        return false;
+    }
+    let mut next = offset;
+    let mut left = count;
+    while 0 < left {
+        if field::u16_at(reply, next, ByteOrder::BigEndian) != 0 {
+            return false;
+        }
+        next += 2;
+        left -= 1;
+    }
+    true
+}
+
+// Whether a string has bytes, and so many behind it have none.
+fn is_alone(reply: &[u8], string: StringRead, count: usize) -> bool
+    ensures { λ r. ⌜ (r ≡ true → (string .length ≡ 0 → ⊥) × AllEmpty count (now (reply .entry)) (string .next)) ⌝ }
+{
+    if string.length == 0 {
+        return false;
+    }
+    are_empty(reply, string.next, count)
+}
+
+// SQLLABEL of a SQLDOPTGRP, and what is past SQLCOMMENTS, which is not kept.
+pub struct Label {
+    pub label: StringRead,
+    pub next: usize,
+}
+
+// Of most pairs only m has bytes, and most columns have no comment.
+fn read_label(reply: &[u8], offset: usize) -> Label
+    ensures { λ r. ⌜ LabelAt (now (reply .entry)) offset r ⌝ }
+{
+    let m = field::read_string(reply, offset);
+    if is_alone(reply, m, 3) {
+        let label = StringRead {
+            place: m.place,
+            length: m.length,
+            next: m.next + 2,
+        };
+        return Label {
+            label,
+            next: m.next + 6,
+        };
+    }
+    let label = field::choose(m, field::read_string(reply, m.next));
+    Label {
+        label,
+        next: field::skip_strings(reply, label.next, 2),
+    }
+}
+
+// SQLNAME besides: the six strings of names.
+pub struct Names {
+    pub name: StringRead,
+    pub label: StringRead,
+    pub next: usize,
+}
+
+// Many columns have a name and no label either.
+fn read_names(reply: &[u8], offset: usize) -> Names
+    ensures { λ r. ⌜ NamesAt (now (reply .entry)) offset r ⌝ }
+{
+    let m = field::read_string(reply, offset);
+    if is_alone(reply, m, 5) {
+        let end = m.next;
+        let name = StringRead {
+            place: m.place,
+            length: m.length,
+            next: end + 2,
+        };
+        let label = StringRead {
+            place: end + 6,
+            length: 0,
+            next: end + 6,
+        };
+        return Names {
+            name,
+            label,
+            next: end + 10,
+        };
+    }
+    let name = field::choose(m, field::read_string(reply, m.next));
+    let read = read_label(reply, name.next);
+    let label = read.label;
+    Names {
+        name,
+        label,
+        next: read.next,
+    }
+}
+
 fn read_sqldoptgrp(reply: &[u8], offset: usize) -> Sqldoptgrp
     ensures { λ r. ⌜ r ≡ sqldoptgrpAt (now (reply .entry)) offset ⌝ }
 {
@@ -99,10 +202,10 @@ fn read_sqldoptgrp(reply: &[u8], offset: usize) -> Sqldoptgrp
     if reply[offset] == 0xFF {
         return no_sqldoptgrp(start);
     }
-    let name = field::read_pair(reply, start + 2);
-    let label = field::read_pair(reply, name.next);
-    let comments_end = field::skip_strings(reply, label.next, 2);
-    let extension = read_sqldxgrp(reply, skip_sqludtgrp(reply, comments_end));
+    let names = read_names(reply, start + 2);
+    let name = names.name;
+    let label = names.label;
+    let extension = read_sqldxgrp(reply, skip_sqludtgrp(reply, names.next));
     let base_table_name = extension.base_table_name;
     let schema_name = extension.schema_name;
     // The extension's name counts last.
@@ -129,6 +232,44 @@ fn no_step(next: usize) -> Step
     Step { name, next }
 }
 
+// Of SQLDXGRP only the name. Who counts needs no more, and gets it without the other strings' places.
+pub fn sqldxgrp_step(reply: &[u8], offset: usize) -> Step
+    ensures { λ r. ⌜ r ≡ sqldxgrpStepAt (now (reply .entry)) offset ⌝ }
+{
+    if reply.len() <= offset {
+        return no_step(offset);
+    }
+    let start = offset + 1;
+    if reply[offset] == 0xFF {
+        return no_step(start);
+    }
+    let name = field::read_pair(reply, field::skip_strings(reply, start + 8, 7));
+    Step {
+        name,
+        next: name.next,
+    }
+}
+
+// Of SQLDOPTGRP only the name.
+fn sqldoptgrp_step(reply: &[u8], offset: usize) -> Step
+    ensures { λ r. ⌜ r ≡ sqldoptgrpStepAt (now (reply .entry)) offset ⌝ }
+{
+    if reply.len() <= offset {
+        return no_step(offset);
+    }
+    let start = offset + 1;
+    if reply[offset] == 0xFF {
+        return no_step(start);
+    }
+    let names = read_names(reply, start + 2);
+    let name = names.name;
+    let extension = sqldxgrp_step(reply, skip_sqludtgrp(reply, names.next));
+    Step {
+        name: field::choose(name, extension.name),
+        next: extension.next,
+    }
+}
+
 // A scan asks at every byte of a reply: room and SQLTYPE are tested before any string is walked over.
 pub fn descriptor_step(reply: &[u8], offset: usize, order: ByteOrder) -> Step
     requires { ⌜ offset ≤ length (now reply) ⌝ }
@@ -142,15 +283,11 @@ pub fn descriptor_step(reply: &[u8], offset: usize, order: ByteOrder) -> Step
     if !types::is_known_sql_type(field::u16_at(reply, offset + 12, order)) {
         return no_step(end + 1);
     }
-    let options = read_sqldoptgrp(reply, offset + 16);
-    if end < options.next {
-        return no_step(options.next);
+    let step = sqldoptgrp_step(reply, offset + 16);
+    if end < step.next {
+        return no_step(step.next);
     }
-    let name = options.name;
-    Step {
-        name,
-        next: options.next,
-    }
+    step
 }
 
 // The numbers of SQLDAGRP; of precision and scale the low 8 bits.

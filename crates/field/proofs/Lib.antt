@@ -1,3 +1,4 @@
 pub mod Numbers
+pub mod Empty
 pub mod Strings
 pub mod Windows

@@ -85,6 +85,10 @@ module _ (page : Page) (a : ℕ) (bs : List ℕ) (f k : ℕ) (x : f ≡ leading 
       let z : k - f ≡ 0 = omega arith in
       sym (ap isIdentifier (trims ∙ ap (λ (n : ℕ). chars page a (take n (drop f bs))) z))
 
+  -- blanks alone
+  pub trimmed-blank : length bs ≤ f → false ≡ isIdentifier (trimmedOf isBlank (chars page a bs))
+  trimmed-blank h = trimmed-none (omega (arith, end-inside))
+
   pub trimmed-some : (r : Bool) → r ≡ isIdentifier (chars page a (take (k - f) (drop f bs))) → r ≡ isIdentifier (trimmedOf isBlank (chars page a bs))
   trimmed-some r e = e ∙ ap isIdentifier (sym trims)
 

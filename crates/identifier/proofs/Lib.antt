@@ -1,3 +1,4 @@
 pub mod Trims
+pub mod Spaces
 pub mod Identifiers
 pub mod Cases

@@ -54,7 +54,7 @@ module _ (f : ℕ → Bool) where
       go b u false v r = rw (r, v) refl
 
   -- a first element that is dropped, and one that is not
-  trimmed-drop : (x : ℕ) (xs : List ℕ) → f x ≡ true → trimmedOf f (x ∷ xs) ≡ trimmedOf f xs
+  pub trimmed-drop : (x : ℕ) (xs : List ℕ) → f x ≡ true → trimmedOf f (x ∷ xs) ≡ trimmedOf f xs
   unfolding leading kept
   trimmed-drop x xs e = rw e (go (eqb (kept f xs) 0) refl)
     where

@@ -1,6 +1,6 @@
 -- The rules by what is in view: a law for each way out of their tests.
 -- Assumes nothing.
-use mathlib.Core.Path.{_≡_, refl, sym, _∙_}
+use mathlib.Core.Path.{_≡_, refl, sym, ap, _∙_}
 use mathlib.Core.Bool.{Bool, true, false, not, _&&_, _||_, false≢true}
 use mathlib.Core.List.{List, [], _∷_}
 use Prim.Native.Nat.{ℕ, _-_}
@@ -10,6 +10,7 @@ use lib.ListN.{length}
 use borrow.Author.Tests.{eq-eqb, ne-eqb, le-leb}
 use Rattle.search.specs.Search.{pick}
 use Rattle.text.specs.declared.Text.{Text}
+use Rattle.text.specs.Text.{textIs}
 use Rattle.candidates.specs.declared.View.{View}
 use Rattle.candidates.specs.Candidates.{sameText, candidatesFrom}
 use Rattle.candidates.specs.View.{shown, behind}
@@ -120,10 +121,20 @@ module _ (s : List ℕ) (v : View) where
 
 -- ---- behind a candidate
 
-pub after-listed : (z : Listing) (x : Text) (b : Bool) → b ≡ true → record { first = z .first; skip = 4; last = x } ≡ after z x b
-unfolding after
-after-listed z x b e = rw e refl
+pub pick-first : {A : Type 0} (b : Bool) (x y : A) → b ≡ true → x ≡ pick b x y
+pick-first b x y e = rw e refl
 
-pub after-other : (z : Listing) (x : Text) (b : Bool) (n : ℕ) → b ≡ false → n ≡ z .skip - 1 → record { first = z .first; skip = n; last = z .last } ≡ after z x b
+pub pick-second : {A : Type 0} (b : Bool) (x y : A) → b ≡ false → y ≡ pick b x y
+pick-second b x y e = rw e refl
+
+-- a text that is picked field by field
+pub picked : (b : Bool) (x y : Text) (p n a : ℕ) → p ≡ pick b (x .place) (y .place) → n ≡ pick b (x .length) (y .length)
+    → a ≡ pick b (x .alphabet) (y .alphabet)
+    → textIs p n a ≡ pick b x y
+picked true x y p n a e f g = λ i. textIs (e i) (f i) (g i)
+picked false x y p n a e f g = λ i. textIs (e i) (f i) (g i)
+
+pub after-is : (z : Listing) (x : Text) (b : Bool) (k n : ℕ) (t : Text) → k ≡ z .skip - 1 → n ≡ pick b 4 k → t ≡ pick b x (z .last)
+    → record { first = z .first; skip = n; last = t } ≡ after z x b
 unfolding after
-after-other z x b n e f = rw (e, f) refl
+after-is z x b k n t d e f = λ i. record { first = z .first; skip = (e ∙ ap (pick b 4) d) i; last = f i }

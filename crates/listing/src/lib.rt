@@ -1,8 +1,9 @@
 // Which candidates are names, by either of two rules. Each rule goes through the candidates once, and lists some of them.
 ghost use mathlib.Core.List.{List};
 ghost use mathlib.Core.Path.{_≡_};
-ghost use Prim.Native.Nat.{ℕ};
+ghost use Prim.Native.Nat.{ℕ, _-_};
 ghost use lib.ListN.{length};
+ghost use Rattle.search.specs.Search.{pick};
 ghost use Rattle.candidates.specs.Candidates.{candidates};
 ghost use Rattle.candidates.specs.View.{shown, behind, inView, Inside, Within};
 ghost use Rattle.listing.specs.declared.Rule.the-variants.{Returning, BeforeFirst};
@@ -109,25 +110,50 @@ fn is_listed(reply: &[u8], rule: Rule, listing: Listing, view: View) -> bool
     }
 }
 
+fn choose_number(first: bool, a: usize, b: usize) -> usize
+    ensures { λ r. ⌜ r ≡ pick first a b ⌝ }
+{
+    if first { a } else { b }
+}
+
+fn choose_byte(first: bool, a: u8, b: u8) -> u8
+    ensures { λ r. ⌜ r ≡ pick first a b ⌝ }
+{
+    if first { a } else { b }
+}
+
+// One of two texts, field by field: numbers are chosen without going through memory.
+fn choose_text(first: bool, a: Text, b: Text) -> Text
+    ensures { λ r. ⌜ r ≡ pick first a b ⌝ }
+{
+    Text {
+        place: choose_number(first, a.place, b.place),
+        length: choose_number(first, a.length, b.length),
+        alphabet: choose_byte(first, a.alphabet, b.alphabet),
+    }
+}
+
+fn one_less(count: usize) -> usize
+    ensures { λ r. ⌜ r ≡ count - 1 ⌝ }
+{
+    if count == 0 {
+        return 0;
+    }
+    count - 1
+}
+
 // What the rule knows behind a candidate that it listed or not.
 fn behind_candidate(listing: Listing, text: Text, listed: bool) -> Listing
     ensures { λ r. ⌜ r ≡ after listing text listed ⌝ }
 {
     let first = listing.first;
     let last = listing.last;
-    if listed {
-        return Listing {
-            first,
-            skip: 4,
-            last: text,
-        };
+    let skip = choose_number(listed, 4, one_less(listing.skip));
+    Listing {
+        first,
+        skip,
+        last: choose_text(listed, text, last),
     }
-    let skip = if listing.skip == 0 {
-        0
-    } else {
-        listing.skip - 1
-    };
-    Listing { first, skip, last }
 }
 
 // Whether the first candidate in view is listed, and what the rule knows behind it.

@@ -1,5 +1,6 @@
 pub mod Ascii
 pub mod Squeezed
+pub mod Blocks
 pub mod Words
 pub mod Text
 pub mod Answer

@@ -12,8 +12,11 @@ use Rattle.search.specs.Search.{pick, firstIn}
 use Rattle.search.proofs.Alternatives.{each-none, each-more, firstIn-all}
 use Rattle.codepage.specs.Page.{Page}
 use Rattle.field.specs.declared.StringRead.{StringRead}
+use Rattle.field.specs.declared.ByteOrder.the-variants.{BigEndian}
+use Rattle.field.specs.Numbers.{number}
 use Rattle.field.specs.Strings.{stringEnd, stringsEnd, noString, stringAt}
-use Rattle.field.proofs.Strings.{string-next, string-inside}
+use Rattle.field.proofs.Strings.{end-known, string-next, string-inside}
+use Rattle.field.proofs.Windows.{stringsEnd-grows}
 use Rattle.text.specs.declared.Text.{Text}
 use Rattle.text.specs.Text.{textOf}
 use Rattle.column.specs.Column.{stringText}
@@ -22,6 +25,7 @@ use Rattle.descriptor.specs.declared.Sqldxgrp.{Sqldxgrp}
 use Rattle.descriptor.specs.Nullable.{lenient, nullableEnd}
 use Rattle.descriptor.specs.Descriptor.{udtEnd, dxEnd, dxStart, optEnd, dxPair}
 use Rattle.descriptor.specs.Groups.{sqldxgrpAt}
+use Rattle.descriptor.proofs.Ends.{nullableEnd-grows, udtEnd-grows, dxEnd-grows}
 use Rattle.descriptor.proofs.Groups.{Inside, dxPair-inside}
 use Rattle.name_run.specs.declared.ScannedName.{ScannedName}
 use Rattle.name_run.specs.Layout.{isNameString, nameStrings, nameIn, hasOptions, isNamedLayout, layoutEnd, noName, scannedNameAt}
@@ -93,6 +97,30 @@ module _ (page : Page) (s : List ℕ) (p : ℕ) where
       let t : ltb (p + 16) (length s) ≡ true = lt-ltb (p + 16) (length s) h in
       let u : eqb (getD s (p + 16) 0) 0xFF ≡ true = eq-eqb (getD s (p + 16) 0) 0xFF f in
       e ∙ by false (rw (t, u) refl)
+
+  -- its first string, of n bytes, does not lie in the reply
+  module _ (h : p + 21 ≤ length s) (n : ℕ) (e : n ≡ number BigEndian 2 s (p + 19)) (l : length s < p + 21 + n) where
+    past-reply : length s < layoutEnd s p
+    unfolding optEnd dxStart stringsEnd
+    past-reply =
+        let q = stringsEnd 6 s (p + 17 + 2) in
+        let d = nullableEnd lenient udtEnd s q in
+        let k : p + 17 + 2 ≡ p + 19 = omega arith in
+        let y : stringEnd s (p + 17 + 2) ≡ p + 19 + 2 + n = ap (stringEnd s) k ∙ end-known s (p + 19) (omega arith) (omega arith) n e in
+        let g : stringEnd s (p + 17 + 2) ≤ q = stringsEnd-grows 5 s (stringEnd s (p + 17 + 2)) in
+        let u : q ≤ d = nullableEnd-grows lenient udtEnd s (udtEnd-grows s) q in
+        let w : d ≤ nullableEnd lenient dxEnd s d = nullableEnd-grows lenient dxEnd s (dxEnd-grows s) d in
+        omega arith
+
+    pub named-outside : noName ≡ scannedNameAt page s p
+    unfolding isNamedLayout
+    named-outside =
+        let v : leb (layoutEnd s p) (length s) ≡ false = lt-leb (layoutEnd s p) (length s) past-reply in
+        by false (rw v (go (hasOptions s p)))
+      where
+        go : (b : Bool) → (b && false) ≡ false
+        go true = refl
+        go false = refl
 
   module _ (h : p + 16 < length s) (f : getD s (p + 16) 0 ≡ 0xFF → ⊥) (m t : StringRead) (q u : ℕ) (x : Sqldxgrp) (a : m ≡ stringAt s (p + 19))
       (b : t ≡ stringAt s (m .next)) (c : q ≡ stringsEnd 4 s (t .next)) (d : u ≡ nullableEnd lenient udtEnd s q) (e : x ≡ sqldxgrpAt s u) where

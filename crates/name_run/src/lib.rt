@@ -1,8 +1,8 @@
 // Names by runs of standard layouts of any type: only their strings are asked, so that an unknown SQLTYPE hides no name.
 ghost use mathlib.Core.Path.{_≡_};
-ghost use mathlib.Core.Bool.{true};
+ghost use mathlib.Core.Bool.{true, false};
 ghost use mathlib.Core.List.{[], _∷_};
-ghost use Prim.Native.Nat.{_+_, _≤_};
+ghost use Prim.Native.Nat.{ℕ, _+_, _≤_, _<_};
 ghost use lib.ListN.{length};
 ghost use Rattle.search.specs.Search.{firstIn};
 ghost use Rattle.search.specs.Walks.{keep};
@@ -11,6 +11,7 @@ ghost use Rattle.field.specs.Strings.{noString};
 ghost use Rattle.column.specs.Column.{stringText};
 ghost use Rattle.name_run.specs.Layout.{isNameString, nameIn, isNamedLayout, layoutEnd, noName, scannedNameAt};
 ghost use Rattle.name_run.specs.Run.{nameRunFrom, longer, longestNameRun};
+use field::ByteOrder;
 use field::StringRead;
 use text::Text;
 
@@ -118,6 +119,34 @@ fn longer_of(best: NameRun, run: NameRun) -> NameRun
     best
 }
 
+// Whether a layout with a name may start here: its option flag is not FF, and its first string lies in the reply. Where not, there is no run, and
+// nothing else is read.
+fn may_start(reply: &[u8], start: usize) -> bool
+    requires { ⌜ start + 21 ≤ length (now reply) ⌝ }
+    ensures { λ r. ⌜ (r ≡ false → nameRunFrom page037 (now (reply .entry)) start .count ≡ 0) ⌝ }
+{
+    if reply[start + 16] == 0xFF {
+        return false;
+    }
+    let length = field::u16_at(reply, start + 19, ByteOrder::BigEndian) as usize;
+    length <= reply.len() - (start + 21)
+}
+
+// From `from` on, the first start of a layout that may have a name; `end` where there is none. No run is passed over.
+fn next_start(reply: &[u8], from: usize, end: usize) -> usize
+    requires { ⌜ (from ≤ end) × (end + 20 ≤ length (now reply)) ⌝ }
+    ensures { λ r. ⌜ ((from ≤ r) × (r ≤ end)) × ((p : ℕ) → from ≤ p → p < r → nameRunFrom page037 (now (reply .entry)) p .count ≡ 0) ⌝ }
+{
+    let mut start = from;
+    while start < end {
+        if may_start(reply, start) {
+            return start;
+        }
+        start += 1;
+    }
+    start
+}
+
 // The first longest run; one without names where there is none.
 pub fn longest_name_run(reply: &[u8]) -> NameRun
     ensures { λ r. ⌜ r ≡ longestNameRun page037 (now (reply .entry)) ⌝ }
@@ -127,11 +156,11 @@ pub fn longest_name_run(reply: &[u8]) -> NameRun
         return best;
     }
     let end = reply.len() - 20;
-    let mut start = 0;
+    let mut start = next_start(reply, 0, end);
     while start < end {
         let run = name_run_from(reply, start);
         best = longer_of(best, run);
-        start += 1;
+        start = next_start(reply, start + 1, end);
     }
     best
 }

@@ -25,18 +25,18 @@ pub struct NamesAnswer {
 }
 
 // Where the names are: the first `count` that a rule lists from a cursor on, or those of a run.
-struct Plan {
-    listed: bool,
-    rule: Rule,
-    cursor: Cursor,
-    run: NameRun,
-    count: usize,
+pub struct Plan {
+    pub listed: bool,
+    pub rule: Rule,
+    pub cursor: Cursor,
+    pub run: NameRun,
+    pub count: usize,
 }
 
 // What is answered, and the plan of the names to write: none where the answer is a refusal.
-struct Decision {
-    plan: Plan,
-    answer: NamesAnswer,
+pub struct Decision {
+    pub plan: Plan,
+    pub answer: NamesAnswer,
 }
 
 fn listed_plan(rule: Rule, cursor: Cursor, count: usize) -> Plan
@@ -95,7 +95,7 @@ fn refused(outcome: Outcome) -> Decision
 }
 
 // Every refusal is decided here, before the list is written.
-fn decide(reply: &[u8], room: usize) -> Decision
+pub fn decide(reply: &[u8], room: usize) -> Decision
     ensures { λ r. ⌜ Decides page037 room (now (reply .entry)) r (nameScan page037 room (now (reply .entry))) ⌝ }
 {
     if reply.len() > 65536 {

@@ -4,12 +4,12 @@ use mathlib.Core.Path.{_≡_, refl, sym, ap, subst, _∙_}
 use mathlib.Core.Bool.{Bool, true, false}
 use mathlib.Core.List.{List, [], _∷_, map}
 use Prim.Native.Nat.{ℕ, _+_, _≤_, _<_}
-use lib.Dec.{ltb, eqb}
+use lib.Dec.{leb, ltb, eqb}
 use lib.ListN.{length}
 use borrow.Author.Tests.{le-leb, lt-leb}
 use Rattle.search.specs.Search.{pick, firstIn}
 use Rattle.search.specs.Walks.{chain}
-use Rattle.search.proofs.Alternatives.{firstIn-view, Each, each-none, each-more, firstIn-all}
+use Rattle.search.proofs.Alternatives.{firstIn-view, Each, each-none, each-more, firstIn-all, undecided, undecided-first, undecided-taken, undecided-next}
 use Rattle.codepage.specs.Page.{Page}
 use Rattle.field.specs.declared.ByteOrder.{ByteOrder}
 use Rattle.field.specs.declared.ByteOrder.the-variants.{BigEndian, LittleEndian}
@@ -25,40 +25,6 @@ use Rattle.scan.specs.Scan.{scanColumns}
 use Rattle.plan.specs.Plan.{walkOf, columnsOf, readingOf, planned, emptyPlan, counted, Counted, standardPlan, compactPlan, scanPlan, lastPlan, plans, planOf}
 use Rattle.plan.proofs.Standards.{standard-walk}
 
--- ---- four alternatives, two tests: a law for each way out
-
-module _ {X : Type 0} (f g : X → Bool) (a b c d l : X) where
-  abbrev chosen : X
-  chosen = firstIn f (a ∷ b ∷ c ∷ d ∷ []) (firstIn g (a ∷ b ∷ c ∷ d ∷ []) l)
-
-  pub choose-a : f a ≡ true → a ≡ chosen
-  choose-a p = rw p refl
-
-  pub choose-b : f a ≡ false → f b ≡ true → b ≡ chosen
-  choose-b p q = rw (p, q) refl
-
-  pub choose-c : f a ≡ false → f b ≡ false → f c ≡ true → c ≡ chosen
-  choose-c p q r = rw (p, q, r) refl
-
-  pub choose-d : f a ≡ false → f b ≡ false → f c ≡ false → f d ≡ true → d ≡ chosen
-  choose-d p q r t = rw (p, q, r, t) refl
-
-  module _ (p : f a ≡ false) (q : f b ≡ false) (r : f c ≡ false) (t : f d ≡ false) where
-    pub choose-some-a : g a ≡ true → a ≡ chosen
-    choose-some-a u = rw (p, q, r, t, u) refl
-
-    pub choose-some-b : g a ≡ false → g b ≡ true → b ≡ chosen
-    choose-some-b u v = rw (p, q, r, t, u, v) refl
-
-    pub choose-some-c : g a ≡ false → g b ≡ false → g c ≡ true → c ≡ chosen
-    choose-some-c u v w = rw (p, q, r, t, u, v, w) refl
-
-    pub choose-some-d : g a ≡ false → g b ≡ false → g c ≡ false → g d ≡ true → d ≡ chosen
-    choose-some-d u v w x = rw (p, q, r, t, u, v, w, x) refl
-
-    pub choose-last : g a ≡ false → g b ≡ false → g c ≡ false → g d ≡ false → l ≡ chosen
-    choose-last u v w x = rw (p, q, r, t, u, v, w, x) refl
-
 -- ---- a plan says what it stands for
 
 module _ (page : Page) (s : List ℕ) where
@@ -66,15 +32,15 @@ module _ (page : Page) (s : List ℕ) where
   unfolding counted columnsOf walkOf
   counted-is p = record { count = refl; named = refl }
 
-  counted-standard : (order : ByteOrder) → Counted page s (standardPlan page order s)
+  pub counted-standard : (order : ByteOrder) → Counted page s (standardPlan page order s)
   unfolding standardPlan
   counted-standard order = counted-is _
 
-  counted-compact : Counted page s (compactPlan page s)
+  pub counted-compact : Counted page s (compactPlan page s)
   unfolding compactPlan
   counted-compact = counted-is _
 
-  counted-scan : Counted page s (scanPlan page s)
+  pub counted-scan : Counted page s (scanPlan page s)
   unfolding scanPlan
   counted-scan = counted-is _
 
@@ -106,115 +72,77 @@ module _ (page : Page) (s : List ℕ) where
 
   -- ---- the tests on a plan's numbers
 
-  module _ (a x : Plan) (e : a ≡ x) (c : Counted page s x) where
-    named-is : a .named ≡ namedIn page s (columnsOf page s x)
-    named-is = ap (λ (p : Plan). p .named) e ∙ c .named
-
-    count-is : a .count ≡ length (columnsOf page s x)
-    count-is = ap (λ (p : Plan). p .count) e ∙ c .count
-
-    named-yes : 1 ≤ a .named → hasNames page s (columnsOf page s x) ≡ true
-    unfolding hasNames
-    named-yes h = rw (← named-is) (le-leb 1 (a .named) h)
-
-    named-no : a .named < 1 → hasNames page s (columnsOf page s x) ≡ false
-    unfolding hasNames
-    named-no h = rw (← named-is) (lt-leb 1 (a .named) h)
-
-    some-yes : 1 ≤ a .count → hasSome (columnsOf page s x) ≡ true
-    unfolding hasSome
-    some-yes h = rw (← count-is) (le-leb 1 (a .count) h)
-
-    some-no : a .count < 1 → hasSome (columnsOf page s x) ≡ false
-    unfolding hasSome
-    some-no h = rw (← count-is) (lt-leb 1 (a .count) h)
-
-  -- ---- the plan, for each way out
-
   abbrev F : Plan → Bool
   F p = hasNames page s (columnsOf page s p)
 
   abbrev G : Plan → Bool
   G p = hasSome (columnsOf page s p)
 
-  abbrev A : Plan
-  A = standardPlan page BigEndian s
-
-  abbrev B : Plan
-  B = compactPlan page s
-
-  abbrev C : Plan
-  C = standardPlan page LittleEndian s
-
-  abbrev D : Plan
-  D = scanPlan page s
-
   abbrev L : Plan
   L = lastPlan page s
 
-  pub plan-a : (a : Plan) → a ≡ A → 1 ≤ a .named → a ≡ planOf page s
-  unfolding planOf
-  plan-a a ea h = ea ∙ choose-a F G A B C D L (named-yes a A ea (counted-standard BigEndian) h)
+  module _ (p : Plan) (c : Counted page s p) where
+    named-yes : 1 ≤ p .named → F p ≡ true
+    unfolding hasNames
+    named-yes h = rw (← c .named) (le-leb 1 (p .named) h)
 
-  module _ (a : Plan) (ea : a ≡ A) (na : a .named < 1) where
-    fa : F A ≡ false
-    fa = named-no a A ea (counted-standard BigEndian) na
+    named-no : p .named < 1 → F p ≡ false
+    unfolding hasNames
+    named-no h = rw (← c .named) (lt-leb 1 (p .named) h)
 
-    pub plan-b : (b : Plan) → b ≡ B → 1 ≤ b .named → b ≡ planOf page s
+    some-is : G p ≡ leb 1 (p .count)
+    unfolding hasSome
+    some-is = rw (← c .count) refl
+
+  -- ---- the plans one after the other: those to come, and the one that is kept for want of a name
+
+  pub record Undecided (kept : Plan) (xs : List Plan) : Type 0 where
+    pub counted : Counted page s kept
+    pub bounded : kept .limit ≤ 65535
+    pub plan : planOf page s ≡ undecided F G L kept xs
+
+  -- those after the first
+  abbrev later : List Plan
+  later = compactPlan page s ∷ standardPlan page LittleEndian s ∷ scanPlan page s ∷ []
+
+  module _ (a : Plan) (e : a ≡ standardPlan page BigEndian s) where
+    counted-first : Counted page s a
+    counted-first = subst (Counted page s) (sym e) (counted-standard BigEndian)
+
+    pub named-first : 1 ≤ a .named → a ≡ planOf page s
     unfolding planOf
-    plan-b b eb h = eb ∙ choose-b F G A B C D L fa (named-yes b B eb counted-compact h)
+    named-first h = rw (← e, named-yes a counted-first h) refl
 
-    module _ (b : Plan) (eb : b ≡ B) (nb : b .named < 1) where
-      fb : F B ≡ false
-      fb = named-no b B eb counted-compact nb
+    pub unnamed-first : a .limit ≤ 65535 → a .named < 1 → Undecided a later
+    unfolding planOf
+    unnamed-first h n = record { counted = counted-first; bounded = h; plan = rw (← e) (undecided-first F G L a later (named-no a counted-first n)) }
 
-      pub plan-c : (c : Plan) → c ≡ C → 1 ≤ c .named → c ≡ planOf page s
-      unfolding planOf
-      plan-c c ec h = ec ∙ choose-c F G A B C D L fa fb (named-yes c C ec (counted-standard LittleEndian) h)
+  -- x, the plan that comes next
+  module _ (kept x y : Plan) (xs : List Plan) (u : Undecided kept (y ∷ xs)) (e : x ≡ y) (c : Counted page s y) where
+    counted-next : Counted page s x
+    counted-next = subst (Counted page s) (sym e) c
 
-      module _ (c : Plan) (ec : c ≡ C) (nc : c .named < 1) where
-        fc : F C ≡ false
-        fc = named-no c C ec (counted-standard LittleEndian) nc
+    plan-next : planOf page s ≡ undecided F G L kept (x ∷ xs)
+    plan-next = rw e (u .plan)
 
-        pub plan-d : (d : Plan) → d ≡ D → 1 ≤ d .named → d ≡ planOf page s
-        unfolding planOf
-        plan-d d ed h = ed ∙ choose-d F G A B C D L fa fb fc (named-yes d D ed counted-scan h)
+    pub named-next : 1 ≤ x .named → x ≡ planOf page s
+    named-next h = sym (plan-next ∙ undecided-taken F G L kept x xs (named-yes x counted-next h))
 
-        module _ (d : Plan) (ed : d ≡ D) (nd : d .named < 1) where
-          fd : F D ≡ false
-          fd = named-no d D ed counted-scan nd
+    pub unnamed-next : x .limit ≤ 65535 → x .named < 1 → (k : Plan) → k ≡ pick (leb 1 (kept .count)) kept x → Undecided k xs
+    unnamed-next h n k d =
+        let z : k ≡ pick (G kept) kept x = d ∙ rw (some-is kept (u .counted)) refl in
+        rw z (go (G kept) (plan-next ∙ undecided-next F G L kept x xs (named-no x counted-next n)))
+      where
+        go : (b : Bool) → planOf page s ≡ undecided F G L (pick b kept x) xs → Undecided (pick b kept x) xs
+        go true q = record { counted = u .counted; bounded = u .bounded; plan = q }
+        go false q = record { counted = counted-next; bounded = h; plan = q }
 
-          pub plan-some-a : 1 ≤ a .count → a ≡ planOf page s
-          unfolding planOf
-          plan-some-a h = ea ∙ choose-some-a F G A B C D L fa fb fc fd (some-yes a A ea (counted-standard BigEndian) h)
+  module _ (kept : Plan) (u : Undecided kept []) where
+    pub some-left : 1 ≤ kept .count → kept ≡ planOf page s
+    some-left h = sym (u .plan ∙ rw (some-is kept (u .counted), le-leb 1 (kept .count) h) refl)
 
-          module _ (ma : a .count < 1) where
-            ga : G A ≡ false
-            ga = some-no a A ea (counted-standard BigEndian) ma
-
-            pub plan-some-b : 1 ≤ b .count → b ≡ planOf page s
-            unfolding planOf
-            plan-some-b h = eb ∙ choose-some-b F G A B C D L fa fb fc fd ga (some-yes b B eb counted-compact h)
-
-            module _ (mb : b .count < 1) where
-              gb : G B ≡ false
-              gb = some-no b B eb counted-compact mb
-
-              pub plan-some-c : 1 ≤ c .count → c ≡ planOf page s
-              unfolding planOf
-              plan-some-c h = ec ∙ choose-some-c F G A B C D L fa fb fc fd ga gb (some-yes c C ec (counted-standard LittleEndian) h)
-
-              module _ (mc : c .count < 1) where
-                gc : G C ≡ false
-                gc = some-no c C ec (counted-standard LittleEndian) mc
-
-                pub plan-some-d : 1 ≤ d .count → d ≡ planOf page s
-                unfolding planOf
-                plan-some-d h = ed ∙ choose-some-d F G A B C D L fa fb fc fd ga gb gc (some-yes d D ed counted-scan h)
-
-                pub plan-last : (l : Plan) → d .count < 1 → l ≡ L → l ≡ planOf page s
-                unfolding planOf
-                plan-last l h el = el ∙ choose-last F G A B C D L fa fb fc fd ga gb gc (some-no d D ed counted-scan h)
+    pub none-left : (l : Plan) → kept .count < 1 → l ≡ L → l ≡ planOf page s
+    none-left l h e = e ∙ sym (u .plan ∙ rw (some-is kept (u .counted), lt-leb 1 (kept .count) h) refl)
 
   -- ---- the plan stands for the reading that is chosen
 

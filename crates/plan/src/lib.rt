@@ -1,7 +1,9 @@
 // Which reading of a reply wins, from where, and how many columns it has: decided before anything is written.
 ghost use mathlib.Core.Path.{_≡_};
 ghost use Prim.Native.Nat.{_+_, _≤_};
+ghost use lib.Dec.{leb};
 ghost use lib.ListN.{length};
+ghost use Rattle.search.specs.Search.{pick};
 ghost use Rattle.codepage.specs.Page.{page037};
 ghost use Rattle.standard.specs.Reading.{countAt};
 ghost use Rattle.scan.specs.Scan.{limitOf};
@@ -195,6 +197,16 @@ fn last_plan(reply: &[u8], offset: usize) -> Plan
     )
 }
 
+// Of two plans the first that has columns, else the second.
+fn first_with_columns(first: Plan, second: Plan) -> Plan
+    ensures { λ r. ⌜ r ≡ pick (leb 1 (first .count)) first second ⌝ }
+{
+    if 1 <= first.count {
+        return first;
+    }
+    second
+}
+
 // The first reading with a name that is not generated, else the first that has columns, else the last reader's.
 pub fn plan_reply(reply: &[u8]) -> Plan
     requires { ⌜ length (now reply) ≤ 65536 ⌝ }
@@ -211,25 +223,19 @@ pub fn plan_reply(reply: &[u8]) -> Plan
     if 1 <= compact.named {
         return compact;
     }
+    let unnamed = first_with_columns(big, compact);
     let little = standard_plan(reply, ByteOrder::LittleEndian, offset);
     if 1 <= little.named {
         return little;
     }
+    let unnamed = first_with_columns(unnamed, little);
     let scan = scan_plan(reply);
     if 1 <= scan.named {
         return scan;
     }
-    if 1 <= big.count {
-        return big;
-    }
-    if 1 <= compact.count {
-        return compact;
-    }
-    if 1 <= little.count {
-        return little;
-    }
-    if 1 <= scan.count {
-        return scan;
+    let unnamed = first_with_columns(unnamed, scan);
+    if 1 <= unnamed.count {
+        return unnamed;
     }
     last_plan(reply, offset)
 }

@@ -1,6 +1,7 @@
 -- The scan: from each start the longest run of standard descriptors, all starts in BE, then all in LE (01, Choice).
-use mathlib.Core.Bool.{Bool, _&&_}
+use mathlib.Core.Bool.{Bool, false, _&&_}
 use mathlib.Core.List.{List}
+use mathlib.Core.Path.{_≡_}
 use Prim.Native.Nat.{ℕ, _-_, _≤_}
 use lib.Dec.{leb}
 use lib.IntN.{ℤ, pos}
@@ -53,3 +54,8 @@ scanColumns page s = chain (standardWalk page (scanBest page s .order) s) (limit
 pub record Few (x : Best) : Type 0 where
   pub named : x .named ≤ x .count
   pub count : x .count ≤ 512
+
+-- what holds of the best run so far: few columns, and a score that is not below 0 (01, Choice: above 0, replaces)
+pub record InHand (x : Best) : Type 0 where
+  pub few : Few x
+  pub score : ltZ (score x) (pos 0) ≡ false

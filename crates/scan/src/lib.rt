@@ -1,11 +1,11 @@
 // The scan for runs of standard descriptors: from each start of the reply, all in big-endian order, then all in little-endian.
 ghost use mathlib.Core.Path.{_≡_};
-ghost use Prim.Native.Nat.{_≤_};
+ghost use Prim.Native.Nat.{_+_, _≤_};
 ghost use lib.ListN.{length};
 ghost use Rattle.search.specs.Walks.{keep};
 ghost use Rattle.codepage.specs.Page.{page037};
 ghost use Rattle.scan.specs.Score.{exactScore};
-ghost use Rattle.scan.specs.Scan.{score, better, runFrom, scanOrder, scanBest, Few};
+ghost use Rattle.scan.specs.Scan.{score, better, runFrom, scanOrder, scanBest, Few, InHand};
 use field::ByteOrder;
 
 // A run: where it starts, its byte order, how many columns it has and how many of them have names that are not generated.
@@ -17,7 +17,7 @@ pub struct Best {
 }
 
 // Exact: the Rust's own subtraction overflows where the generated columns outweigh the named ones.
-fn exact_score(named: usize, columns: usize, generated: usize) -> i64
+pub fn exact_score(named: usize, columns: usize, generated: usize) -> i64
     requires { ⌜ (named ≤ 512) × ((columns ≤ 512) × (generated ≤ 512)) ⌝ }
     ensures { λ r. ⌜ r ≡ exactScore named columns generated ⌝ }
 {
@@ -51,8 +51,8 @@ fn is_better(run: Best, best: Best) -> bool
 
 // Only a strictly greater score replaces.
 fn better_of(best: Best, run: Best) -> Best
-    requires { ⌜ (Few best) × (Few run) ⌝ }
-    ensures { λ r. ⌜ (r ≡ keep better best run) × (Few r) ⌝ }
+    requires { ⌜ (InHand best) × (Few run) ⌝ }
+    ensures { λ r. ⌜ (r ≡ keep better best run) × (InHand r) ⌝ }
 {
     if is_better(run, best) {
         return run;
@@ -73,9 +73,21 @@ fn run_from(reply: &[u8], order: ByteOrder, start: usize) -> Best
     }
 }
 
+// One start more. Most have no known SQLTYPE, so no descriptor can be read there: they are passed over before a run is counted.
+fn best_with_start(reply: &[u8], order: ByteOrder, best: Best, start: usize) -> Best
+    requires { ⌜ start + 16 ≤ length (now reply) ⌝ }
+    requires { ⌜ InHand best ⌝ }
+    ensures { λ r. ⌜ (r ≡ keep better best (runFrom page037 order (now (reply .entry)) start)) × (InHand r) ⌝ }
+{
+    if !types::is_known_sql_type(field::u16_at(reply, start + 12, order)) {
+        return best;
+    }
+    better_of(best, run_from(reply, order, start))
+}
+
 fn scan_order(reply: &[u8], order: ByteOrder, from: Best) -> Best
-    requires { ⌜ Few from ⌝ }
-    ensures { λ r. ⌜ (r ≡ scanOrder page037 order (now (reply .entry)) from) × (Few r) ⌝ }
+    requires { ⌜ InHand from ⌝ }
+    ensures { λ r. ⌜ (r ≡ scanOrder page037 order (now (reply .entry)) from) × (InHand r) ⌝ }
 {
     if reply.len() < 18 {
         return from;
@@ -84,8 +96,7 @@ fn scan_order(reply: &[u8], order: ByteOrder, from: Best) -> Best
     let mut best = from;
     let mut start = 0;
     while start < end {
-        let run = run_from(reply, order, start);
-        best = better_of(best, run);
+        best = best_with_start(reply, order, best, start);
         start += 1;
     }
     best

@@ -27,3 +27,23 @@ firstIn-all P f x (each-more {x = y} {xs = ys} p ps) q = go (f y) p (firstIn-all
     go : (b : Bool) → P y → P (firstIn f ys x) → P (pick b y (firstIn f ys x))
     go true u v = u
     go false u v = v
+
+-- ---- two tests: the first alternative that passes f, else the first that passes g, else l. One is looked at after the other; k is the one that is
+-- kept meanwhile, the first that passed g if there was one, and xs are still to come
+
+module _ {X : Type 0} (f g : X → Bool) (l : X) where
+  abbrev pub undecided : X → List X → X
+  undecided k xs = firstIn f xs (firstIn g (k ∷ xs) l)
+
+  pub undecided-first : (x : X) (xs : List X) → f x ≡ false → firstIn f (x ∷ xs) (firstIn g (x ∷ xs) l) ≡ undecided x xs
+  undecided-first x xs e = rw e refl
+
+  pub undecided-taken : (k x : X) (xs : List X) → f x ≡ true → undecided k (x ∷ xs) ≡ x
+  undecided-taken k x xs e = rw e refl
+
+  pub undecided-next : (k x : X) (xs : List X) → f x ≡ false → undecided k (x ∷ xs) ≡ undecided (pick (g k) k x) xs
+  undecided-next k x xs e = rw e (go (g k) refl)
+    where
+      go : (b : Bool) → g k ≡ b → firstIn f xs (pick b k (firstIn g (x ∷ xs) l)) ≡ undecided (pick b k x) xs
+      go true d = rw d refl
+      go false d = refl

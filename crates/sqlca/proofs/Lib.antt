@@ -2,4 +2,3 @@ pub mod Orders
 pub mod Extended
 pub mod Messages
 pub mod Local
-pub mod Cases

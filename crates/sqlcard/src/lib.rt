@@ -12,6 +12,7 @@ use field::StringRead;
 use outcome::Outcome;
 
 // A message is its raw string's place and length in the reply, 0 and 0 where there is none.
+#[repr(C)]
 pub struct SqlCard {
     pub is_null: bool,
     pub sqlcode: i32,

@@ -1,18 +1,39 @@
 -- Characters told by their bytes: page 037 passes the test for name characters, and what the test gives of any page that passes it.
 -- Assumes nothing.
-use Prim.Native.Nat.{ℕ, _<_}
+use Prim.Native.Nat.{ℕ, _/_, _%_, _^_, _<_, _≤_}
 use mathlib.Core.Path.{_≡_, refl, sym, ap, _∙_}
 use mathlib.Core.List.{List}
 use mathlib.Core.Bool.{Bool, _&&_, _||_}
 use lib.ListN.{getD}
-use lib.Dec.{T, eqb, leb}
-use Rattle.search.specs.Search.{below}
+use lib.Dec.{T, eqb, leb, ltb}
+use borrow.Author.Tests.{lt-ltb, le-ltb}
+use Rattle.search.specs.Search.{pick, below}
 use Rattle.search.proofs.Tests.{agree, agree-same, below-at}
 use Rattle.codepage.specs.Page.{Page, table037, charIn}
 use Rattle.codepage.specs.Blank.{isBlank, isBlankIn}
 use Rattle.text.specs.Chars.{isNameChar, isNameOf, isBlankOf}
 use Rattle.text.specs.Text.{leading, kept}
 use Rattle.text.proofs.Generated.{charOf-page, charOf-other}
+
+-- a bit for each character, 64 to a number: name characters below 128 are those whose bit is set, and there are none above: computed
+abbrev nameBits : ℕ → ℕ
+nameBits c = pick (ltb c 64) 0x03FF_0018_0000_0000 0x07FF_FFFE_87FF_FFFF
+
+abbrev byBits : ℕ → Bool
+byBits c = ltb c 128 && eqb (nameBits c / 2 ^ (c % 64) % 2) 1
+
+names-by-bits : T (below 256 (λ c. agree (byBits c) (isNameChar c)))
+names-by-bits = tt
+
+module _ (c : ℕ) (l : c < 256) where
+  by-bits : byBits c ≡ isNameChar c
+  by-bits = agree-same (byBits c) (isNameChar c) (below-at 256 (λ k. agree (byBits k) (isNameChar k)) names-by-bits c l)
+
+  pub bits-low : c < 64 → (ltb c 128 && eqb (0x03FF_0018_0000_0000 / 2 ^ (c % 64) % 2) 1) ≡ isNameChar c
+  bits-low h = rw (lt-ltb c 64 h) at by-bits
+
+  pub bits-high : 64 ≤ c → (ltb c 128 && eqb (0x07FF_FFFE_87FF_FFFF / 2 ^ (c % 64) % 2) 1) ≡ isNameChar c
+  bits-high h = rw (le-ltb c 64 h) at by-bits
 
 -- the bytes whose characters are name characters, in page 037
 abbrev pub isNameByte : ℕ → Bool

@@ -3,4 +3,3 @@ pub mod Decode
 pub mod Generated
 pub mod Bytes
 pub mod Quick
-pub mod Cases

@@ -1,7 +1,9 @@
 // Texts of a reply: where they lie, and in which alphabet.
+ghost use mathlib.Core.Bool.{_&&_};
 ghost use mathlib.Core.Path.{_≡_};
-ghost use Prim.Native.Nat.{_+_, _<_, _≤_};
+ghost use Prim.Native.Nat.{_+_, _/_, _%_, _^_, _<_, _≤_};
 ghost use lib.ListN.{length};
+ghost use lib.Dec.{ltb, eqb};
 ghost use Rattle.search.specs.Search.{each};
 ghost use Rattle.codepage.specs.Page.{page037};
 ghost use Rattle.text.specs.Chars.{isAscii, isNameChar, chars, isDigitOf, isNameOf, isBlankOf};
@@ -15,16 +17,23 @@ pub struct Text {
     pub alphabet: u8,
 }
 
+// A bit for each of 64 characters, those below 64 or the next: whether it is a name character.
+fn name_bits(character: u8) -> u64
+    ensures { λ r. ⌜ (ltb character 128 && eqb (r / 2 ^ (character % 64) % 2) 1) ≡ isNameChar character ⌝ }
+{
+    if character < 64 {
+        0x03FF_0018_0000_0000
+    } else {
+        0x07FF_FFFE_87FF_FFFF
+    }
+}
+
+// By bits: in a loop over a name, a chain of tests would go now this way, now that.
 fn is_name_char(character: u8) -> bool
     ensures { λ r. ⌜ r ≡ isNameChar character ⌝ }
 {
-    (character >= 0x41) & (character <= 0x5A)
-        | (character >= 0x61) & (character <= 0x7A)
-        | (character >= 0x30) & (character <= 0x39)
-        | (character == 0x5F)
-        | (character == 0x24)
-        | (character == 0x23)
-        | (character == 0x40)
+    let bit = (character % 64) as u64;
+    (character < 128) & ((name_bits(character) >> bit) % 2 == 1)
 }
 
 // This and the tests below tell characters of page 037 by their bytes: naming its table would copy it at each call.

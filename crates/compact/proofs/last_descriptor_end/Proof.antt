@@ -1,12 +1,14 @@
 -- The loop's invariant: the answer is that from i on.
 -- Assumes nothing.
-use Prim.Native.Nat.{_≤_, _-_}
+use Prim.Native.Nat.{_+_, _≤_, _-_}
+use native.Mathlib.Omega.{arith}
 use mathlib.Core.Path.{_≡_, refl, sym, _∙_}
 use borrow.Author.Needs.{needs}
 use Rattle.search.specs.Walks.{first}
 use Rattle.search.proofs.Index.{first-more, first-found, first-done}
 use Rattle.compact.specs.Compact.{ffsHere}
-use Rattle.compact.proofs.Laws.{last-found, last-none}
+use Rattle.compact_table.proofs.Skips.{ff-after}
+use Rattle.compact.proofs.Laws.{last-found, last-none, last-later}
 use Rattle.compact.proofs.last_descriptor_end.Statement.{statement}
 use Rattle.compact.proofs.last_descriptor_end.Tie as tie
 
@@ -25,12 +27,18 @@ returns c =
     let found = first-found _ _ _ _ (turn .before .loop .inv .1) (turn .loop-test .taken) (sym (c .before .ffs-here .ensures) ∙ c .if1 .taken) in
     (last-found _ _ _ found (turn .loop-test .taken), search needs)
 
+loop-less : tie.Need-loop-less Inv-loop μ-loop
+loop-less c =
+    let turn = c .before .before .before in
+    let i = turn .before .loop .i in
+    omega (arith, turn .loop-test .taken, ff-after _ (i + 1) _ _ (omega arith) (c .next-ff .ensures .0))
+
 loop-again : tie.Need-loop-again Inv-loop μ-loop
 loop-again c =
-    let turn = c .before .before in (
-      search needs,
-      first-more _ _ _ _ (turn .before .loop .inv .1) (turn .loop-test .taken) (sym (c .before .ffs-here .ensures) ∙ c .if1 .left),
-    )
+    let turn = c .before .before .before in
+    let more =
+    first-more _ _ _ _ (turn .before .loop .inv .1) (turn .loop-test .taken) (sym (c .before .before .ffs-here .ensures) ∙ c .before .if1 .left) in
+    (c .next-ff .ensures .1, last-later _ _ _ _ _ (omega arith) (c .next-ff .ensures .0) more)
 
 returns-2 : tie.Need-returns-2 Inv-loop μ-loop
 returns-2 c = (last-none _ _ _ (first-done _ _ _ _ (c .before .loop .inv .1) (c .loop-test .left)) (c .loop-test .left), search needs)
@@ -48,5 +56,6 @@ last-descriptor-end-spec =
     returns
     (search needs)
     (search needs)
+    loop-less
     loop-again
     returns-2)

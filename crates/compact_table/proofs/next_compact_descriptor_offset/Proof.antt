@@ -2,12 +2,14 @@
 -- Assumes nothing.
 use Prim.Native.Nat.{_+_, _≤_, _-_}
 use mathlib.Core.Path.{_≡_, refl, sym, _∙_}
+use native.Mathlib.Omega.{arith}
 use lib.ListN.{length}
 use borrow.Author.Needs.{needs}
 use Rattle.search.specs.Walks.{first}
 use Rattle.search.proofs.Index.{first-more, first-found, first-done}
 use Rattle.compact_table.specs.Table.{nextHere}
 use Rattle.compact_table.proofs.Laws.{next-is}
+use Rattle.compact_table.proofs.Skips.{ff-after, next-later}
 use Rattle.compact_table.proofs.next_compact_descriptor_offset.Statement.{statement}
 use Rattle.compact_table.proofs.next_compact_descriptor_offset.Tie as tie
 
@@ -25,12 +27,18 @@ returns c =
     let turn = c .before .before in
     next-is _ _ _ (first-found _ _ _ _ (turn .before .loop .inv .1) (turn .loop-test .taken) (sym (c .before .next-here .ensures) ∙ c .if1 .taken))
 
+loop-less : tie.Need-loop-less Inv-loop μ-loop
+loop-less c =
+    let turn = c .before .before .before in
+    let i = turn .before .loop .i in
+    omega (arith, turn .loop-test .taken, ff-after _ (i + 1) _ _ (omega arith) (c .next-ff .ensures .0))
+
 loop-again : tie.Need-loop-again Inv-loop μ-loop
 loop-again c =
-    let turn = c .before .before in (
-      search needs,
-      first-more _ _ _ _ (turn .before .loop .inv .1) (turn .loop-test .taken) (sym (c .before .next-here .ensures) ∙ c .if1 .left),
-    )
+    let turn = c .before .before .before in
+    let more =
+    first-more _ _ _ _ (turn .before .loop .inv .1) (turn .loop-test .taken) (sym (c .before .before .next-here .ensures) ∙ c .before .if1 .left) in
+    (c .next-ff .ensures .1, next-later _ _ _ _ _ (omega arith) (c .next-ff .ensures .0) more)
 
 returns-2 : tie.Need-returns-2 Inv-loop μ-loop
 returns-2 c = next-is _ _ _ (first-done _ _ _ _ (c .before .loop .inv .1) (c .loop-test .left))
@@ -48,6 +56,7 @@ next-compact-descriptor-offset-spec =
     returns
     (search needs)
     (search needs)
+    loop-less
     loop-again
     (search needs)
     returns-2)

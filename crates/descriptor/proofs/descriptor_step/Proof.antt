@@ -21,14 +21,14 @@ returns-3 c =
     let options = c .before .before .before in
     let known = options .before .before in
     step-cut _ _ _ (omega (arith, known .before .before .if1 .left)) _ (known .before .u16-at .ensures) _ (known .is-known-sql-type .ensures)
-    (not-false _ (options .before .if2 .left)) _ (options .read-sqldoptgrp .ensures) _ (c .no-step3 .ensures) (c .before .if3 .taken)
+    (not-false _ (options .before .if2 .left)) _ (options .sqldoptgrp-step .ensures) _ (c .no-step3 .ensures) (c .before .if3 .taken)
 
 returns-4 : tie.Need-returns-4
 returns-4 c =
-    let options = c .before .before .before in
+    let options = c .before .before in
     let known = options .before .before in
     step-read _ _ _ (omega (arith, known .before .before .if1 .left)) _ (known .before .u16-at .ensures) _ (known .is-known-sql-type .ensures)
-    (not-false _ (options .before .if2 .left)) _ (options .read-sqldoptgrp .ensures) (c .before .if3 .left)
+    (not-false _ (options .before .if2 .left)) _ (options .sqldoptgrp-step .ensures) (c .if3 .left)
 
 pub descriptor-step-spec : {M : Type 1} → statement M
 descriptor-step-spec =

@@ -15,12 +15,10 @@ returns-3 : tie.Need-returns-3
 returns-3 c =
     let extension = c .before .before .before in
     let udt = extension .before in
-    let comments = udt .before in
-    let label = comments .before in
-    let name = label .before in
-    opt-held _ _ _ _ _ _ _ _ (name .before .before .before .if1 .left) (name .before .if2 .left)
-    (name .read-pair .ensures) (label .read-pair2 .ensures) (comments .skip-strings .ensures) (udt .skip-sqludtgrp .ensures)
-    (extension .read-sqldxgrp .ensures) (c .choose .ensures)
+    let names = udt .before .before .before in
+    let read = names .read-names .ensures in
+    opt-held _ _ _ _ _ _ _ _ (names .before .before .before .if1 .left) (names .before .if2 .left)
+    (read .name) (read .label) (read .next) (udt .skip-sqludtgrp .ensures) (extension .read-sqldxgrp .ensures) (c .choose .ensures)
 
 pub read-sqldoptgrp-spec : {M : Type 1} → statement M
 read-sqldoptgrp-spec =
@@ -32,8 +30,6 @@ read-sqldoptgrp-spec =
     (search needs)
     (search needs)
     returns-2
-    (search needs)
-    (search needs)
     (search needs)
     (search needs)
     (search needs)

@@ -19,7 +19,7 @@ loop-holds : tie.Need-loop-holds Inv-loop μ-loop
 loop-holds c = let pre = c .before .pre in filling-none _ _ _ _ _ (pre .0) (pre .1 .0)
 
 next-listed-requires : tie.Need-next-listed-requires Inv-loop μ-loop
-next-listed-requires c κs = c .before .loop .inv .within
+next-listed-requires c κs = c .before .loop .inv .remaining .within
 
 mul-text : tie.Need-mul-text Inv-loop μ-loop
 mul-text c =

@@ -2,18 +2,19 @@
 -- Assumes nothing.
 use mathlib.Core.Path.{_≡_, refl}
 use Prim.Native.Nat.{_≤_, _-_}
+use native.Mathlib.Omega.{arith}
 use borrow.Author.Needs.{needs}
 use Rattle.search.specs.Walks.{best}
 use Rattle.search.proofs.Best.{best-more, best-done}
 use Rattle.codepage.specs.Page.{page037}
-use Rattle.scan.specs.Scan.{Few, better, runFrom, scanOrder}
+use Rattle.scan.specs.Scan.{InHand, better, runFrom, scanOrder}
 use Rattle.scan.proofs.Scans.{scan-short}
 use Rattle.scan.proofs.scan_order.Statement.{statement}
 use Rattle.scan.proofs.scan_order.Tie as tie
 
 abbrev Inv-loop : tie.InvT-loop
 Inv-loop reply order end best₀ start₀ run start =
-    (start ≤ end) × (Few run) × (scanOrder page037 order reply best₀ ≡ best better (runFrom page037 order reply) start end run)
+    (start ≤ end) × (InHand run) × (scanOrder page037 order reply best₀ ≡ best better (runFrom page037 order reply) start end run)
 
 abbrev μ-loop : tie.MeasureT-loop
 μ-loop reply order end best₀ start₀ run start = end - start
@@ -25,15 +26,15 @@ loop-holds : tie.Need-loop-holds Inv-loop μ-loop
 unfolding scanOrder
 loop-holds c = (search needs, c .before .before .pre, refl)
 
-better-of-requires : tie.Need-better-of-requires Inv-loop μ-loop
-better-of-requires c κs = (c .before .before .loop .inv .1, c .run-from .ensures .1)
+best-with-start-requires : tie.Need-best-with-start-requires Inv-loop μ-loop
+best-with-start-requires c κs = (omega (arith, c .loop-test .taken, c .before .before .if1 .left), c .before .loop .inv .1)
 
 loop-again : tie.Need-loop-again Inv-loop μ-loop
 loop-again c =
-    let loop = c .before .before .before .loop in (
+    let loop = c .before .before .loop in (
       search needs,
-      c .better-of .ensures .1,
-      best-more _ _ _ _ _ _ (loop .inv .2) _ _ (c .before .before .loop-test .taken) (c .before .run-from .ensures .0) (c .better-of .ensures .0),
+      c .best-with-start .ensures .1,
+      best-more _ _ _ _ _ _ (loop .inv .2) _ _ (c .before .loop-test .taken) refl (c .best-with-start .ensures .0),
     )
 
 returns-2 : tie.Need-returns-2 Inv-loop μ-loop
@@ -48,8 +49,7 @@ scan-order-spec =
     returns
     (search needs)
     loop-holds
-    (search needs)
-    better-of-requires
+    best-with-start-requires
     (search needs)
     (search needs)
     loop-again
