@@ -1,12 +1,12 @@
-"""What tests/differential and tests/exchanges share: the programs, their cases and their lines."""
+"""The programs that tests ask: where they are, their cases, and the lines they answer."""
 import argparse
 import os
 import pathlib
-import re
 import signal
 import struct
 import subprocess
 import sys
+import tempfile
 import threading
 
 TOP = pathlib.Path(__file__).resolve().parent.parent
@@ -15,8 +15,8 @@ GENERATE = TOP / 'target' / 'oracle' / 'generate'
 ORACLE = TOP / 'target' / 'oracle' / 'oracle'
 EXACT = TOP / 'target' / 'oracle' / 'oracle-exact'
 OPEN = TOP / 'target' / 'oracle' / 'oracle-open'
-ANSWERS = TOP / 'target' / 'bin' / 'answers'
-LINE_SHOWN = 400  # characters
+ANSWERS = TOP / 'target' / 'bin' / 'answers'  # --answers puts another in its place
+MOST_FAILURES = 5  # how often a program may fail before it is asked no more
 
 
 def stop(reason):
@@ -35,22 +35,23 @@ def whole(text):
 def at_least_one(text):
     value = whole(text)
     if value == 0:
-        raise argparse.ArgumentTypeError('none, nothing compared')
+        raise argparse.ArgumentTypeError('0 is not enough')
     return value
 
 
-def parser(name, text, options, count):
-    """Reads --source, --progress, SEED and COUNT; -h prints `text`."""
+def parser(text, count, *options):
+    """Reads SEED, COUNT, --source and these options besides; -h prints `text`."""
+    name = f'tests/{pathlib.Path(sys.argv[0]).name}'
+    usage = next(line for line in text.splitlines() if line.startswith('    tests/'))
     made = argparse.ArgumentParser(
-        prog=f'tests/{name}', description=text, add_help=False,
-        usage=f'%(prog)s [--source SOURCE] {options}[--progress] [SEED [COUNT]]',
+        prog=name, description=text, add_help=False, usage=usage.strip(),
         formatter_class=argparse.RawDescriptionHelpFormatter)
-    made.add_argument('seed', nargs='?', type=whole, default=1, help=argparse.SUPPRESS)
-    made.add_argument('count', nargs='?', type=at_least_one, default=count,
-                      help=argparse.SUPPRESS)
-    made.add_argument('--source', help=argparse.SUPPRESS)
-    made.add_argument('--progress', action='store_true', help=argparse.SUPPRESS)
-    made.add_argument('-h', '--help', action='store_true', help=argparse.SUPPRESS)
+    made.add_argument('seed', nargs='?', type=whole, default=1)
+    made.add_argument('count', nargs='?', type=at_least_one, default=count)
+    made.add_argument('--source')
+    made.add_argument('-h', '--help', action='store_true')
+    for option, how in options:
+        made.add_argument(option, **how)
     return made
 
 
@@ -62,22 +63,34 @@ def parse(made):
     return given
 
 
-def prepare(given, *options):
-    """The oracle is built and `answers` is there."""
-    source = [] if given.source is None else [given.source]
-    built = subprocess.run([BUILD, '--if-needed', *options, *source], stdout=sys.stderr)
+def build_oracle(source, *options):
+    """Builds the oracle where that is needed."""
+    built = subprocess.run([BUILD, '--if-needed', *options, *([source] if source else [])],
+                           stdout=sys.stderr)
     if built.returncode != 0:
         stop('tests/oracle/build failed; --source names the folder that holds the Rust')
+
+
+def take_answers(program=None):
+    """`answers`, or the program that stands in for it, is there."""
+    global ANSWERS
+    if program is not None:
+        ANSWERS = pathlib.Path(program).resolve()
     if not os.access(ANSWERS, os.X_OK):
-        stop("target/bin/answers is not there; 'rt check answers' makes it")
+        stop(f"{shown(ANSWERS)} is not there; 'rt check answers' makes target/bin/answers")
+
+
+def shown(program):
+    """A program's path as it is typed at the top of the repository."""
+    return str(program.relative_to(TOP) if program.is_relative_to(TOP) else program)
 
 
 def generated(arguments):
-    """The stream of cases that the generator writes for these arguments."""
+    """The cases that the generator writes for these arguments."""
     made = subprocess.run([GENERATE, *arguments], capture_output=True)
     if made.returncode != 0:
         stop(made.stderr.decode().strip())
-    return made.stdout
+    return frames(made.stdout)
 
 
 def framed(entry, payload):
@@ -88,169 +101,83 @@ def frames(stream):
     """The cases of a stream, each with its five bytes in front."""
     cases, at = [], 0
     while at < len(stream):
-        end = at + 5 + struct.unpack_from('>I', stream, at + 1)[0]
+        end = at + 5 + int.from_bytes(stream[at + 1:at + 5], 'big')
         cases.append(stream[at:end])
         at = end
     return cases
 
 
-class Asked:
-    """A program that is being asked a stream of cases; its lines are read one by one."""
+class Failure(str):
+    """Stands for a line that a program did not write: says how it ended instead."""
 
-    def __init__(self, program, stream):
-        self.program = subprocess.Popen([program], stdin=subprocess.PIPE, stdout=subprocess.PIPE)
-        self.line = self.program.stdout.readline
-        self.feeder = threading.Thread(target=self.feed, args=(stream,), daemon=True)
-        self.feeder.start()
 
-    def feed(self, stream):
+def written(program, cases, limit):
+    """All that a program writes for these cases, and its exit status, None where time was over."""
+    with tempfile.TemporaryFile() as given, tempfile.TemporaryFile() as wrote:
+        given.write(b''.join(cases))
+        given.seek(0)
+        asked = subprocess.Popen([program], stdin=given, stdout=wrote)
+        over = threading.Event()
+        timer = threading.Timer(limit, lambda: (over.set(), asked.kill()))
+        timer.daemon = True
+        timer.start()
         try:
-            self.program.stdin.write(stream)
-            self.program.stdin.close()
-        except OSError:
-            pass  # it ended before its cases did, which is seen from its lines
-
-    def __enter__(self):
-        return self
-
-    def __exit__(self, *_):
-        self.program.kill()
-        self.program.wait()
-        self.feeder.join()
-        self.program.stdout.close()
-
-    def lines(self, count):
-        """Its next lines, fewer than `count` if it ends early."""
-        lines = []
-        while len(lines) < count and (line := self.line()).endswith(b'\n'):
-            lines.append(line)
-            if line == b'BAD\n':  # a program's last line
-                break
-        return lines
-
-    def ending(self):
-        """How the program ended, once it has no more lines; it should do so at once."""
-        try:
-            status = self.program.wait(timeout=10)
-        except subprocess.TimeoutExpired:
-            return 'not at all'
-        return f'signal {signal.Signals(-status).name}' if status < 0 else f'status {status}'
+            status = asked.wait()
+        finally:
+            timer.cancel()
+            asked.kill()
+            asked.wait()
+        wrote.seek(0)
+        return wrote.read(), None if over.is_set() else status
 
 
-def exact_lines(cases):
-    """What the Rust answers to these cases with the scan's score exact."""
-    if not cases:
-        return []
-    with Asked(EXACT, b''.join(cases)) as exact:
-        lines = exact.lines(len(cases))
-        if len(lines) < len(cases) or b'BAD\n' in lines:
-            stop(f'oracle-exact did not answer every case ({exact.ending()})')
-    return lines
+def ask(program, cases, limit):
+    """A program's lines, up to a line BAD, and how it failed: None if it did not.
 
-
-def columns_of(line):
-    """A line of D before its columns, and the words of each column."""
-    head, *columns = line.decode().rstrip('\n').split(' C ')
-    return head, [column.split(' ') for column in columns]
-
-
-def is_generated(name):
-    """Whether a name, in hex, is COL and digits."""
-    return re.fullmatch(rb'COL[0-9]+', bytes.fromhex(name)) is not None
-
-
-def wrong_place(reply, description, places):
-    """Why a line of d does not fit the line that D gives for the same reply; None if it does.
-
-    A text has to stand at its place in its alphabet: the bytes there, decoded, are the text that
-    D prints. Whether the Rust read it from that place is more than its answer tells.
+    A program that fails has not written all lines that it made: the case at which it did is among
+    those that have none.
     """
-    if not description.startswith(b'OK '):
-        return None if places == description else 'refused otherwise'
-    head, columns = columns_of(description)
-    words = places.decode().rstrip('\n').split(' ')
-    if words[:2] != head.split(' ')[:2]:
-        return 'another count'
-    if len(words) != 2 + 4 * len(columns):
-        return 'not four texts for each column'
-    for column, texts in zip(columns, zip(*[iter(words[2:])] * 4)):
-        number, name, base, schema, label = [column[at] for at in (0, 1, 10, 11, 12)]
-        for what, text, place in zip(('name', 'label', 'base table', 'schema'),
-                                     (name, label, base, schema), texts):
-            if place == '0/0/0' and what == 'name':
-                fits = text == f'COL{int(number) + 1}'.encode().hex()
-            else:
-                fits = stands(reply, text, place)
-            if not fits:
-                return f'the {what} of column {number} is not at {place}'
-    return None
+    output, status = written(program, cases, limit)
+    *lines, rest = output.split(b'\n')
+    if lines and lines[-1] == b'BAD' and not rest and len(lines) <= len(cases):
+        return lines, None  # a program's last line; its status then is its own affair
+    if status is None:
+        return lines, Failure(f'no line within {limit:g} seconds')
+    if status < 0:
+        return lines, Failure(f'ended by signal {signal.Signals(-status).name}')
+    if status > 0:
+        return lines, Failure(f'ended with status {status}')
+    if len(lines) > len(cases) or rest:
+        return [], Failure('wrote more than a line for each case')
+    if len(lines) < len(cases):
+        return lines, Failure('ended without a line')
+    return lines, None
 
 
-def named_cases(reply, description, places):
-    """Cases of T and U for the columns of a list, by its lines of D and d, and their answers.
+def alone(program, cases, limit, failure):
+    """Lines of these cases, asked one by one, up to one at which the program fails."""
+    answers = []
+    for case in cases:
+        lines, fails = ask(program, [case], limit / 4)
+        if fails:
+            return [*answers, fails]
+        answers += lines
+    # None of them fails alone: the first that had no line stands for all.
+    return [Failure(f'{failure}, though not on this case alone')] + answers[1:]
 
-    T has to give the name that D prints, U the place that d prints. Each is asked with just the
-    room that the name takes, and every other one with a byte less.
+
+def answered(program, cases, limit):
+    """For each case the program's line, or the Failure there.
+
+    After a failure it is asked the cases behind; after MOST_FAILURES there is None for the others.
     """
-    words = places.decode().rstrip('\n').split(' ')[2:]
-    for column, place in zip(columns_of(description)[1], words[::4]):
-        number, name = int(column[0]), column[1]
-        start, length, alphabet = map(int, place.split('/'))
-        head = struct.pack('>HIIB', number, start, length, alphabet)
-        needed = 0 if name == '-' else len(name) // 2
-        short = number % 2 == 1 and needed > 0
-        answer = f'E6 {needed}' if short else f'OK {name}'
-        yield (framed('T', head + struct.pack('>H', needed - short) + reply), answer)
-        part = f'{start}/{length}' if alphabet > 0 and length > 0 else '0/0'
-        yield framed('U', head + reply), f'OK {part}'
-
-
-def stands(reply, text, place):
-    """Whether a text, in hex, stands at place/length/alphabet; an empty one is 0/0/1."""
-    if text == '-':
-        return place == '0/0/1'
-    if not re.fullmatch(r'[0-9]+/[0-9]+/[12]', place):
-        return False
-    start, length, alphabet = map(int, place.split('/'))
-    if start + length > len(reply):
-        return False
-    part = reply[start:start + length]
-    if part.isascii() != (alphabet == 1):
-        return False
-    decoded = part if alphabet == 1 else part.decode('cp037').encode('latin-1')
-    return decoded.hex() == text
-
-
-class Progress:
-    """Progress on standard error, and reports that do not run into it."""
-
-    def __init__(self, name, always):
-        self.name = name
-        self.terminal = sys.stderr.isatty()
-        self.tells = self.terminal or always
-
-    def tell(self, text):
-        if self.terminal:
-            print(f'\r\033[K{text}', end='', file=sys.stderr, flush=True)
-        elif self.tells:
-            print(f'{self.name}: {text}', file=sys.stderr, flush=True)
-
-    def clear(self):
-        if self.terminal:
-            print('\r\033[K', end='', file=sys.stderr, flush=True)
-
-    def say(self, text):
-        self.clear()
-        print(text, flush=True)
-
-
-def excerpt(line, first):
-    """A long line only about the first character in which it differs."""
-    if not line:
-        return 'no line'
-    if len(line) <= LINE_SHOWN:
-        return line
-    start = max(0, first - LINE_SHOWN // 4)
-    end = start + LINE_SHOWN
-    return (f'{".." if start else ""}{line[start:end]}{".." if end < len(line) else ""}'
-            f' ({len(line):,} characters, these from {start} on)')
+    answers, failures = [], 0
+    while len(answers) < len(cases) and failures < MOST_FAILURES:
+        rest = cases[len(answers):]
+        lines, failure = ask(program, rest, limit)
+        if failure:
+            failures += 1
+            lines = lines[:len(rest) - 1]
+            lines += alone(program, rest[len(lines):], limit, failure)
+        answers += lines
+    return answers + [None] * (len(cases) - len(answers))
