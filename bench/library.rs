@@ -1,22 +1,13 @@
-//! The functions of Jigshard's static library that are measured, as C functions and as Rust's.
+//! The functions of Jigshard's static library that are measured: those of the Rust package, over what is lent once.
 
-/// A column's record is 22 words, a text's 3.
-pub const COLUMN_WORDS: usize = 22;
-pub const TEXT_WORDS: usize = 3;
+use crate::sys;
+pub use crate::sys::{Refusal, COLUMN_WORDS, TEXT_WORDS};
 
 /// The most columns that a reply of 65,536 bytes can have, and more names than it can have.
 const COLUMNS: usize = 4_096;
 const NAMES: usize = 16_384;
 
-#[derive(Clone, Copy)]
-#[repr(C)]
-pub struct Refusal {
-    pub number: u8,
-    pub count: u8,
-    pub first: usize,
-    pub second: usize,
-}
-
+/// The status record, as the package's `SqlCard` has it.
 #[derive(Clone, Copy)]
 #[repr(C)]
 pub struct SqlCard {
@@ -33,91 +24,16 @@ pub struct SqlCard {
     pub message_length: usize,
 }
 
+/// A text's alphabet, as the package's own.
 #[derive(Clone, Copy)]
-#[repr(C)]
-pub struct SqldardResult {
-    pub refusal: Refusal,
-    pub card: SqlCard,
-    pub count: usize,
-}
+pub struct Alphabet(pub u8);
 
+/// A text's place, length and alphabet.
 #[derive(Clone, Copy)]
-#[repr(C)]
-pub struct SqlcardResult {
-    pub refusal: Refusal,
-    pub card: SqlCard,
-}
-
-#[derive(Clone, Copy)]
-#[repr(C)]
-pub struct GroupResult {
-    pub refusal: Refusal,
-    pub card: SqlCard,
-    pub length: usize,
-}
-
-#[derive(Clone, Copy)]
-#[repr(C)]
-pub struct CountResult {
-    pub refusal: Refusal,
-    pub count: usize,
-}
-
-#[derive(Clone, Copy)]
-#[repr(C)]
-pub struct PartResult {
-    pub refusal: Refusal,
+pub struct Text {
     pub place: usize,
     pub length: usize,
-}
-
-extern "C" {
-    fn jigshard_parse_sqldard_data(
-        reply: *const u8,
-        size: usize,
-        columns: *mut u64,
-        words: usize,
-    ) -> SqldardResult;
-    fn jigshard_parse_sqldard(
-        code_point: u16,
-        reply: *const u8,
-        size: usize,
-        columns: *mut u64,
-        words: usize,
-    ) -> SqldardResult;
-    fn jigshard_parse_sqlcard_data(reply: *const u8, size: usize) -> SqlcardResult;
-    fn jigshard_consume_sqlca_group(reply: *const u8, size: usize) -> GroupResult;
-    fn jigshard_scan_column_names(
-        reply: *const u8,
-        size: usize,
-        names: *mut u64,
-        words: usize,
-    ) -> CountResult;
-    fn jigshard_name_part(
-        reply: *const u8,
-        size: usize,
-        place: usize,
-        length: usize,
-        alphabet: u8,
-    ) -> PartResult;
-    fn jigshard_name_text(
-        reply: *const u8,
-        size: usize,
-        number: u16,
-        place: usize,
-        length: usize,
-        alphabet: u8,
-        buffer: *mut u8,
-        room: usize,
-    ) -> CountResult;
-    fn jigshard_message_text(
-        reply: *const u8,
-        size: usize,
-        place: usize,
-        length: usize,
-        buffer: *mut u8,
-        room: usize,
-    ) -> CountResult;
+    pub alphabet: Alphabet,
 }
 
 /// What is lent to the library, once for all calls.
@@ -137,70 +53,34 @@ impl Room {
     }
 }
 
-// Sound: each slice goes as its pointer and its length, and the library keeps none of them.
-
-pub fn parse_sqldard_data(reply: &[u8], room: &mut Room) -> SqldardResult {
-    let columns = &mut room.columns;
-    unsafe {
-        jigshard_parse_sqldard_data(
-            reply.as_ptr(),
-            reply.len(),
-            columns.as_mut_ptr(),
-            columns.len(),
-        )
-    }
+pub fn parse_sqldard_data(reply: &[u8], room: &mut Room) -> sys::SqldardResult {
+    sys::parse_sqldard_data(reply, &mut room.columns)
 }
 
-pub fn parse_sqlcard_data(reply: &[u8]) -> SqlcardResult {
-    unsafe { jigshard_parse_sqlcard_data(reply.as_ptr(), reply.len()) }
+pub fn parse_sqldard(code_point: u16, reply: &[u8], room: &mut Room) -> sys::SqldardResult {
+    sys::parse_sqldard(code_point, reply, &mut room.columns)
 }
 
-pub fn consume_sqlca_group(reply: &[u8]) -> GroupResult {
-    unsafe { jigshard_consume_sqlca_group(reply.as_ptr(), reply.len()) }
+pub fn parse_sqlcard_data(reply: &[u8]) -> sys::SqlcardResult {
+    sys::parse_sqlcard_data(reply)
 }
 
-pub fn scan_column_names(reply: &[u8], room: &mut Room) -> CountResult {
-    let names = &mut room.names;
-    unsafe {
-        jigshard_scan_column_names(reply.as_ptr(), reply.len(), names.as_mut_ptr(), names.len())
-    }
+pub fn consume_sqlca_group(reply: &[u8]) -> sys::GroupResult {
+    sys::consume_sqlca_group(reply)
 }
 
-pub fn parse_sqldard(code_point: u16, reply: &[u8], room: &mut Room) -> SqldardResult {
-    let columns = &mut room.columns;
-    let (words, count) = (columns.as_mut_ptr(), columns.len());
-    unsafe { jigshard_parse_sqldard(code_point, reply.as_ptr(), reply.len(), words, count) }
+pub fn scan_column_names(reply: &[u8], room: &mut Room) -> sys::CountResult {
+    sys::scan_column_names(reply, &mut room.names)
 }
 
-/// A text's place, length and alphabet.
-#[derive(Clone, Copy)]
-pub struct Text {
-    pub place: usize,
-    pub length: usize,
-    pub alphabet: u8,
+pub fn name_part(reply: &[u8], name: Text) -> sys::PartResult {
+    sys::name_part(reply, name)
 }
 
-pub fn name_part(reply: &[u8], name: Text) -> PartResult {
-    let Text {
-        place,
-        length,
-        alphabet,
-    } = name;
-    unsafe { jigshard_name_part(reply.as_ptr(), reply.len(), place, length, alphabet) }
+pub fn name_text(reply: &[u8], number: u16, name: Text, room: &mut Room) -> sys::CountResult {
+    sys::name_text(reply, number, name, &mut room.text)
 }
 
-pub fn name_text(reply: &[u8], number: u16, name: Text, room: &mut Room) -> CountResult {
-    let Text {
-        place,
-        length,
-        alphabet,
-    } = name;
-    let (start, size) = (reply.as_ptr(), reply.len());
-    let (buffer, lent) = (room.text.as_mut_ptr(), room.text.len());
-    unsafe { jigshard_name_text(start, size, number, place, length, alphabet, buffer, lent) }
-}
-
-pub fn message_text(reply: &[u8], place: usize, length: usize, room: &mut Room) -> CountResult {
-    let (buffer, lent) = (room.text.as_mut_ptr(), room.text.len());
-    unsafe { jigshard_message_text(reply.as_ptr(), reply.len(), place, length, buffer, lent) }
+pub fn message_text(reply: &[u8], place: usize, length: usize, room: &mut Room) -> sys::CountResult {
+    sys::message_text(reply, place, length, &mut room.text)
 }

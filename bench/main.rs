@@ -11,6 +11,12 @@ mod answers;
 mod inputs;
 mod library;
 mod stack;
+/// The library's functions are declared once, in the Rust package.
+#[allow(dead_code)]
+#[path = "../bindings/rust/src/sys.rs"]
+mod sys;
+
+pub use library::{SqlCard, Text};
 
 use inputs::{Class, Input};
 use std::fs;

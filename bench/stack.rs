@@ -2,7 +2,7 @@
 //! one byte before, and the lowest byte that is another afterwards tells.
 
 use crate::inputs::Input;
-use crate::library::{self, Room, Text};
+use crate::library::{self, Alphabet, Room, Text};
 use std::ffi::{c_int, c_void};
 use std::hint::black_box;
 use std::ptr;
@@ -64,7 +64,7 @@ fn whole(reply: &[u8]) -> Text {
     Text {
         place: 0,
         length: reply.len(),
-        alphabet: 2,
+        alphabet: Alphabet(2),
     }
 }
 
