@@ -336,7 +336,7 @@ def skeleton(crate, path, tie, own):
     at = 'Rattle.%s.proofs.%s' % (crate, path)
     loops = re.findall(r'^abbrev pub InvT-([\w-]+)', tie, re.M)
     needs = re.findall(r'^abbrev pub (Need-([\w-]+)) : (.*)$', tie, re.M)
-    out = ['-- Assumes nothing.', 'mod Lts', 'mod Tie', 'use native.Mathlib.Omega.{arith}', 'use borrow.Author.Needs.{needs}',
+    out = ['mod Lts', 'mod Tie', 'use native.Mathlib.Omega.{arith}', 'use borrow.Author.Needs.{needs}',
            'use %s.Statement.{statement}' % at, 'use %s.Proof.Tie as tie' % at, 'use %s.Proof.Lts as lts' % at, 'use %s as reads' % own]
     out += ['use %s as %s-reads' % (x, x.split('.')[-2].replace('_', '-')) for x in re.findall(r'^use (\S+\.Reads)\b', tie, re.M) if x != own]
     for loop in loops:

@@ -1,5 +1,4 @@
 -- The candidate at a position: a law for each way out of its reader.
--- Assumes nothing.
 use mathlib.Core.Path.{_≡_, refl, sym, ap, _∙_, subst}
 use mathlib.Core.Bool.{Bool, true, false, not, _&&_, and-eq-true-iff}
 use mathlib.Core.List.{List}

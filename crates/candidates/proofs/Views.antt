@@ -1,5 +1,4 @@
 -- Candidates one by one: the next one heads those from a position on, so a view that goes one on shows the rest.
--- Assumes nothing.
 use mathlib.Core.Path.{_≡_, refl, sym, ap, _∙_}
 use mathlib.Core.Bool.{Bool, true, false, not, and-eq-true-iff}
 use mathlib.Core.List.{List, [], _∷_}

@@ -1,5 +1,4 @@
 -- Document 01's lettered cases by computation, a step for each letter.
--- Assumes nothing.
 use mathlib.Core.Path.{_≡_, refl}
 use mathlib.Core.List.{[], _∷_}
 use Rattle.codepage.specs.Page.{page037}

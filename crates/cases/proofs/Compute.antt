@@ -1,5 +1,4 @@
 -- The definitions that a proof by computation has to unfold.
--- Assumes nothing.
 use Rattle.search.specs.Walks.{firstOf, first, keep, bestOf, best, chain}
 use Rattle.codepage.specs.Page.{table037}
 use Rattle.codepage.specs.Blank.{isBlankIn}

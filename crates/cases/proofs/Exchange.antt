@@ -1,5 +1,4 @@
 -- The exchange theorem, and the laws of cuts and rows, at document 01's replies: A's column exchanged for B's, and for one with another name.
--- Assumes nothing.
 use mathlib.Core.Path.{_≡_, refl, sym, ap, _∙_}
 use mathlib.Core.Bool.{true, false}
 use mathlib.Core.List.{List, [], _∷_, _++_}

@@ -1,5 +1,4 @@
 -- The wrong readers of document 01 ("What each entry owes" (c)): what the definition of the description entry says of each.
--- Assumes nothing.
 use mathlib.Core.Path.{_≡_, refl, ap}
 use mathlib.Core.List.{List, [], _∷_, _++_, map}
 use Prim.Native.Nat.{ℕ, suc}

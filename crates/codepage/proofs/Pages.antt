@@ -1,6 +1,5 @@
 -- Page 037 passes two tests, computed over its table: it is a rearrangement, and has its blanks at eight bytes below 80.
 -- What the tests give holds of any page that passes them.
--- Assumes nothing.
 use mathlib.Core.Path.{_≡_, refl, sym, ap, subst, _∙_}
 use mathlib.Core.Bool.{Bool, true, false, _&&_, _||_}
 use mathlib.Core.List.{List}

@@ -1,5 +1,4 @@
 -- Where texts lie in a reply, and that their bytes are kept where the reply's bytes are.
--- Assumes nothing.
 use mathlib.Core.Path.{_≡_, refl, sym}
 use mathlib.Core.Bool.{Bool, true, false}
 use mathlib.Core.List.{List, [], _∷_}

@@ -1,5 +1,4 @@
 -- Strings and columns found in two replies: where the bytes are the same, the texts are the same, their places moved.
--- Assumes nothing.
 use mathlib.Core.Path.{_≡_, refl, sym, ap, _∙_}
 use mathlib.Core.Bool.{Bool, true, false}
 use mathlib.Core.List.{List}

@@ -1,5 +1,4 @@
 -- A column's name: the ways out of `name_text` and `is_named`.
--- Assumes nothing.
 use mathlib.Core.Path.{_≡_, refl, ap, _∙_}
 use mathlib.Core.Bool.{Bool, false, not}
 use mathlib.Core.List.{List}

@@ -1,5 +1,4 @@
 -- A column's numbers: they fit their fields, and the record that they stand for is the column's.
--- Assumes nothing.
 use mathlib.Core.Path.{_≡_, refl, sym, subst, _∙_}
 use mathlib.Core.List.{List, [], _∷_, _++_}
 use Prim.Native.Nat.{ℕ, _<_}

@@ -1,5 +1,4 @@
 -- The ways out of `write_text` and of `name_text`: what is refused leaves the buffer as it was.
--- Assumes nothing.
 use mathlib.Core.Path.{_≡_, refl, sym, ap, _∙_}
 use mathlib.Core.Bool.{true, false}
 use mathlib.Core.List.{List}

@@ -1,5 +1,4 @@
 -- Names of columns by computation: DOOR in page 037, generated names, and a name that begins with a blank.
--- Assumes nothing.
 use mathlib.Core.Path.{_≡_, refl}
 use mathlib.Core.List.{List, [], _∷_}
 use Prim.Native.Nat.{ℕ}

@@ -1,5 +1,4 @@
 -- A loop that writes a text over the front of a buffer, one character a turn; and the characters of bytes by their alphabet.
--- Assumes nothing.
 use mathlib.Core.Bool.{true}
 use mathlib.Core.Path.{_≡_, refl, sym, ap, _∙_}
 use mathlib.Core.List.{List, [], _∷_, _++_}

@@ -1,5 +1,4 @@
 -- The columns of a list's words are the list, and the words are those of columns, where the records' fields have their widths.
--- Assumes nothing.
 use mathlib.Core.Bool.{Bool, true, false, _&&_}
 use mathlib.Core.Path.{_≡_, refl, sym, ap, _∙_}
 use mathlib.Core.List.{List, [], _∷_, _++_, append-assoc, flatMap}

@@ -1,5 +1,4 @@
 -- Document 01's columns A, B and C, computed against the definitions of both entries; and lists that no reading makes.
--- Assumes nothing.
 use mathlib.Core.Path.{_≡_, refl}
 use mathlib.Core.Bool.{Bool, true, false}
 use mathlib.Core.List.{List, [], _∷_}

@@ -1,5 +1,4 @@
 -- What same cut answers: a refusal, or whether the lists make the same cut. Its loop is search's, over lists that are alike.
--- Assumes nothing.
 use mathlib.Core.Path.{_≡_, refl, _∙_}
 use mathlib.Core.Bool.{Bool, true, false, _||_}
 use mathlib.Core.List.{List, [], _∷_}

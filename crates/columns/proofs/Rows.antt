@@ -1,5 +1,4 @@
 -- Consistent lists that make the same cut have the same widest row: what the width takes of a column is said by its code and its length.
--- Assumes nothing.
 use mathlib.Core.Path.{_≡_, refl, sym, ap, _∙_}
 use mathlib.Core.Bool.{Bool, true, false, false≢true, _&&_, _||_, and-eq-true-iff}
 use mathlib.Core.List.{List, [], _∷_}

@@ -1,5 +1,4 @@
 -- Same cut is an equivalence of lists, and so is what its entry answers, of lists that it does not refuse.
--- Assumes nothing.
 use mathlib.Core.Path.{_≡_, refl, sym, _∙_}
 use mathlib.Core.Bool.{Bool, true, false, false≢true, and-eq-true-iff}
 use mathlib.Core.List.{List, [], _∷_}

@@ -1,5 +1,4 @@
 -- The loop that adds up the columns' widths and stops at a large column: what is left of the list decides.
--- Assumes nothing.
 use mathlib.Core.Path.{_≡_, refl, sym, ap, _∙_}
 use mathlib.Core.Bool.{true, false}
 use mathlib.Core.List.{List, [], _∷_}

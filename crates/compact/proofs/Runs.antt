@@ -1,5 +1,4 @@
 -- The loop of a run: one step more, and the ways out.
--- Assumes nothing.
 use Prim.Native.Nat.{ℕ, _+_, _-_, _≤_, _<_}
 use mathlib.Core.Path.{_≡_, refl, ap}
 use mathlib.Core.Bool.{not}

@@ -1,5 +1,4 @@
 -- A search passes over positions that fail: one step after the other, or to where a weaker test passes.
--- Assumes nothing.
 use Prim.Native.Nat.{ℕ, zero, suc, _+_, _-_, _≤_, _<_}
 use native.Mathlib.Omega.{arith}
 use mathlib.Core.Path.{_≡_, refl, sym, ap, _∙_}

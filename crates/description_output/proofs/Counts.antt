@@ -1,5 +1,4 @@
 -- The entry with code point answers no more columns than there is room for, as the description does.
--- Assumes nothing.
 use mathlib.Core.Bool.{Bool, true, false}
 use mathlib.Core.List.{List, [], _∷_}
 use mathlib.Core.Path.{_≡_, refl}

@@ -1,5 +1,4 @@
 -- What a position within the reply says of a descriptor: which case each nullable group is, and that the 16 bytes with a known type are there.
--- Assumes nothing.
 use mathlib.Core.Path.{_≡_, refl}
 use mathlib.Core.Bool.{Bool, true, false}
 use mathlib.Core.List.{List}

@@ -1,5 +1,4 @@
 -- What is past a descriptor does not lie before it.
--- Assumes nothing.
 use mathlib.Core.Bool.{Bool, true, false}
 use mathlib.Core.List.{List}
 use mathlib.Core.Path.{_≡_, refl}

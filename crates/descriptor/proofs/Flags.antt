@@ -1,5 +1,4 @@
 -- A nullable group by the cases of its flag: missing, FF, or another byte.
--- Assumes nothing.
 use mathlib.Core.Bool.{Bool, true, false}
 use mathlib.Core.List.{List}
 use mathlib.Core.Path.{_≡_, refl}

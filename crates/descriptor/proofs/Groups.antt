@@ -1,5 +1,4 @@
 -- The groups of a descriptor: for each way out of their readers a law, from what the callees promise to what the reader does.
--- Assumes nothing.
 use mathlib.Core.List.{List}
 use mathlib.Core.Path.{_≡_, refl, sym, ap, _∙_}
 use Prim.Native.Nat.{ℕ, _+_, _≤_, _<_}

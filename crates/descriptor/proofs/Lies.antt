@@ -1,5 +1,4 @@
 -- The strings of a descriptor lie in it, and so do its column's texts.
--- Assumes nothing.
 use mathlib.Core.Path.{_≡_, refl, ap, _∙_}
 use mathlib.Core.Bool.{Bool, true, false}
 use mathlib.Core.List.{List}

@@ -1,6 +1,5 @@
 -- Locality: what a descriptor's reader finds in a window of one reply, it finds in the same window of another, its texts moved.
 -- The one reply is read with flags missing or not, the other leniently.
--- Assumes nothing.
 use mathlib.Core.Path.{_≡_, refl, sym, ap, _∙_}
 use mathlib.Core.List.{List}
 use Prim.Native.Nat.{ℕ, _+_, _%_, _≤_, _<_}

@@ -1,5 +1,4 @@
 -- The six strings of a SQLDOPTGRP's names: a law for each way out of their readers.
--- Assumes nothing.
 use mathlib.Core.List.{List}
 use mathlib.Core.Path.{_≡_, refl, sym, ap, _∙_}
 use Prim.Native.Nat.{ℕ, zero, suc, _+_, _-_, _≤_, _<_}

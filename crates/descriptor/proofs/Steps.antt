@@ -1,5 +1,4 @@
 -- A descriptor, for counting and in full: a law for each way out of its readers.
--- Assumes nothing.
 use mathlib.Core.Bool.{Bool, true, false}
 use mathlib.Core.List.{List}
 use mathlib.Core.Path.{_≡_, refl, sym, ap, subst, _∙_}

@@ -1,5 +1,4 @@
 -- Empty strings: their lengths are 00 00.
--- Assumes nothing.
 use Prim.Native.Nat.{ℕ, _+_, _≤_}
 use native.Mathlib.Omega.{arith}
 use mathlib.Core.Path.{_≡_, sym, _∙_}

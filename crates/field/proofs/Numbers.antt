@@ -1,5 +1,4 @@
 -- A number of two halves, once over the width; signed numbers of 32 bits.
--- Assumes nothing.
 use mathlib.Core.Path.{_≡_, refl, sym, ap, subst, _∙_}
 use mathlib.Core.Bool.{Bool}
 use mathlib.Core.List.{List}

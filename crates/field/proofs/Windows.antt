@@ -1,6 +1,5 @@
 -- Windows: what a reader finds in a stretch of one reply, it finds in the same stretch of another, its places moved.
 -- Positions do not go back (`..-grows`) and are local (`..-local`); values are the same (`..-same`).
--- Assumes nothing.
 use Prim.Native.Nat.{ℕ, zero, suc, _+_, _*_, _^_, _≤_, _<_}
 use native.Mathlib.Nat.{le-refl, le-trans}
 use native.Mathlib.Omega.{arith}

@@ -1,5 +1,4 @@
 -- Spaces in front, block by block: trimming drops them, so that they may be left out before.
--- Assumes nothing.
 use Prim.Native.Nat.{ℕ, _+_, _-_, _≤_}
 use native.Mathlib.Omega.{arith}
 use mathlib.Core.Path.{_≡_, refl, sym, ap, _∙_}

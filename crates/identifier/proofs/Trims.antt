@@ -1,5 +1,4 @@
 -- Trimming: it goes through a map, and what is trimmed already stays as it is.
--- Assumes nothing.
 use Prim.Native.Nat.{ℕ, zero, suc, _-_}
 use native.Mathlib.Nat.{le-refl}
 use native.Mathlib.Omega.{arith}

@@ -1,5 +1,4 @@
 -- The ways out of the loop that counts, and that a message's blanks are known by their bytes.
--- Assumes nothing.
 use mathlib.Core.Path.{_≡_, refl, sym, _∙_}
 use mathlib.Core.Bool.{Bool, true, false, _||_}
 use mathlib.Core.List.{List}

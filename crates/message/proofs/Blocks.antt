@@ -1,6 +1,5 @@
 -- Counting block by block: n are counted before i, and `n + count f (drop i l) ≡ count f l` is the loop's invariant. And a text has characters
 -- where its bytes have some that are no blanks.
--- Assumes nothing.
 use mathlib.Core.Path.{_≡_, refl, sym, ap, _∙_}
 use mathlib.Core.Bool.{Bool, true, false, not}
 use mathlib.Core.List.{List, [], _∷_, _++_, map}

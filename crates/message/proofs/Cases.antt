@@ -1,5 +1,4 @@
 -- Messages, their texts and the entry's answers, by computation.
--- Assumes nothing.
 use mathlib.Core.Path.{_≡_, refl}
 use mathlib.Core.Bool.{true, false}
 use mathlib.Core.List.{List, [], _∷_}

@@ -1,5 +1,4 @@
 -- What one character more tells of a squeezed text: the laws that the loops over a message's bytes go by.
--- Assumes nothing.
 use mathlib.Core.Path.{_≡_, refl, sym, ap, _∙_}
 use mathlib.Core.Bool.{Bool, true, false}
 use mathlib.Core.List.{List, [], _∷_, _++_, append-assoc, append-nil, map}

@@ -1,5 +1,4 @@
 -- What later crates may know of a message's text, and the ways out of `has_text`.
--- Assumes nothing.
 use mathlib.Core.Path.{_≡_, refl, sym}
 use mathlib.Core.Bool.{Bool, true, false}
 use mathlib.Core.List.{List, []}

@@ -1,6 +1,5 @@
 -- A message's text, told without its state machine: the words of the characters with one 0x20 between them, as Rust's
 -- `split_whitespace` and `join(" ")` give them, its whitespace being our blanks. Then its letters, its blanks, its two ends.
--- Assumes nothing.
 use mathlib.Core.Path.{_≡_, refl, sym, ap, _∙_}
 use mathlib.Core.Bool.{Bool, true, false, false≢true}
 use mathlib.Core.List.{List, [], _∷_, _++_}

@@ -1,5 +1,4 @@
 -- Small layouts, by computation: which of their strings is the name, and the longest run of a reply.
--- Assumes nothing.
 use mathlib.Core.Path.{_≡_, refl}
 use mathlib.Core.List.{List, [], _∷_, _++_}
 use Prim.Native.Nat.{ℕ}

@@ -1,5 +1,4 @@
 -- A layout's name: a law for each way out of `scan_descriptor_name`, and what its answer says.
--- Assumes nothing.
 use Prim.Native.Nat.{ℕ, _+_, _-_, _≤_, _<_}
 use native.Mathlib.Omega.{arith}
 use mathlib.Core.Path.{_≡_, refl, sym, ap, subst, _∙_}

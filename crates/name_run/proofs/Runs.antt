@@ -1,5 +1,4 @@
 -- Runs of layouts with names: a law for each way out of their loops, and that a run's names are as many as it counts.
--- Assumes nothing.
 use Prim.Native.Nat.{ℕ, zero, suc, _+_, _-_, _≤_, _<_}
 use native.Mathlib.Omega.{arith}
 use mathlib.Core.Path.{_≡_, refl, sym, ap, _∙_}

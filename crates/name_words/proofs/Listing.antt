@@ -1,5 +1,4 @@
 -- Names written as words, 3 a name: the loop over those that a rule lists, whose invariant is `Filling`, and what a decision lets be written.
--- Assumes nothing.
 use mathlib.Core.Path.{_≡_, refl, sym, ap, _∙_}
 use mathlib.Core.Bool.{true, false}
 use mathlib.Core.List.{List, [], _∷_, _++_, append-assoc, flatMap}

@@ -1,5 +1,4 @@
 -- Small replies, computed against the definition of the name scan.
--- Assumes nothing.
 use mathlib.Core.Path.{_≡_, refl}
 use mathlib.Core.List.{List, [], _∷_}
 use Prim.Native.Nat.{ℕ}

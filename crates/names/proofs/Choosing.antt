@@ -1,5 +1,4 @@
 -- Which of the three lists is taken: a law for each way out of the plan.
--- Assumes nothing.
 use mathlib.Core.Path.{_≡_, refl, sym, ap, _∙_}
 use mathlib.Core.Bool.{Bool, true, false, false≢true, and-eq-true-iff, _&&_}
 use mathlib.Core.List.{List, []}

@@ -1,6 +1,5 @@
 -- The loop that lists n names by a rule: `Remaining` is what it knows of its cursor, once i of them are listed; the others come from there on.
 -- `Filling` is the invariant of the loop that writes them: the first i stand in l, which was l₀.
--- Assumes nothing.
 use mathlib.Core.Path.{_≡_, refl, ap, _∙_, subst}
 use mathlib.Core.Bool.{Bool, true, false}
 use mathlib.Core.List.{List, [], _∷_, _++_}

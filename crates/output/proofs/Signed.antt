@@ -1,5 +1,4 @@
 -- Numbers of 32 bits and their distance from zero. Below zero, the bits turned over are the distance less one.
--- Assumes nothing.
 use mathlib.Core.Path.{_≡_, ap}
 use mathlib.Core.Bool.{true, false, true≢false}
 use Prim.Native.Nat.{suc, _+_, _-_, _^_, _<_}

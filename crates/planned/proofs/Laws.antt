@@ -1,5 +1,4 @@
 -- A descriptor by its layout: what the walk's step says of it, and what it says for the walk.
--- Assumes nothing.
 use mathlib.Core.Path.{_≡_, refl, sym, ap, subst, _∙_}
 use mathlib.Core.Bool.{true}
 use mathlib.Core.List.{List, _++_}

@@ -1,5 +1,4 @@
 -- What every reading gives is consistent: its columns are made by `columnWith` under the walk's number, whatever their descriptors say.
--- Assumes nothing.
 use mathlib.Core.Path.{refl, subst}
 use mathlib.Core.Bool.{Bool, true, false}
 use mathlib.Core.List.{List, [], _∷_}

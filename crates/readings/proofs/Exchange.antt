@@ -1,5 +1,4 @@
 -- An exchange of one column's description changes the cut exactly where that column's own cut changes.
--- Assumes nothing.
 use mathlib.Core.Path.{_≡_, refl, ap, _∙_}
 use mathlib.Core.Bool.{true, and-true}
 use mathlib.Core.List.{List, [], _∷_, map}

@@ -1,5 +1,4 @@
 -- No reading gives more than 4,095 columns: the four have at most 512, and the last reader's descriptors have 16 bytes each, after the count's two.
--- Assumes nothing.
 use mathlib.Core.Path.{_≡_, refl, subst}
 use mathlib.Core.Bool.{Bool, true, false}
 use mathlib.Core.List.{List, [], _∷_}

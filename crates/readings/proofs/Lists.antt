@@ -1,5 +1,4 @@
 -- Every list that a description entry gives is consistent and few; two such lists are compared, and with the same cut have the same widest row.
--- Assumes nothing.
 use mathlib.Core.Path.{_≡_, refl}
 use mathlib.Core.Bool.{Bool, true, false}
 use mathlib.Core.List.{List, [], _∷_}

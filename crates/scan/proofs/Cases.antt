@@ -1,5 +1,4 @@
 -- Document 01's scores, computed: one named and two generated columns, one named and three.
--- Assumes nothing.
 use mathlib.Core.Path.{_≡_, refl, ap, _∙_}
 use mathlib.Core.Bool.{Bool, false}
 use native.Mathlib.Nat.{le-refl}

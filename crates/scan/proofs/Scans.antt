@@ -1,5 +1,4 @@
 -- The scan by its cases: what is kept of two runs, the run from a start, and a reply without starts.
--- Assumes nothing.
 use mathlib.Core.Path.{_≡_, refl, sym, ap, _∙_}
 use mathlib.Core.Bool.{Bool, true, false, false≢true}
 use mathlib.Core.List.{List, []}

@@ -1,5 +1,4 @@
 -- Lists that are alike by a test: where the test is an equivalence of elements, this is one of lists.
--- Assumes nothing.
 use Prim.Native.Nat.{ℕ, suc, _+_, _≤_, _<_}
 use mathlib.Core.Path.{_≡_, refl, sym, ap, _∙_}
 use mathlib.Core.List.{List, [], _∷_}

@@ -1,5 +1,4 @@
 -- A loop that looks for the best of a sequence. t is the answer, and `t ≡ best better f i n x` the loop's invariant, x what is in hand.
--- Assumes nothing.
 use Prim.Native.Nat.{ℕ, zero, suc, _+_, _-_, _≤_, _<_}
 use native.Mathlib.Numerals.{add-one}
 use native.Mathlib.Omega.{arith}

@@ -1,5 +1,4 @@
 -- A loop that counts the elements that pass a test, one by one: n of the first i do, and `n + count f (drop i l) ≡ count f l` is its invariant.
--- Assumes nothing.
 use mathlib.Core.Path.{_≡_, refl, sym, ap, _∙_}
 use mathlib.Core.Bool.{Bool, true, false}
 use mathlib.Core.List.{List}

@@ -1,5 +1,4 @@
 -- A loop that tests every element of a list. t is the answer, and `t ≡ each f (drop i l)` the loop's invariant.
--- Assumes nothing.
 use mathlib.Core.Path.{_≡_, refl, sym, ap, _∙_}
 use mathlib.Core.Bool.{Bool, true, false, _&&_}
 use mathlib.Core.List.{List, _∷_}

@@ -1,6 +1,5 @@
 -- The loop that writes what a walk finds into a list, one element or a block of them a step, for any walk: `FillingBy` is its invariant. i steps
 -- are made, p is the position, and l, which was l₀, has in front the j elements that f makes of what they found.
--- Assumes nothing.
 use Prim.Native.Nat.{ℕ, _+_, _-_, _≤_, _<_}
 use native.Mathlib.Numerals.{add-one}
 use native.Mathlib.Omega.{arith}

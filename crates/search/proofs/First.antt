@@ -1,5 +1,4 @@
 -- A loop that looks for the first element that passes a test. t is the answer, and `t ≡ firstIn f (drop i l) d` the loop's invariant.
--- Assumes nothing.
 use mathlib.Core.Path.{_≡_, refl, sym, ap, _∙_}
 use mathlib.Core.Bool.{Bool, true, false}
 use mathlib.Core.List.{List}

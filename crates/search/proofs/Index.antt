@@ -1,5 +1,4 @@
 -- A loop that looks for the first index that passes a test. t is the answer, and `t ≡ first f i n` the loop's invariant.
--- Assumes nothing.
 use Prim.Native.Nat.{ℕ, zero, suc, _+_, _-_, _≤_, _<_}
 use native.Mathlib.Numerals.{add-one}
 use native.Mathlib.Omega.{arith}

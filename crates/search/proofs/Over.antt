@@ -1,5 +1,4 @@
 -- A loop that writes a list over the front of another: take i t ++ drop i b is what stands there when i elements of t are written.
--- Assumes nothing.
 use mathlib.Core.Path.{_≡_, refl, sym, ap, _∙_}
 use mathlib.Core.List.{List, [], _∷_, _++_, append-assoc, append-nil, map}
 use Prim.Native.Nat.{ℕ, zero, suc, _+_, _≤_, _<_}

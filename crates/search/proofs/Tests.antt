@@ -1,5 +1,4 @@
 -- What a test that was computed over a whole range or list says at one place of it, or of what was chosen or found.
--- Assumes nothing.
 use mathlib.Core.Path.{_≡_, refl, sym, subst}
 use mathlib.Core.Bool.{Bool, true, false, _&&_}
 use mathlib.Core.List.{List, [], _∷_}

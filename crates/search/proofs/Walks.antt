@@ -1,6 +1,5 @@
 -- The loop of a walk, for any walk: how many steps it makes, and at how many of them f holds. `Walking` is the loop's invariant: i steps are
 -- made, f held at m of them, and p is the position.
--- Assumes nothing.
 use Prim.Native.Nat.{ℕ, zero, suc, _+_, _-_, _≤_, _<_}
 use native.Mathlib.Numerals.{add-one}
 use native.Mathlib.Omega.{arith}

@@ -1,6 +1,5 @@
 -- The loop that stores elements of a list in order, one or a block of them a turn, for any list: `Writing` is its invariant. The first i of l
 -- are stored, `todo` comes after them, `whole` is the two together, and from i on l is as l₀ was.
--- Assumes nothing.
 use Prim.Native.Nat.{ℕ, _+_, _*_, _<_, _≤_}
 use native.Mathlib.Nat.{zero-mul, suc-mul}
 use native.Mathlib.Numerals.{add-one}

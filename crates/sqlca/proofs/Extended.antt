@@ -1,5 +1,4 @@
 -- The extension: a list of six numbers, the warnings that were copied, and the ways out of its reader.
--- Assumes nothing.
 use mathlib.Core.Path.{_≡_, sym, ap, subst, _∙_}
 use mathlib.Core.Bool.{Bool, true, false, not}
 use mathlib.Core.List.{List, [], _∷_}

@@ -1,5 +1,4 @@
 -- Locality: where two replies have the same first n bytes, they have the same fields in them.
--- Assumes nothing.
 use mathlib.Core.Path.{_≡_, refl, sym, ap, _∙_}
 use mathlib.Core.Bool.{true, false, not, _&&_}
 use mathlib.Core.List.{List, _∷_}

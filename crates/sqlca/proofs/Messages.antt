@@ -1,5 +1,4 @@
 -- The message is m, s or none, by which has text; and what is past its strings.
--- Assumes nothing.
 use mathlib.Core.Path.{_≡_, refl, sym, ap, subst, _∙_}
 use mathlib.Core.Bool.{Bool, true, false}
 use mathlib.Core.List.{List}

@@ -1,5 +1,4 @@
 -- SQLCODE's byte order, by the tests that the code makes; state and proc.
--- Assumes nothing.
 use mathlib.Core.Path.{_≡_, refl, sym, ap, _∙_}
 use mathlib.Core.Bool.{Bool, true, false, not, _&&_, _||_, or-false}
 use mathlib.Core.List.{List, map}

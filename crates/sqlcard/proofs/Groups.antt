@@ -1,5 +1,4 @@
 -- The ways out of the SQLCA group; and that its status depends on its own bytes alone, and is that of the whole reply read alone.
--- Assumes nothing.
 use mathlib.Core.Path.{_≡_, refl, sym, ap, _∙_}
 use mathlib.Core.Bool.{Bool, true, false, or-true}
 use mathlib.Core.List.{List, [], _∷_}

@@ -1,5 +1,4 @@
 -- What the description is on each way out of decide; a plan of no columns; and what a decision says to who carries it out.
--- Assumes nothing.
 use mathlib.Core.Bool.{Bool, true, false}
 use mathlib.Core.List.{List, [], _∷_, _++_}
 use mathlib.Core.Path.{_≡_, refl, sym, ap, _∙_}

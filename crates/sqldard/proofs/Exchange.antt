@@ -1,5 +1,4 @@
 -- The exchange theorem, stated in specs/Exchanged.antt, and what users quote of it.
--- Assumes nothing.
 use mathlib.Core.Path.{_≡_, refl, sym, ap, _∙_}
 use mathlib.Core.Bool.{Bool, true, false}
 use mathlib.Core.List.{List, [], _∷_, map}

@@ -1,5 +1,4 @@
 -- Descriptors one after the other: their positions, and what a local view finds at them.
--- Assumes nothing.
 use mathlib.Core.Path.{_≡_, refl, ap, ap₂, _∙_}
 use mathlib.Core.List.{List, _∷_, map}
 use Prim.Native.Nat.{ℕ, zero, suc, _+_, _≤_}

@@ -1,5 +1,4 @@
 -- The reply up to the count of columns: another reply that begins with the same bytes has its count at the same place.
--- Assumes nothing.
 use mathlib.Core.Path.{_≡_, refl, sym}
 use mathlib.Core.Bool.{Bool, true, false}
 use mathlib.Core.List.{List}

@@ -1,5 +1,4 @@
 -- Where the columns of a reading are read, that their texts lie in their descriptions, and that the bytes of texts are kept in an exchange.
--- Assumes nothing.
 use mathlib.Core.Path.{_≡_, refl, sym, ap, subst, _∙_}
 use mathlib.Core.Bool.{Bool, true, false}
 use mathlib.Core.List.{List, [], _∷_, map}

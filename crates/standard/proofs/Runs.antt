@@ -1,5 +1,4 @@
 -- A run of standard descriptors: a law for each way out of its loop, whose invariant is search's `Walking`.
--- Assumes nothing.
 use mathlib.Core.Path.{_≡_, refl, ap, _∙_}
 use mathlib.Core.Bool.{Bool, true, false, not}
 use mathlib.Core.List.{List}

@@ -1,5 +1,4 @@
 -- The three parts of a spliced reply are windows: what stands before, the new bytes, and what stands after.
--- Assumes nothing.
 use mathlib.Core.Path.{_≡_, refl, sym, ap, _∙_}
 use mathlib.Core.List.{List, _++_}
 use Prim.Native.Nat.{ℕ, _+_, _-_, _≤_, _<_}

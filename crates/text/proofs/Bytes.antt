@@ -1,5 +1,4 @@
 -- Characters told by their bytes: page 037 passes the test for name characters, and what the test gives of any page that passes it.
--- Assumes nothing.
 use Prim.Native.Nat.{ℕ, _/_, _%_, _^_, _<_, _≤_}
 use mathlib.Core.Path.{_≡_, refl, sym, ap, _∙_}
 use mathlib.Core.List.{List}

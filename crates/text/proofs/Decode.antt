@@ -1,5 +1,4 @@
 -- The ways out of `decode_text`, and that a text is empty exactly where it has no bytes.
--- Assumes nothing.
 use Prim.Native.Nat.{ℕ, _+_, _-_, _≤_, _<_}
 use native.Mathlib.Omega.{arith}
 use mathlib.Core.Path.{_≡_, refl, sym, ap, _∙_}

@@ -1,5 +1,4 @@
 -- Generated names by bytes: page 037 passes the test, and what the test gives of any page that passes it; the ways out of `is_generated`.
--- Assumes nothing.
 use Prim.Native.Nat.{ℕ, zero, suc, _-_, _≤_, _<_}
 use native.Mathlib.Omega.{arith}
 use mathlib.Core.Path.{_≡_, refl, sym, ap, _∙_}

@@ -1,6 +1,5 @@
 -- A string is told generated without decoding it: COL and digits of ASCII are all ASCII, and a C of the page is not.
 -- The laws of `is_generated_trimmed` and `is_generated_at`.
--- Assumes nothing.
 use Prim.Native.Nat.{ℕ, zero, suc, _+_, _-_, _≤_, _<_}
 use native.Mathlib.Omega.{arith}
 use mathlib.Core.Path.{_≡_, refl, sym, ap, subst, _∙_}

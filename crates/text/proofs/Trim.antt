@@ -1,5 +1,4 @@
 -- What one element more tells of `leading` and `kept`: the laws that their loops go by.
--- Assumes nothing.
 use Prim.Native.Nat.{ℕ, suc, _+_, _-_, _≤_, _<_}
 use native.Mathlib.Nat.{le-refl}
 use native.Mathlib.Omega.{arith}

@@ -1,5 +1,4 @@
 -- A case leaves the position inside `out`, and what is lent as long as it was. The turns that are left fall, so the loop ends.
--- Assumes nothing.
 use Prim.Native.Nat.{_≤_}
 use mathlib.Core.Path.{_≡_}
 use lib.ListN.{length}

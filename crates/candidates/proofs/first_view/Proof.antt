@@ -1,5 +1,4 @@
 -- Five times the next candidate: those of the reply are in view, and lie in it.
--- Assumes nothing.
 use native.Mathlib.Omega.{arith}
 use borrow.Author.Needs.{needs}
 use Rattle.candidates.proofs.Candidates.{none-inside}

@@ -1,5 +1,4 @@
 -- A law of Candidates for each way out.
--- Assumes nothing.
 use Rattle.candidates.proofs.Candidates.{keeps-none, keeps-some}
 use borrow.Author.Needs.{needs}
 use Rattle.candidates.proofs.is_kept.Statement.{statement}

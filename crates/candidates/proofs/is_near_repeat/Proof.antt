@@ -1,5 +1,4 @@
 -- A law of Candidates for each way out.
--- Assumes nothing.
 use Rattle.candidates.proofs.Candidates.{repeat-far, repeat-near}
 use native.Mathlib.Omega.{arith}
 use borrow.Author.Needs.{needs}

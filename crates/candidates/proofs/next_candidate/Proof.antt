@@ -1,5 +1,4 @@
 -- The loop looks for the first position of one that is kept; its invariant says that none before `offset` is.
--- Assumes nothing.
 use Prim.Native.Nat.{_+_, _-_, _≤_}
 use mathlib.Core.Path.{_≡_, refl, sym, _∙_}
 use native.Mathlib.Omega.{arith}

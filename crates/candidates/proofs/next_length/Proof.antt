@@ -1,5 +1,4 @@
 -- The loop's invariant: there is no candidate from `from` up to `offset`.
--- Assumes nothing.
 use Prim.Native.Nat.{_-_, _≤_}
 use native.Mathlib.Omega.{arith}
 use lib.ListN.{length}

@@ -1,5 +1,4 @@
 -- The view goes one candidate on, and its texts lie in the reply.
--- Assumes nothing.
 use mathlib.Core.Path.{refl, sym, subst}
 use borrow.Author.Needs.{needs}
 use Rattle.candidates.specs.View.{Inside, shifted}

@@ -1,5 +1,4 @@
 -- The loop's invariant: the lists are equally long, and the answer is that of what is left of them.
--- Assumes nothing.
 use Prim.Native.Nat.{_-_}
 use mathlib.Core.Path.{_≡_, refl}
 use native.Mathlib.Omega.{arith}

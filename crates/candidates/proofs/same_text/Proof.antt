@@ -1,5 +1,4 @@
 -- The parts that are lent are the texts' bytes.
--- Assumes nothing.
 use Rattle.candidates.proofs.Candidates.{same-by-parts}
 use borrow.Author.Needs.{needs}
 use Rattle.candidates.proofs.same_text.Statement.{statement}

@@ -1,5 +1,4 @@
 -- As it is defined.
--- Assumes nothing.
 use mathlib.Core.Path.{refl}
 use Rattle.column.specs.Column.{blankColumn}
 use Rattle.column.proofs.blank_column.Statement.{statement}

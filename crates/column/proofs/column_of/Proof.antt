@@ -1,5 +1,4 @@
 -- The record by its parts.
--- Assumes nothing.
 use borrow.Author.Needs.{needs}
 use Rattle.column.proofs.Numbers.{column-is}
 use Rattle.column.proofs.column_of.Statement.{statement}

@@ -1,5 +1,4 @@
 -- The two ways out: no bytes, and the test of the string's text.
--- Assumes nothing.
 use native.Mathlib.Omega.{arith}
 use borrow.Author.Needs.{needs}
 use Rattle.codepage.specs.Page.{page037}

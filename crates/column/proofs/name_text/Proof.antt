@@ -1,5 +1,4 @@
 -- The two ways out: no bytes, and the string's text.
--- Assumes nothing.
 use borrow.Author.Needs.{needs}
 use Rattle.codepage.specs.Page.{page037}
 use Rattle.column.proofs.Names.{name-none, name-some}

@@ -1,5 +1,4 @@
 -- 1 where the test holds, else 0.
--- Assumes nothing.
 use mathlib.Core.Path.{sym, ap, _∙_}
 use mathlib.Core.Bool.{Bool}
 use Prim.Native.Nat.{ℕ}

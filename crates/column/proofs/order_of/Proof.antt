@@ -1,5 +1,4 @@
 -- The two ways out.
--- Assumes nothing.
 use mathlib.Core.Path.{refl}
 use borrow.Author.Tests.{eq-eqb, ne-eqb}
 use Rattle.column.proofs.order_of.Statement.{statement}

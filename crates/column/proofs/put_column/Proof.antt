@@ -1,5 +1,4 @@
 -- The numbers by what the callees give; each fits its field, as the descriptor's and the texts' fields do.
--- Assumes nothing.
 use lib.ListN.{drop}
 use borrow.Author.Needs.{needs}
 use Rattle.codepage.specs.Page.{page037}

@@ -1,5 +1,4 @@
 -- The text of the string's bytes.
--- Assumes nothing.
 use borrow.Author.Needs.{needs}
 use Rattle.column.specs.Column.{stringText}
 use Rattle.column.proofs.string_text.Statement.{statement}

@@ -1,5 +1,4 @@
 -- The loop's invariant: the first i bytes stand over the buffer's front.
--- Assumes nothing.
 use Prim.Native.Nat.{_-_}
 use mathlib.Core.Path.{refl}
 use native.Mathlib.Omega.{arith}

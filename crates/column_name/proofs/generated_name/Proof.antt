@@ -1,5 +1,4 @@
 -- The loop's invariant: the digits past `at` are written, those of `rest` are to come.
--- Assumes nothing.
 use mathlib.Core.Path.{refl}
 use native.Mathlib.Omega.{arith}
 use borrow.Author.Needs.{needs}

@@ -1,5 +1,4 @@
 -- The number that goes to `refusal` is that of the outcome, and says whether there is a part.
--- Assumes nothing.
 use borrow.Author.Needs.{needs}
 use Rattle.column_name.proofs.Part.{part-refused, part-accepted, part-given}
 use Rattle.column_name.proofs.name_part.Statement.{statement}

@@ -1,5 +1,4 @@
 -- The ways out: refused as name part is, the generated name, and the name's own bytes.
--- Assumes nothing.
 use mathlib.Core.Path.{sym, ap, _∙_}
 use native.Mathlib.Omega.{arith}
 use borrow.Author.Needs.{needs}

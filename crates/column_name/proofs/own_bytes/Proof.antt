@@ -1,5 +1,4 @@
 -- A name that is not refused lies in the reply, so its end fits and so does its part.
--- Assumes nothing.
 use native.Mathlib.Omega.{arith}
 use borrow.Author.Needs.{needs}
 use Rattle.column_name.proofs.Part.{lies-within, own-none, own-some}

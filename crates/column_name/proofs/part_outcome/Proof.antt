@@ -1,5 +1,4 @@
 -- The ways out, in the order of the refusals: 5, 7 by the alphabet, 7 by the place, 7 by the length, none.
--- Assumes nothing.
 use native.Mathlib.Omega.{arith}
 use borrow.Author.Needs.{needs}
 use Rattle.column_name.proofs.Part.{refuses-long, refuses-alphabet, refuses-outside, refuses-none}

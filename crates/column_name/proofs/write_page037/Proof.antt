@@ -1,5 +1,4 @@
 -- The loop's invariant: the first i bytes' characters stand over the buffer's front. The table that is lent is page 037's, and has 256 entries.
--- Assumes nothing.
 use Prim.Native.Nat.{ℕ, _-_}
 use mathlib.Core.Path.{ap, _∙_}
 use mathlib.Core.List.{List}

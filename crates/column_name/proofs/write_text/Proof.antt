@@ -1,5 +1,4 @@
 -- The ways out: no room, the characters of page 037, or the bytes themselves.
--- Assumes nothing.
 use mathlib.Core.Path.{sym, ap, _∙_}
 use mathlib.Core.List.{List}
 use Prim.Native.Nat.{ℕ}

@@ -1,5 +1,4 @@
 -- Each column's places that are put leave the position inside `out`, and its length as it was.
--- Assumes nothing.
 mod Lts
 mod Tie
 use mathlib.Core.Path.{_≡_}

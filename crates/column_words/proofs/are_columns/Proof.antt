@@ -1,5 +1,4 @@
 -- Each turn looks at one record more.
--- Assumes nothing.
 use mathlib.Core.Path.{_≡_, refl, sym, _∙_}
 use Prim.Native.Nat.{_≤_, _*_, _-_, _/_}
 use lib.ListN.{length}

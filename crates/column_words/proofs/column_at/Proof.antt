@@ -1,5 +1,4 @@
 -- The record by its parts; each word fits its field.
--- Assumes nothing.
 use native.Mathlib.Nat.{add-assoc}
 use native.Mathlib.Omega.{arith}
 use borrow.Author.Needs.{needs}

@@ -1,4 +1,3 @@
--- Assumes nothing.
 use mathlib.Core.Path.{refl}
 use borrow.Author.Needs.{needs}
 use Rattle.column_words.specs.Columns.{isColumn}

@@ -1,5 +1,4 @@
 -- The tests in the definition's own order.
--- Assumes nothing.
 use mathlib.Core.Path.{refl}
 use borrow.Author.Needs.{needs}
 use Rattle.column_words.specs.Columns.{numbersFit}

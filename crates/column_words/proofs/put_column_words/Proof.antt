@@ -1,5 +1,4 @@
 -- The words by what the callees give, in a part of the slice.
--- Assumes nothing.
 use native.Mathlib.Omega.{arith}
 use Prim.Native.Nat.{_<_, _≤_}
 use lib.ListN.{length, length-drop}

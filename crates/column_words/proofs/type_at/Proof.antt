@@ -1,5 +1,4 @@
 -- The value fits a type.
--- Assumes nothing.
 use borrow.Author.Needs.{needs}
 use Rattle.column_words.proofs.Columns.{fits-at}
 use Rattle.column_words.proofs.type_at.Statement.{statement}

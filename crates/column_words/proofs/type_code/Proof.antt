@@ -1,5 +1,4 @@
 -- The code of each type: an arm's tag says the type, at which the definition computes.
--- Assumes nothing.
 use borrow.Author.Needs.{needs}
 use Rattle.column_words.proofs.type_code.Statement.{statement}
 use Rattle.column_words.proofs.type_code.Tie as tie

@@ -1,5 +1,4 @@
 -- What each type says besides its code: an arm's tag says the type, at which the definition computes.
--- Assumes nothing.
 use borrow.Author.Needs.{needs}
 use Rattle.column_words.proofs.type_value.Statement.{statement}
 use Rattle.column_words.proofs.type_value.Tie as tie

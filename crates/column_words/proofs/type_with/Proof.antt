@@ -1,5 +1,4 @@
 -- The type of each code: an arm's key says the code, at which the definition computes; past the last arm it is none of them.
--- Assumes nothing.
 use lib.Dec.{eqb}
 use borrow.Author.Needs.{needs}
 use borrow.Author.Tests.{ne-eqb}

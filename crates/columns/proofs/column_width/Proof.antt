@@ -1,5 +1,4 @@
 -- The length, and the bytes that stand there where the column is nullable or its type varying.
--- Assumes nothing.
 use mathlib.Core.Path.{refl}
 use native.Mathlib.Omega.{arith}
 use borrow.Author.Needs.{needs}

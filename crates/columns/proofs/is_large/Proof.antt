@@ -1,5 +1,4 @@
 -- Which types are large objects: an arm's tag says the type, at which the definition computes.
--- Assumes nothing.
 use borrow.Author.Needs.{needs}
 use Rattle.columns.proofs.is_large.Statement.{statement}
 use Rattle.columns.proofs.is_large.Tie as tie

@@ -1,5 +1,4 @@
 -- Before which types two bytes of length stand: an arm's tag says the type, at which the definition computes.
--- Assumes nothing.
 use borrow.Author.Needs.{needs}
 use Rattle.columns.proofs.is_varying.Statement.{statement}
 use Rattle.columns.proofs.is_varying.Tie as tie

@@ -1,5 +1,4 @@
 -- The five comparisons are the definition's, byte orders as numbers.
--- Assumes nothing.
 use mathlib.Core.Path.{refl}
 use borrow.Author.Needs.{needs}
 use Rattle.columns.specs.Cut.{sameColumn}

@@ -1,5 +1,4 @@
 -- Each turn compares one column of both lists, which are equally long.
--- Assumes nothing.
 mod Lts
 mod Tie
 use mathlib.Core.Path.{_≡_, refl, sym, _∙_}

@@ -1,5 +1,4 @@
 -- Each turn adds one column's width, which no sum of 4,095 can take past 64 bits, or stops at a large column.
--- Assumes nothing.
 mod Lts
 mod Tie
 use mathlib.Core.Path.{sym, _∙_}

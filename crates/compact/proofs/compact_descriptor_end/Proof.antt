@@ -1,5 +1,4 @@
 -- None more to come, a next, or no next.
--- Assumes nothing.
 use borrow.Author.Needs.{needs}
 use Rattle.compact.proofs.Laws.{compact-last, compact-next, compact-none}
 use Rattle.compact.proofs.compact_descriptor_end.Statement.{statement}

@@ -1,5 +1,4 @@
 -- The end that was matched.
--- Assumes nothing.
 use borrow.Author.Needs.{needs}
 use Rattle.compact.proofs.Laws.{end-compact, end-last}
 use Rattle.compact.proofs.compact_end.Statement.{statement}

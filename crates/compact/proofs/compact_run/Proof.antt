@@ -1,5 +1,4 @@
 -- The loop's invariant: i descriptors are read, `named` of them with names, and the next one starts at `start`.
--- Assumes nothing.
 use Prim.Native.Nat.{_≤_, _-_}
 use native.Mathlib.Omega.{arith}
 use lib.ListN.{length}

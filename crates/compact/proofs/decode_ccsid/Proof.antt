@@ -1,5 +1,4 @@
 -- The two byte orders, and which of them counts.
--- Assumes nothing.
 use borrow.Author.Needs.{needs}
 use Rattle.compact.proofs.Laws.{ccsid-little, ccsid-big}
 use Rattle.compact.proofs.decode_ccsid.Statement.{statement}

@@ -1,5 +1,4 @@
 -- The loop's invariant: the answer is that from i on, and if `stop` is past i, the name characters behind i stop there.
--- Assumes nothing.
 use Prim.Native.Nat.{_≤_, _-_}
 use native.Mathlib.Omega.{arith}
 use mathlib.Core.Path.{_≡_, refl, sym, _∙_}

@@ -1,5 +1,4 @@
 -- The three bytes as the definition has them.
--- Assumes nothing.
 use mathlib.Core.Path.{refl}
 use borrow.Author.Needs.{needs}
 use Rattle.compact.specs.Compact.{ffsHere}

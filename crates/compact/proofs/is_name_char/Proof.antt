@@ -1,5 +1,4 @@
 -- The tests of the definition, in another order.
--- Assumes nothing.
 use Rattle.compact.proofs.Stops.{name-char}
 use Rattle.compact.proofs.is_name_char.Statement.{statement}
 use Rattle.compact.proofs.is_name_char.Tie as tie

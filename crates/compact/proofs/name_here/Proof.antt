@@ -1,5 +1,4 @@
 -- A length byte of 1 to 64, its bytes inside the descriptor, and all of them name characters.
--- Assumes nothing.
 use native.Mathlib.Omega.{arith}
 use borrow.Author.Needs.{needs}
 use Rattle.compact.proofs.Laws.{name-size, name-over}

@@ -1,5 +1,4 @@
 -- Each of the eight tests.
--- Assumes nothing.
 use borrow.Author.Needs.{needs}
 use lib.ListN.{getD}
 use Rattle.text.specs.Chars.{isNameChar}

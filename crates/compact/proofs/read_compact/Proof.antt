@@ -1,5 +1,4 @@
 -- Each field is what its reader promises.
--- Assumes nothing.
 use Prim.Native.Nat.{_%_}
 use borrow.Author.Needs.{needs}
 use Rattle.field.specs.declared.ByteOrder.the-variants.{LittleEndian}

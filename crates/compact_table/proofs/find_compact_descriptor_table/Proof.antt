@@ -1,5 +1,4 @@
 -- The loop's invariant: the answer is that from i on, and where nothing more may come, there is no next from i on.
--- Assumes nothing.
 use Prim.Native.Nat.{_+_, _≤_, _-_}
 use native.Mathlib.Omega.{arith}
 use mathlib.Core.Path.{_≡_, refl, sym, _∙_}

@@ -1,5 +1,4 @@
 -- The reply ends first, or the numbers say that it is no such descriptor, or else the type decides.
--- Assumes nothing.
 use mathlib.Core.Path.{sym, _∙_}
 use native.Mathlib.Omega.{arith}
 use borrow.Author.Needs.{needs}

@@ -1,5 +1,4 @@
 -- Such 16 bytes behind an FF, or no FF.
--- Assumes nothing.
 use borrow.Author.Needs.{needs}
 use Rattle.compact_table.proofs.Laws.{next-yes, next-no}
 use Rattle.compact_table.proofs.next_here.Statement.{statement}

@@ -1,5 +1,4 @@
 -- No count of a table, or no such 16 bytes behind it; else the count is 1, or there is a next. None is looked for where none can come.
--- Assumes nothing.
 use mathlib.Core.Path.{sym, _∙_}
 use borrow.Author.Needs.{needs}
 use borrow.Author.Tests.{not-true, not-false}

@@ -1,5 +1,4 @@
 -- The answer's count is at most the list's length, so its front can be lent.
--- Assumes nothing.
 mod Lts
 mod Tie
 use mathlib.Core.Path.{sym}

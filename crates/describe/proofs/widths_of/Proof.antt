@@ -1,5 +1,4 @@
 -- Each turn goes one column on.
--- Assumes nothing.
 mod Lts
 mod Tie
 use Prim.Native.Nat.{_-_}

@@ -1,5 +1,4 @@
 -- No more columns are answered than the list has records, so as many can be printed.
--- Assumes nothing.
 mod Lts
 mod Tie
 use mathlib.Core.Path.{sym}

@@ -1,5 +1,4 @@
 -- The loop's invariant: the strings that are left lie in the reply, and if they are empty, all are.
--- Assumes nothing.
 use mathlib.Core.Path.{sym, _∙_}
 use mathlib.Core.Bool.{false≢true}
 use Prim.Native.Nat.{_+_, _≤_}

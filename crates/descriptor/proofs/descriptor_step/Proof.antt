@@ -1,5 +1,4 @@
 -- A law for each way out: no room, a type that is not known, strings that the reply ends in, and read.
--- Assumes nothing.
 use native.Mathlib.Omega.{arith}
 use borrow.Author.Tests.{not-true, not-false}
 use borrow.Author.Needs.{needs}

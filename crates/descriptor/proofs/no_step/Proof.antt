@@ -1,5 +1,4 @@
 -- Each string is none.
--- Assumes nothing.
 use borrow.Author.Needs.{needs}
 use Rattle.descriptor.proofs.no_step.Statement.{statement}
 use Rattle.descriptor.proofs.no_step.Tie as tie

@@ -1,5 +1,4 @@
 -- A descriptor that can be read has its 16 bytes; it is what its two groups say.
--- Assumes nothing.
 use native.Mathlib.Omega.{arith}
 use borrow.Author.Needs.{needs}
 use Rattle.descriptor.specs.Nullable.{lenient}

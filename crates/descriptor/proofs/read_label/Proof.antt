@@ -1,5 +1,4 @@
 -- A label m alone, or all strings one after the other.
--- Assumes nothing.
 use native.Mathlib.Omega.{arith}
 use borrow.Author.Needs.{needs}
 use Rattle.descriptor.proofs.NameStrings.{empty-room, label-alone, label-read}

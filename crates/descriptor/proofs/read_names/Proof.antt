@@ -1,5 +1,4 @@
 -- A name m alone, or its pair and the label behind it.
--- Assumes nothing.
 use mathlib.Core.Path.{refl}
 use native.Mathlib.Omega.{arith}
 use borrow.Author.Needs.{needs}

@@ -1,5 +1,4 @@
 -- Each number is the one that its reader promises.
--- Assumes nothing.
 use Prim.Native.Nat.{_%_}
 use borrow.Author.Needs.{needs}
 use Rattle.descriptor.proofs.read_sqldagrp.Statement.{statement}

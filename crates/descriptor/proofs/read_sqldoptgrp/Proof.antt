@@ -1,5 +1,4 @@
 -- A law for each case of the flag.
--- Assumes nothing.
 use borrow.Author.Needs.{needs}
 use Rattle.descriptor.proofs.Groups.{opt-missing, opt-null, opt-held}
 use Rattle.descriptor.proofs.read_sqldoptgrp.Statement.{statement}

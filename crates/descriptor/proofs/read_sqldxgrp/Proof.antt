@@ -1,5 +1,4 @@
 -- A law for each case of the flag.
--- Assumes nothing.
 use borrow.Author.Needs.{needs}
 use Rattle.descriptor.proofs.Groups.{dx-missing, dx-null, dx-held}
 use Rattle.descriptor.proofs.read_sqldxgrp.Statement.{statement}

@@ -1,5 +1,4 @@
 -- A law for each case of the flag.
--- Assumes nothing.
 use mathlib.Core.Path.{sym}
 use borrow.Author.Needs.{needs}
 use Rattle.descriptor.specs.Nullable.{lenient}

@@ -1,5 +1,4 @@
 -- A law for each case of the flag.
--- Assumes nothing.
 use borrow.Author.Needs.{needs}
 use Rattle.descriptor.proofs.Groups.{opt-step-missing, opt-step-null, opt-step-held}
 use Rattle.descriptor.proofs.sqldoptgrp_step.Statement.{statement}

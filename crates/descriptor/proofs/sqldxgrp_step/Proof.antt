@@ -1,5 +1,4 @@
 -- A law for each case of the flag.
--- Assumes nothing.
 use borrow.Author.Needs.{needs}
 use Rattle.descriptor.proofs.Groups.{dx-step-missing, dx-step-null, dx-step-held}
 use Rattle.descriptor.proofs.sqldxgrp_step.Statement.{statement}

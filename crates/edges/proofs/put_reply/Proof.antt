@@ -1,5 +1,4 @@
 -- The answer's count is at most the list's length, and each column that is put leaves the position inside `out`.
--- Assumes nothing.
 mod Lts
 mod Tie
 use mathlib.Core.Path.{_≡_}

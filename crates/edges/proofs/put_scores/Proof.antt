@@ -1,5 +1,4 @@
 -- The two scores, computed, fit 32 bits.
--- Assumes nothing.
 use mathlib.Core.Path.{sym, subst, _∙_}
 use native.Mathlib.Omega.{arith}
 use mir.Syntax.{w32}

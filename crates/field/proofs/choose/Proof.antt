@@ -1,5 +1,4 @@
 -- The second string where the first has no bytes, else the first, past both.
--- Assumes nothing.
 use Rattle.field.proofs.Strings.{chosen-first, chosen-second}
 use Rattle.field.proofs.choose.Statement.{statement}
 use Rattle.field.proofs.choose.Tie as tie

@@ -1,5 +1,4 @@
 -- The pair is chosen of the string at the position and the one past it.
--- Assumes nothing.
 use mathlib.Core.Path.{_∙_}
 use borrow.Author.Needs.{needs}
 use Rattle.field.proofs.Strings.{pair-is}

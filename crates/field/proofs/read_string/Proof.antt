@@ -1,6 +1,5 @@
 -- `field::read_string` meets its contract: a walk of its MIR, by hand. A `Walker` that one call returns is held in a local and passed to the next. All that the proof knows of `walker_at` and of `string` is that each meets its contract.
 -- The machine value that `walker_at` returns is stored and passed on as it is. In a local of a body MIR erases the lifetime of the struct's type, so the value is shown to have the type at `erased`: what the struct owns does not say the lifetime's name.
--- Assumes nothing.
 use mathlib.Core.Path.{_≡_, refl, ap, _∙_}
 use Prim.Native.Nat.{ℕ, _<_, _^_}
 use mathlib.Core.List.{List, [], _∷_}

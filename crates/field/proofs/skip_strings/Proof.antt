@@ -1,5 +1,4 @@
 -- The loop's invariant: past all strings is past those that are left, from the position in hand.
--- Assumes nothing.
 use mathlib.Core.Path.{_≡_, refl}
 use borrow.Author.Needs.{needs}
 use Rattle.field.specs.Strings.{stringsEnd}

@@ -1,5 +1,4 @@
 -- A law for each way out: past the end, no room for a length, no room for the bytes, and read.
--- Assumes nothing.
 use mathlib.Core.Path.{_∙_}
 use borrow.Author.Needs.{needs}
 use Rattle.field.proofs.Strings.{string-past, string-short, string-cut, string-full}

@@ -1,5 +1,4 @@
 -- From 2^31 on the number is below zero.
--- Assumes nothing.
 use borrow.Author.Needs.{needs}
 use Rattle.field.proofs.Numbers.{at-least-zero-is, below-zero-fits, below-zero-is}
 use Rattle.field.proofs.to_signed.Statement.{statement}

@@ -1,5 +1,4 @@
 -- The two halves, in the order that was matched: one law over the width.
--- Assumes nothing.
 use Prim.Native.Nat.{_+_}
 use borrow.Author.Needs.{needs}
 use Rattle.field.proofs.Numbers.{number-one, halves-big, halves-little}

@@ -1,5 +1,4 @@
 -- The two halves, in the order that was matched: one law over the width.
--- Assumes nothing.
 use borrow.Author.Needs.{needs}
 use Rattle.field.proofs.Numbers.{halves-big, halves-little}
 use Rattle.field.proofs.u64_at.Statement.{statement}

@@ -1,5 +1,4 @@
 -- The characters of alphabet 1 are the bytes themselves.
--- Assumes nothing.
 use native.Mathlib.Omega.{arith}
 use borrow.Author.Needs.{needs}
 use Rattle.codepage.specs.Page.{page037}

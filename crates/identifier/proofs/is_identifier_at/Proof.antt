@@ -1,5 +1,4 @@
 -- The three ways out: in neither alphabet, in ASCII, in the page.
--- Assumes nothing.
 use native.Mathlib.Omega.{arith}
 use Prim.Native.Nat.{_+_, _-_}
 use mathlib.Core.Path.{sym, _∙_}

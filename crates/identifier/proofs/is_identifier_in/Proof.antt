@@ -1,5 +1,4 @@
 -- The four ways out: no bytes, too many, one that is no name character, and the answer that is_generated gives.
--- Assumes nothing.
 use native.Mathlib.Omega.{arith}
 use borrow.Author.Needs.{needs}
 use borrow.Author.Tests.{not-true, not-false}

@@ -1,5 +1,4 @@
 -- The three ways out: blanks alone, nothing left, and the answer for what is left.
--- Assumes nothing.
 use native.Mathlib.Omega.{arith}
 use mathlib.Core.Path.{refl}
 use borrow.Author.Needs.{needs}

@@ -1,5 +1,4 @@
 -- The loop's invariant: what trimming leaves of the bytes from i on is what it leaves of all.
--- Assumes nothing.
 use Prim.Native.Nat.{_≤_, _-_, _+_}
 use mathlib.Core.Path.{_≡_, refl, sym, _∙_}
 use native.Mathlib.Omega.{arith}

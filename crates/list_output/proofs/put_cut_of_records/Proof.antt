@@ -1,5 +1,4 @@
 -- No more records are compared than each list has.
--- Assumes nothing.
 mod Lts
 mod Tie
 use mathlib.Core.Path.{sym}

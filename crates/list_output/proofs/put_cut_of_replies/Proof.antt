@@ -1,5 +1,4 @@
 -- No more columns are answered than each list has records, so as many can be compared.
--- Assumes nothing.
 mod Lts
 mod Tie
 use mathlib.Core.Path.{sym}

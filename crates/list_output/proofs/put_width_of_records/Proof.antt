@@ -1,5 +1,4 @@
 -- No more records are asked for their width than the list has.
--- Assumes nothing.
 mod Lts
 mod Tie
 use mathlib.Core.Path.{sym}

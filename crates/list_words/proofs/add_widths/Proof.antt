@@ -1,5 +1,4 @@
 -- Each turn adds one column's width, which no sum of 4,095 can take past 64 bits, or stops at a large column.
--- Assumes nothing.
 use Prim.Native.Nat.{_+_, _*_, _-_, _≤_}
 use lib.ListN.{length}
 use native.Mathlib.Omega.{arith}

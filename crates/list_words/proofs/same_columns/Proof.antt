@@ -1,5 +1,4 @@
 -- Each turn compares one column of both lists, which have equally many.
--- Assumes nothing.
 use Prim.Native.Nat.{_+_, _-_, _≤_}
 use lib.ListN.{length}
 use native.Mathlib.Omega.{arith}

@@ -1,5 +1,4 @@
 -- Each field is picked.
--- Assumes nothing.
 use borrow.Author.Needs.{needs}
 use Rattle.listing.proofs.Rules.{after-is}
 use Rattle.listing.proofs.behind_candidate.Statement.{statement}

@@ -1,5 +1,4 @@
 -- The first where it is asked for, else the second.
--- Assumes nothing.
 use Rattle.listing.proofs.Rules.{pick-first, pick-second}
 use Rattle.listing.proofs.choose_number.Statement.{statement}
 use Rattle.listing.proofs.choose_number.Tie as tie

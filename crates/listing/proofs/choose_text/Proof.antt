@@ -1,5 +1,4 @@
 -- Its fields are picked, one by one.
--- Assumes nothing.
 use borrow.Author.Needs.{needs}
 use Rattle.listing.proofs.Rules.{picked}
 use Rattle.listing.proofs.choose_text.Statement.{statement}

@@ -1,5 +1,4 @@
 -- The loop counts for both rules; its invariant is `Counting` of each.
--- Assumes nothing.
 use native.Mathlib.Omega.{arith}
 use mathlib.Core.Path.{_∙_, sym, subst}
 use Prim.Native.Nat.{_<_}

@@ -1,5 +1,4 @@
 -- The callees' promises.
--- Assumes nothing.
 use mathlib.Core.Path.{refl}
 use borrow.Author.Needs.{needs}
 use borrow.Author.Needs.{needs}

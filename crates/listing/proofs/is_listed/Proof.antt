@@ -1,5 +1,4 @@
 -- Each rule's own test.
--- Assumes nothing.
 use borrow.Author.Needs.{needs}
 use borrow.Author.Needs.{needs}
 use Rattle.listing.proofs.is_listed.Statement.{statement}

@@ -1,5 +1,4 @@
 -- A law of Rules for each way out.
--- Assumes nothing.
 use borrow.Author.Needs.{needs}
 use Rattle.listing.proofs.Rules.{listed-skipped, listed-returns}
 use borrow.Author.Needs.{needs}

@@ -1,5 +1,4 @@
 -- The callees' promises, and what is known behind the candidate lies in the reply.
--- Assumes nothing.
 use mathlib.Core.Path.{sym, subst}
 use borrow.Author.Needs.{needs}
 use Rattle.listing.specs.Listing.{InsideListing}

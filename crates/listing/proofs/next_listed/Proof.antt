@@ -1,5 +1,4 @@
 -- The loop passes over candidates that are not listed; its invariant is `Looking`.
--- Assumes nothing.
 use mathlib.Core.Path.{_∙_, sym, subst}
 use Prim.Native.Nat.{_<_}
 use lib.ListN.{length}

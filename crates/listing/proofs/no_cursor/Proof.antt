@@ -1,5 +1,4 @@
 -- All its texts are empty.
--- Assumes nothing.
 use borrow.Author.Needs.{needs}
 use Rattle.listing.proofs.Lists.{nowhere-within}
 use borrow.Author.Needs.{needs}

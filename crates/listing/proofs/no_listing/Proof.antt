@@ -1,5 +1,4 @@
 -- The last text is the empty one.
--- Assumes nothing.
 use mathlib.Core.Path.{refl}
 use borrow.Author.Needs.{needs}
 use borrow.Author.Needs.{needs}

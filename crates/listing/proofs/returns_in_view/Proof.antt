@@ -1,5 +1,4 @@
 -- A law of Rules for each way out.
--- Assumes nothing.
 use borrow.Author.Needs.{needs}
 use borrow.Author.Tests.{not-true, not-false}
 use Rattle.listing.proofs.Rules.{returns-short, returns-unlike, returns-is}

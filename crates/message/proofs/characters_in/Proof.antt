@@ -1,5 +1,4 @@
 -- The loop's invariant: what is counted and what is left to count are that of the whole block.
--- Assumes nothing.
 use Prim.Native.Nat.{_≤_, _-_, _+_}
 use mathlib.Core.Path.{_≡_, ap}
 use mathlib.Core.Bool.{not}

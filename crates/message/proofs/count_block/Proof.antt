@@ -1,5 +1,4 @@
 -- The loop's invariant: each count and what is left to count are that of the whole block. Counts of at most 128 bytes fit 8 bits.
--- Assumes nothing.
 use Prim.Native.Nat.{_≤_, _-_, _+_}
 use mathlib.Core.Path.{_≡_, ap}
 use mathlib.Core.Bool.{not}

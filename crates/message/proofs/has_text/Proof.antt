@@ -1,5 +1,4 @@
 -- The loop's invariant: the blocks before i have no character but blanks.
--- Assumes nothing.
 use Prim.Native.Nat.{_≤_, _<_, _-_, _+_}
 use mathlib.Core.Path.{_≡_, sym}
 use native.Mathlib.Omega.{arith}

@@ -1,5 +1,4 @@
 -- The loop's invariant: each count and what is left to count are that of all bytes. Of at most 65,536 bytes, 100 times as many fit.
--- Assumes nothing.
 use Prim.Native.Nat.{ℕ, _≤_, _-_, _+_}
 use mathlib.Core.Path.{_≡_}
 use mathlib.Core.Bool.{Bool, not}

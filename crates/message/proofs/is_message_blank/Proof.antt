@@ -1,5 +1,4 @@
 -- In ASCII by a test that was computed over all bytes, else by page 037's own blanks.
--- Assumes nothing.
 use borrow.Author.Needs.{needs}
 use Rattle.codepage.specs.Page.{page037}
 use Rattle.message.proofs.Ascii.{blank-ascii, blank-page}

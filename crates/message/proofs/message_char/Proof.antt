@@ -1,5 +1,4 @@
 -- The definition's four cases. The table that is lent is page 037's, and has 256 entries.
--- Assumes nothing.
 use mathlib.Core.Path.{refl, sym, ap, _∙_}
 use lib.ListN.{length}
 use borrow.Author.Needs.{needs}

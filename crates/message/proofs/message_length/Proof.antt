@@ -1,5 +1,4 @@
 -- The loop's invariant: `end` characters of the text are passed. The text is not longer than its bytes, so that the count fits.
--- Assumes nothing.
 use Prim.Native.Nat.{_+_, _-_}
 use mathlib.Core.Path.{refl, ap, _∙_}
 use native.Mathlib.Omega.{arith}

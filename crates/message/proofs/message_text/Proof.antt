@@ -1,5 +1,4 @@
 -- The ways out, in the order of the refusals: 5, 7 by the place, 7 by the length, 6, and the text.
--- Assumes nothing.
 use mathlib.Core.Path.{refl}
 use native.Mathlib.Omega.{arith}
 use borrow.Author.Needs.{needs}

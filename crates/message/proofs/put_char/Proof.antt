@@ -1,5 +1,4 @@
 -- No store, two or one, as the definition adds no character, two or one.
--- Assumes nothing.
 use mathlib.Core.Path.{sym, ap, _∙_}
 use native.Mathlib.Omega.{arith}
 use lib.ListN.{length, length-set}

@@ -1,5 +1,4 @@
 -- The loop's invariant: what is written so far stands over the buffer's front, and the text goes on with that of the bytes from i on.
--- Assumes nothing.
 use Prim.Native.Nat.{_-_}
 use mathlib.Core.Path.{ap, _∙_}
 use lib.ListN.{length}

@@ -1,5 +1,4 @@
 -- Each turn goes one text on.
--- Assumes nothing.
 mod Lts
 mod Tie
 use Prim.Native.Nat.{_-_}

@@ -1,5 +1,4 @@
 -- No more names are answered than there are texts lent, so as many can be printed.
--- Assumes nothing.
 mod Lts
 mod Tie
 use mathlib.Core.Path.{sym}

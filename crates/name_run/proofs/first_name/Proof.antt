@@ -1,5 +1,4 @@
 -- The first of the three that may be a name, or none.
--- Assumes nothing.
 use mathlib.Core.Path.{sym, _∙_}
 use borrow.Author.Needs.{needs}
 use Rattle.codepage.specs.Page.{page037}

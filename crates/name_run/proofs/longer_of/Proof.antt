@@ -1,5 +1,4 @@
 -- The new run where it is longer, else the one in hand.
--- Assumes nothing.
 use native.Mathlib.Omega.{arith}
 use Rattle.name_run.proofs.Runs.{keep-new, keep-old}
 use Rattle.name_run.proofs.longer_of.Statement.{statement}

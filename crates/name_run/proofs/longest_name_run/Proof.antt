@@ -1,5 +1,4 @@
 -- The loop keeps the longest run of the starts that it has seen: the longest of all is that of those to come and the one in hand.
--- Assumes nothing.
 use Prim.Native.Nat.{_≤_, _+_, _-_}
 use native.Mathlib.Omega.{arith}
 use mathlib.Core.Path.{_≡_, refl}

@@ -1,5 +1,4 @@
 -- False: the option flag is FF, or the first string does not lie in the reply.
--- Assumes nothing.
 use borrow.Author.Needs.{needs}
 use Rattle.codepage.specs.Page.{page037}
 use Rattle.name_run.proofs.Runs.{run-null, run-outside}

@@ -1,5 +1,4 @@
 -- The loop walks from layout to layout; each way out is a law of Runs.
--- Assumes nothing.
 use Prim.Native.Nat.{_-_}
 use native.Mathlib.Omega.{arith}
 use borrow.Author.Needs.{needs}

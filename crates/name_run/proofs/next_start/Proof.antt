@@ -1,5 +1,4 @@
 -- The loop's invariant: there is no run from `from` up to `start`.
--- Assumes nothing.
 use Prim.Native.Nat.{_-_, _≤_}
 use native.Mathlib.Omega.{arith}
 use borrow.Author.Needs.{needs}

@@ -1,5 +1,4 @@
 -- No string, and next 0.
--- Assumes nothing.
 use borrow.Author.Needs.{needs}
 use Rattle.name_run.proofs.no_name.Statement.{statement}
 use Rattle.name_run.proofs.no_name.Tie as tie

@@ -1,5 +1,4 @@
 -- A layout that has a name gives it.
--- Assumes nothing.
 use native.Mathlib.Omega.{arith}
 use Rattle.codepage.specs.Page.{page037}
 use Rattle.name_run.proofs.Layouts.{layout-starts, run-name-inside, run-name-text, scanned-known}

@@ -1,5 +1,4 @@
 -- The ways out: no room for the option flag, FF, a layout that cannot be read, one without a name, and its name.
--- Assumes nothing.
 use native.Mathlib.Omega.{arith}
 use borrow.Author.Needs.{needs}
 use Rattle.codepage.specs.Page.{page037}

@@ -1,5 +1,4 @@
 -- Each turn stores the words of the next name that the rule lists.
--- Assumes nothing.
 use Prim.Native.Nat.{_+_, _-_, _≤_}
 use lib.ListN.{length}
 use native.Mathlib.Omega.{arith}

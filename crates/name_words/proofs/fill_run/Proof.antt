@@ -1,5 +1,4 @@
 -- Each turn stores the words of the name of one more layout of the run.
--- Assumes nothing.
 use mathlib.Core.Path.{_≡_, refl, _∙_}
 use Prim.Native.Nat.{_+_, _*_, _-_, _≤_}
 use lib.ListN.{length}

@@ -1,5 +1,4 @@
 -- Three words are stored, one after the other.
--- Assumes nothing.
 use native.Mathlib.Omega.{arith}
 use lib.ListN.{length-set}
 use borrow.Author.Needs.{needs}

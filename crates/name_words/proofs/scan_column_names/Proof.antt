@@ -1,5 +1,4 @@
 -- The decision's names are written, by the rule that lists them or from their run.
--- Assumes nothing.
 use borrow.Author.Needs.{needs}
 use Rattle.name_words.proofs.Listing.{can-list-words, can-run-words, listed-words, run-words}
 use Rattle.name_words.proofs.scan_column_names.Statement.{statement}

@@ -1,5 +1,4 @@
 -- Each way out is a law of Deciding.
--- Assumes nothing.
 use mathlib.Core.Path.{refl, subst}
 use native.Mathlib.Omega.{arith}
 use borrow.Author.Needs.{needs}

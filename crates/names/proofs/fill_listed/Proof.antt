@@ -1,5 +1,4 @@
 -- Each turn stores the next name that the rule lists.
--- Assumes nothing.
 mod Lts
 mod Tie
 use Prim.Native.Nat.{_-_}

@@ -1,5 +1,4 @@
 -- Each turn stores the name of one more layout of the run.
--- Assumes nothing.
 mod Lts
 mod Tie
 use mathlib.Core.Path.{_∙_}

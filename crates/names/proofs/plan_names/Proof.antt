@@ -1,5 +1,4 @@
 -- Each way out is a law of Choosing.
--- Assumes nothing.
 use native.Mathlib.Omega.{arith}
 use borrow.Author.Needs.{needs}
 use Rattle.listing.proofs.Lists.{first-to-come, first-within}

@@ -1,5 +1,4 @@
 -- The decision's names are written, by the rule that lists them or from their run.
--- Assumes nothing.
 mod Lts
 mod Tie
 use borrow.Author.Needs.{needs}

@@ -1,5 +1,4 @@
 -- The number stands first in the list.
--- Assumes nothing.
 use mathlib.Core.Path.{ap}
 use mathlib.Core.Bool.{not}
 use lib.Dec.{eqb}

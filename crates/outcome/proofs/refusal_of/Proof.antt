@@ -1,5 +1,4 @@
 -- Each arm answers the number and values that the definition gives its case.
--- Assumes nothing.
 use mathlib.Core.Path.{sym, ap, _∙_}
 use Rattle.outcome.specs.Refusal.{refusalOf, inNumbers}
 use borrow.Author.Needs.{needs}

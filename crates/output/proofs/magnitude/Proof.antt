@@ -1,5 +1,4 @@
 -- Below zero the bits are turned over; else the number is its own distance.
--- Assumes nothing.
 use Rattle.output.proofs.Signed.{at-least-zero-casts, at-least-zero-is, below-zero-casts, below-zero-fits, below-zero-is}
 use Rattle.output.proofs.magnitude.Statement.{statement}
 use Rattle.output.proofs.magnitude.Tie as tie

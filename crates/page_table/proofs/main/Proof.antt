@@ -1,5 +1,4 @@
 -- The loop goes over the 256 bytes.
--- Assumes nothing.
 use Prim.Native.Nat.{_≤_, _-_}
 use borrow.Author.Needs.{needs}
 use Rattle.page_table.proofs.main.Statement.{statement}

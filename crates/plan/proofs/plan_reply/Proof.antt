@@ -1,5 +1,4 @@
 -- The plans are looked at one after the other: after each that has no names, `Undecided` says what is still open.
--- Assumes nothing.
 use borrow.Author.Needs.{needs}
 use Rattle.codepage.specs.Page.{page037}
 use Rattle.field.specs.declared.ByteOrder.the-variants.{LittleEndian}

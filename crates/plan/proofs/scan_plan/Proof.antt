@@ -1,5 +1,4 @@
 -- The best run, whose count and names are those of the walk from its start.
--- Assumes nothing.
 use native.Mathlib.Omega.{arith}
 use borrow.Author.Needs.{needs}
 use Rattle.codepage.specs.Page.{page037}

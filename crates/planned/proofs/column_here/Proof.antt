@@ -1,5 +1,4 @@
 -- The record of the numbers that were written is the column that the walk finds.
--- Assumes nothing.
 use borrow.Author.Needs.{needs}
 use Rattle.codepage.specs.Page.{page037}
 use Rattle.planned.proofs.Laws.{column-view}

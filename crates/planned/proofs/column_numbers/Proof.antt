@@ -1,5 +1,4 @@
 -- The descriptor's numbers and texts, and what is past it.
--- Assumes nothing.
 use borrow.Author.Needs.{needs}
 use Rattle.codepage.specs.Page.{page037}
 use Rattle.planned.proofs.Laws.{next-is, numbers-are}

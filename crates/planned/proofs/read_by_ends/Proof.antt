@@ -1,5 +1,4 @@
 -- The descriptor up to its end.
--- Assumes nothing.
 use mathlib.Core.Path.{ap, _∙_}
 use borrow.Author.Needs.{needs}
 use Rattle.compact.specs.Compact.{compactAt}

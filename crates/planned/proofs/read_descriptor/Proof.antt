@@ -1,5 +1,4 @@
 -- Each layout's own reader; that the step can be made gives what it asks.
--- Assumes nothing.
 use borrow.Author.Needs.{needs}
 use Rattle.codepage.specs.Page.{page037}
 use Rattle.planned.proofs.Laws.{standard-room, compact-room, last-room, by-standard, by-compact, by-last}

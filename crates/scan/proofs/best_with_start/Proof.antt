@@ -1,4 +1,3 @@
--- Assumes nothing.
 use mathlib.Core.Path.{ap, _∙_}
 use borrow.Author.Needs.{needs}
 use borrow.Author.Tests.{not-true}

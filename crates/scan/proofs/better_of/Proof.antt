@@ -1,5 +1,4 @@
 -- The new run where its score is strictly greater, else the one in hand.
--- Assumes nothing.
 use borrow.Author.Needs.{needs}
 use Rattle.scan.proofs.Scans.{keep-new, keep-old, in-hand-new}
 use Rattle.scan.proofs.better_of.Statement.{statement}

@@ -1,5 +1,4 @@
 -- The comparison of the two scores.
--- Assumes nothing.
 use borrow.Author.Needs.{needs}
 use Rattle.scan.proofs.Scores.{better-is}
 use Rattle.scan.proofs.is_better.Statement.{statement}

@@ -1,5 +1,4 @@
 -- Little-endian starts after the big-endian ones.
--- Assumes nothing.
 use mathlib.Core.Path.{refl, ap, _∙_}
 use native.Mathlib.Omega.{arith}
 use borrow.Author.Needs.{needs}

@@ -1,5 +1,4 @@
 -- The loop's invariant: the first i characters are written.
--- Assumes nothing.
 use mathlib.Core.Path.{refl, ap, _∙_}
 use mathlib.Core.List.{List}
 use Prim.Native.Nat.{ℕ, _-_}

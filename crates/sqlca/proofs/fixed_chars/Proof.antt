@@ -1,5 +1,4 @@
 -- Printable bytes are copied, others mapped.
--- Assumes nothing.
 use mathlib.Core.Path.{sym, _∙_}
 use borrow.Author.Needs.{needs}
 use Rattle.search.proofs.Over.{over-whole}

@@ -1,5 +1,4 @@
 -- The tests are the definition's.
--- Assumes nothing.
 use mathlib.Core.Path.{refl}
 use borrow.Author.Needs.{needs}
 use Rattle.sqlca.specs.Extension.{isExtended}

@@ -1,5 +1,4 @@
 -- By the bits that the numbers near 0 have in two's complement.
--- Assumes nothing.
 use Rattle.sqlca.proofs.Orders.{near-is}
 use Rattle.sqlca.proofs.is_near.Statement.{statement}
 use Rattle.sqlca.proofs.is_near.Tie as tie

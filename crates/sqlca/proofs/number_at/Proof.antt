@@ -1,5 +1,4 @@
 -- The four bytes in the order given, signed.
--- Assumes nothing.
 use mathlib.Core.Path.{ap, _∙_}
 use borrow.Author.Needs.{needs}
 use Rattle.field.specs.Numbers.{signed}

@@ -1,5 +1,4 @@
 -- Each field is its callee's; without an extension all are 0.
--- Assumes nothing.
 use mathlib.Core.Path.{sym, _∙_}
 use borrow.Author.Needs.{needs}
 use borrow.Author.Tests.{not-true, not-false}

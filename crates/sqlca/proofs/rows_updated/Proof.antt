@@ -1,5 +1,4 @@
 -- A number below 2^31 is its own, and any other is negative.
--- Assumes nothing.
 use mathlib.Core.Path.{sym, ap, _∙_}
 use Prim.Native.Nat.{ℕ}
 use borrow.Author.Needs.{needs}

@@ -1,5 +1,4 @@
 -- Each number is that of its callee.
--- Assumes nothing.
 use mathlib.Core.Path.{_∙_}
 use borrow.Author.Needs.{needs}
 use Rattle.field.proofs.Numbers.{back32}

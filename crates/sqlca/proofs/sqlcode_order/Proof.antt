@@ -1,5 +1,4 @@
 -- The tests are the definition's, on the same two numbers.
--- Assumes nothing.
 use borrow.Author.Needs.{needs}
 use Rattle.sqlca.proofs.Orders.{order-big, order-little}
 use Rattle.sqlca.proofs.sqlcode_order.Statement.{statement}

@@ -1,5 +1,4 @@
 -- The code's order where the two numbers differ, else that of the state's bytes.
--- Assumes nothing.
 use mathlib.Core.Path.{sym, _∙_}
 use mathlib.Core.Bool.{true, false}
 use borrow.Author.Needs.{needs}

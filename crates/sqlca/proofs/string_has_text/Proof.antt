@@ -1,5 +1,4 @@
 -- The part that is lent is the string's bytes.
--- Assumes nothing.
 use mathlib.Core.Path.{ap, _∙_}
 use native.Mathlib.Omega.{arith}
 use borrow.Author.Needs.{needs}

@@ -1,5 +1,4 @@
 -- Eleven bytes are copied over eleven zeros, where they are there.
--- Assumes nothing.
 use mathlib.Core.Path.{sym, _∙_}
 use lib.ListN.{take, drop, replicate}
 use borrow.Author.Needs.{needs}

@@ -1,5 +1,4 @@
 -- None without an extension, else behind the warnings, or behind the numbers where there are none.
--- Assumes nothing.
 use mathlib.Core.Path.{sym, _∙_}
 use native.Mathlib.Omega.{arith}
 use borrow.Author.Needs.{needs}

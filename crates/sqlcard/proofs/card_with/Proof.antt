@@ -1,5 +1,4 @@
 -- Each part is its callee's.
--- Assumes nothing.
 use mathlib.Core.Path.{refl, _∙_}
 use borrow.Author.Needs.{needs}
 use Rattle.codepage.specs.Page.{page037}

@@ -1,5 +1,4 @@
 -- Each way out is a law of Groups: refusal, card and length together.
--- Assumes nothing.
 use mathlib.Core.Path.{sym, ap, _∙_}
 use borrow.Author.Needs.{needs}
 use Rattle.codepage.specs.Page.{page037}

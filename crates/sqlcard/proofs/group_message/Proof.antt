@@ -1,5 +1,4 @@
 -- None without an extension; one that is due is asked for at its first string.
--- Assumes nothing.
 use mathlib.Core.Path.{sym, _∙_}
 use borrow.Author.Needs.{needs}
 use borrow.Author.Tests.{eq-eqb, ne-eqb}

@@ -1,5 +1,4 @@
 -- Each way out is a law of Alones: refusal and card together.
--- Assumes nothing.
 use mathlib.Core.Path.{ap, _∙_}
 use native.Mathlib.Omega.{arith}
 use borrow.Author.Needs.{needs}

@@ -1,5 +1,4 @@
 -- The flag's own byte where it is FF, else past the three strings.
--- Assumes nothing.
 use mathlib.Core.Path.{refl}
 use borrow.Author.Needs.{needs}
 use borrow.Author.Tests.{eq-eqb, ne-eqb}

@@ -1,5 +1,4 @@
 -- Each way out is a law of Groups: 1 byte, 19, 56 that are due, or past the three strings.
--- Assumes nothing.
 use mathlib.Core.Path.{sym, _∙_}
 use borrow.Author.Needs.{needs}
 use borrow.Author.Tests.{eq-eqb, ne-eqb}

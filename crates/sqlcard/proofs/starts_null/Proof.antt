@@ -1,5 +1,4 @@
 -- An empty reply does not start with FF.
--- Assumes nothing.
 use borrow.Author.Needs.{needs}
 use Rattle.sqlcard.proofs.Alones.{empty-not-null}
 use Rattle.sqlcard.proofs.starts_null.Statement.{statement}

@@ -1,5 +1,4 @@
 -- The status read alone, or the group's.
--- Assumes nothing.
 use mathlib.Core.Bool.{true, false}
 use mathlib.Core.Path.{_≡_}
 use borrow.Author.Needs.{needs}

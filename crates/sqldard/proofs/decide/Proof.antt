@@ -1,5 +1,4 @@
 -- Each way out is a law of Deciding.
--- Assumes nothing.
 use mathlib.Core.List.{[], _∷_}
 use mathlib.Core.Path.{refl, ap, subst, _∙_}
 use native.Mathlib.Omega.{arith}

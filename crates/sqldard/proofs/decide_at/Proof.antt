@@ -1,4 +1,3 @@
--- Assumes nothing.
 use mathlib.Core.Path.{subst}
 use borrow.Author.Needs.{needs}
 use Rattle.codepage.specs.Page.{page037}

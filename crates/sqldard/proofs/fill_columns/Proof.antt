@@ -1,5 +1,4 @@
 -- Each turn stores what one more step of the plan's walk finds.
--- Assumes nothing.
 mod Lts
 mod Tie
 use mathlib.Core.Path.{_∙_}

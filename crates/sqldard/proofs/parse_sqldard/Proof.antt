@@ -1,4 +1,3 @@
--- Assumes nothing.
 mod Lts
 mod Tie
 use borrow.Author.Needs.{needs}

@@ -1,5 +1,4 @@
 -- The plan is of no columns, whatever the reply and the room.
--- Assumes nothing.
 use mathlib.Core.Path.{refl}
 use native.Mathlib.Omega.{arith}
 use borrow.Author.Needs.{needs}

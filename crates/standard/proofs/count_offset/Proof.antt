@@ -1,5 +1,4 @@
 -- The group's end where the reply ends there, else what is past SQLDHGRP.
--- Assumes nothing.
 use native.Mathlib.Omega.{arith}
 use borrow.Author.Needs.{needs}
 use Rattle.standard.proofs.Front.{count-at-end, count-at-past}

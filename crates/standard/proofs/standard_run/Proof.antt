@@ -1,5 +1,4 @@
 -- The loop walks from descriptor to descriptor; its invariant is `Walking`, and each way out a law of Runs.
--- Assumes nothing.
 use mathlib.Core.Path.{refl}
 use Prim.Native.Nat.{_-_, _≤_}
 use native.Mathlib.Omega.{arith}

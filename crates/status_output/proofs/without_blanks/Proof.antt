@@ -1,5 +1,4 @@
 -- The end only falls.
--- Assumes nothing.
 use Prim.Native.Nat.{_≤_}
 use lib.ListN.{length}
 use borrow.Author.Needs.{needs}

@@ -1,5 +1,4 @@
 -- The three ways out: no bytes, ASCII, page 037.
--- Assumes nothing.
 use native.Mathlib.Omega.{arith}
 use mathlib.Core.Path.{sym, _∙_}
 use borrow.Author.Needs.{needs}

@@ -1,5 +1,4 @@
 -- The three ways out: too short, another start, the digits' answer.
--- Assumes nothing.
 use mathlib.Core.Path.{sym, _∙_}
 use borrow.Author.Needs.{needs}
 use borrow.Author.Tests.{not-true, not-false}

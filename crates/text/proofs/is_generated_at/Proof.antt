@@ -1,5 +1,4 @@
 -- Either of the two readings of the bytes.
--- Assumes nothing.
 use borrow.Author.Needs.{needs}
 use native.Mathlib.Omega.{arith}
 use Rattle.codepage.specs.Page.{page037}

@@ -1,5 +1,4 @@
 -- The three ways out: too short, another start, the answer for what trimming leaves.
--- Assumes nothing.
 use native.Mathlib.Omega.{arith}
 use borrow.Author.Needs.{needs}
 use Rattle.codepage.specs.Page.{page037}

@@ -1,5 +1,4 @@
 -- A name character by page 037's test, or as it stands.
--- Assumes nothing.
 use borrow.Author.Needs.{needs}
 use Rattle.codepage.specs.Page.{page037}
 use Rattle.text.proofs.Bytes.{names-037, name-page, name-other}

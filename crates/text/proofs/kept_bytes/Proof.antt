@@ -1,5 +1,4 @@
 -- The loop's invariant: the answer is that of the bytes up to the end in hand.
--- Assumes nothing.
 use Prim.Native.Nat.{_≤_}
 use mathlib.Core.Path.{_≡_, sym, ap, _∙_}
 use native.Mathlib.Omega.{arith}

@@ -1,5 +1,4 @@
 -- The bits of the lower 64 characters, or of the next.
--- Assumes nothing.
 use borrow.Author.Needs.{needs}
 use Rattle.text.proofs.Bytes.{bits-low, bits-high}
 use Rattle.text.proofs.name_bits.Statement.{statement}

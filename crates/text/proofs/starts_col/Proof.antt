@@ -1,5 +1,4 @@
 -- The three bytes by page 037's test, or as they stand.
--- Assumes nothing.
 use native.Mathlib.Omega.{arith}
 use borrow.Author.Needs.{needs}
 use Rattle.codepage.specs.Page.{page037}

@@ -1,5 +1,4 @@
 -- Each turn goes one byte on.
--- Assumes nothing.
 use Prim.Native.Nat.{_-_}
 use lib.ListN.{length}
 use borrow.Author.Needs.{needs}

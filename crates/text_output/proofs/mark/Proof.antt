@@ -1,5 +1,4 @@
 -- A store keeps the length, and each turn goes one byte on.
--- Assumes nothing.
 use Prim.Native.Nat.{_-_}
 use mathlib.Core.Path.{_≡_}
 use lib.ListN.{length}

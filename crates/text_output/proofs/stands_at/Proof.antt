@@ -1,5 +1,4 @@
 -- Each turn goes one byte on; the part is no longer than what the reply has there.
--- Assumes nothing.
 use Prim.Native.Nat.{_≤_, _-_}
 use lib.ListN.{length}
 use borrow.Author.Needs.{needs}

@@ -1,5 +1,4 @@
 -- A type outside the table's range has no row; any other is known where the search finds one.
--- Assumes nothing.
 use mathlib.Core.Path.{sym}
 use borrow.Author.Needs.{needs}
 use Rattle.types.proofs.Laws.{outside-unknown}

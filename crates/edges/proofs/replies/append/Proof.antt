@@ -1,5 +1,4 @@
 -- Each byte leaves the position inside the reply, and its length as it was.
--- Assumes nothing.
 use mathlib.Core.Path.{_≡_}
 use Prim.Native.Nat.{_≤_, _-_}
 use lib.ListN.{length}

@@ -1,5 +1,4 @@
 -- A store leaves the reply's length as it was.
--- Assumes nothing.
 use native.Mathlib.Omega.{arith}
 use lib.ListN.{length-set}
 use borrow.Author.Needs.{needs}

@@ -1,5 +1,4 @@
 -- Each turn goes 50 bytes on, and stays inside: where it ends, the bytes are a whole number of records.
--- Assumes nothing.
 use mathlib.Core.Bool.{false≢true}
 use mathlib.Core.Path.{_≡_}
 use Prim.Native.Nat.{_≤_, _-_, _%_}

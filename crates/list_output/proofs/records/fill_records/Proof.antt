@@ -1,5 +1,4 @@
 -- Bytes are taken while 50 are left, and records stored while there is room: a store keeps the list's length.
--- Assumes nothing.
 mod Lts
 mod Tie
 use mathlib.Core.Path.{_≡_}
