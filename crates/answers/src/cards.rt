@@ -1,49 +1,119 @@
-// The entries that read a status record: S, s and G.
-ghost use Prim.Native.Nat.{_≤_};
-ghost use lib.ListN.{length};
+// The entries that read a status record, S, s and G, and how one is written:
+// ` st=NULL,CODE,STATE,PROC,E1/E2/E3/E4/E5/E6,FETCHED,UPDATED,WARNINGS,MESSAGE`.
+use crate::puts;
+use sqlcard::SqlCard;
+
+fn put_comma(out: &mut [u8], used: usize) -> usize {
+    output::put_byte(out, used, b',')
+}
+
+// NULL and CODE.
+fn put_code(out: &mut [u8], used: usize, card: SqlCard) -> usize {
+    let next = output::put_bytes(out, used, b" st=");
+    let next = output::put_number(out, next, card.is_null as u64);
+    let next = put_comma(out, next);
+    output::put_signed(out, next, card.sqlcode)
+}
+
+// STATE and PROC: of SQLERRPROC as many bytes as the record has.
+fn put_state(out: &mut [u8], used: usize, card: SqlCard) -> usize {
+    let state = card.sqlstate;
+    let procedure = card.sqlerrproc;
+    let next = put_comma(out, used);
+    let next = puts::put_hex(out, next, &state);
+    let next = put_comma(out, next);
+    puts::put_hex_first(out, next, &procedure, card.sqlerrproc_length as usize)
+}
+
+// The six numbers of SQLERRD, `/` between.
+fn put_errors(out: &mut [u8], used: usize, errors: &[i32]) -> usize {
+    let mut next = used;
+    let mut i = 0;
+    let mut mark = b',';
+    while i < errors.len() {
+        next = output::put_byte(out, next, mark);
+        next = output::put_signed(out, next, errors[i]);
+        mark = b'/';
+        i += 1;
+    }
+    next
+}
+
+// FETCHED and UPDATED.
+fn put_rows(out: &mut [u8], used: usize, card: SqlCard) -> usize {
+    let next = put_comma(out, used);
+    let next = output::put_number(out, next, card.rows_fetched);
+    let next = put_comma(out, next);
+    output::put_number(out, next, card.rows_updated as u64)
+}
+
+fn put_warnings(out: &mut [u8], used: usize, warnings: &[u8; 11]) -> usize {
+    let next = put_comma(out, used);
+    puts::put_hex(out, next, warnings)
+}
+
+// MESSAGE: its text, written to `room` first; `?` where it is refused.
+fn put_message(out: &mut [u8], used: usize, reply: &[u8], card: SqlCard, room: &mut [u8]) -> usize {
+    let next = put_comma(out, used);
+    let text =
+        jigshard::texts::jigshard_message_text(reply, card.message_place, card.message_length, room);
+    let refusal = text.refusal;
+    if refusal.number != 0 {
+        return output::put_byte(out, next, b'?');
+    }
+    puts::put_hex_first(out, next, room, text.count)
+}
+
+pub(crate) fn put_status(
+    out: &mut [u8],
+    used: usize,
+    reply: &[u8],
+    card: SqlCard,
+    room: &mut [u8],
+) -> usize {
+    let errors = card.sqlerrd;
+    let warnings = card.sqlwarn;
+    let next = put_code(out, used, card);
+    let next = put_state(out, next, card);
+    let next = put_errors(out, next, &errors);
+    let next = put_rows(out, next, card);
+    let next = put_warnings(out, next, &warnings);
+    put_message(out, next, reply, card, room)
+}
 
 // S: the status alone.
-pub fn put_status_alone(out: &mut [u8], used: usize, reply: &[u8], room: &mut [u8]) -> usize
-    requires { ⌜ used ≤ length (now out) ⌝ }
-    ensures { λ r. ⌜ r ≤ length (now (out .exit)) ⌝ }
-{
-    let answer = sqlcard::parse_sqlcard_data(reply);
-    let outcome = answer.outcome;
-    if outcome::is_refused(outcome) {
-        return output::put_refusal(out, used, outcome);
+pub(crate) fn put_status_alone(out: &mut [u8], used: usize, reply: &[u8], room: &mut [u8]) -> usize {
+    let answer = jigshard::status::jigshard_parse_sqlcard_data(reply);
+    let refusal = answer.refusal;
+    if refusal.number != 0 {
+        return output::put_refusal(out, used, refusal);
     }
     let card = answer.card;
     let next = output::put_bytes(out, used, b"OK");
-    card_output::put_status(out, next, reply, card, room)
+    put_status(out, next, reply, card, room)
 }
 
 // s: the same, and where the message stands in the reply.
-pub fn put_message_place(out: &mut [u8], used: usize, reply: &[u8]) -> usize
-    requires { ⌜ used ≤ length (now out) ⌝ }
-    ensures { λ r. ⌜ r ≤ length (now (out .exit)) ⌝ }
-{
-    let answer = sqlcard::parse_sqlcard_data(reply);
-    let outcome = answer.outcome;
-    if outcome::is_refused(outcome) {
-        return output::put_refusal(out, used, outcome);
+pub(crate) fn put_message_place(out: &mut [u8], used: usize, reply: &[u8]) -> usize {
+    let answer = jigshard::status::jigshard_parse_sqlcard_data(reply);
+    let refusal = answer.refusal;
+    if refusal.number != 0 {
+        return output::put_refusal(out, used, refusal);
     }
     let card = answer.card;
     let next = output::put_bytes(out, used, b"OK ");
-    output::put_place(out, next, card.message_place, card.message_length)
+    puts::put_place(out, next, card.message_place, card.message_length)
 }
 
 // G: the SQLCA group and its length.
-pub fn put_group(out: &mut [u8], used: usize, reply: &[u8], room: &mut [u8]) -> usize
-    requires { ⌜ used ≤ length (now out) ⌝ }
-    ensures { λ r. ⌜ r ≤ length (now (out .exit)) ⌝ }
-{
-    let answer = sqlcard::consume_sqlca_group(reply);
-    let outcome = answer.outcome;
-    if outcome::is_refused(outcome) {
-        return output::put_refusal(out, used, outcome);
+pub(crate) fn put_group(out: &mut [u8], used: usize, reply: &[u8], room: &mut [u8]) -> usize {
+    let answer = jigshard::status::jigshard_consume_sqlca_group(reply);
+    let refusal = answer.refusal;
+    if refusal.number != 0 {
+        return output::put_refusal(out, used, refusal);
     }
     let card = answer.card;
     let next = output::put_bytes(out, used, b"OK g=");
     let next = output::put_number(out, next, answer.length as u64);
-    card_output::put_status(out, next, reply, card, room)
+    put_status(out, next, reply, card, room)
 }

@@ -42,7 +42,7 @@ fn type_code(db2_type: Db2Type) -> u8
 }
 
 // What the type says besides: its length, its digits, or precision and scale in two bytes.
-fn type_value(db2_type: Db2Type) -> u64
+pub fn type_value(db2_type: Db2Type) -> u64
     ensures { λ r. ⌜ r ≡ valueOf «db2_type» ⌝ }
 {
     match db2_type {
@@ -117,7 +117,7 @@ pub fn put_column_words(column: ColumnMetadata, words: &mut [u64], at: usize)
 }
 
 // The type with this code, and what the value says of it. Codes that are none stand for Xml.
-fn type_with(code: u64, value: u16) -> Db2Type
+pub fn type_with(code: u64, value: u16) -> Db2Type
     ensures { λ r. ⌜ r ≡ typeWith code value ⌝ }
 {
     match code {

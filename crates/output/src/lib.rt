@@ -1,16 +1,18 @@
-// The output. Bytes are gathered in `out`, the first `used` of it; when it is full, it is written and starts again.
+// The output of a program. Bytes are gathered in `out`, the first `used` of it; when it is full, it is written and starts again.
 // A position at its end says that the output is closed, for good or because a write failed: then nothing is put any more.
+// `put_byte`, which alone stores a byte, tests the room itself: so nothing has to be known of a position, and the functions have no contract.
+mod type_names;
+
+pub use type_names::put_type;
+pub use type_names::type_letters;
+pub use type_names::without_blanks;
 ghost use mathlib.Core.Path.{_≡_};
-ghost use Prim.Native.Nat.{_≤_, _<_};
 ghost use lib.IntN.{natAbs};
-ghost use lib.ListN.{length};
 use libc::STDOUT_FILENO;
-use outcome::Outcome;
+use outcome::Refusal;
 
 // Writes all of it. The next position is the start, or the end where the write failed.
-fn written(out: &[u8]) -> usize
-    ensures { λ r. ⌜ r ≤ length (now (out .entry)) ⌝ }
-{
+fn written(out: &[u8]) -> usize {
     if io::write_all(STDOUT_FILENO, out) {
         return 0;
     }
@@ -18,21 +20,15 @@ fn written(out: &[u8]) -> usize
 }
 
 // Writes what was gathered, and closes the output.
-pub fn close(out: &mut [u8], used: usize) -> usize
-    requires { ⌜ used ≤ length (now out) ⌝ }
-    ensures { λ r. ⌜ r ≤ length (now (out .exit)) ⌝ }
-{
+pub fn close(out: &mut [u8], used: usize) -> usize {
     if used < out.len() {
         io::write_all(STDOUT_FILENO, &out[0..used]);
     }
     out.len()
 }
 
-pub fn put_byte(out: &mut [u8], used: usize, byte: u8) -> usize
-    requires { ⌜ used ≤ length (now out) ⌝ }
-    ensures { λ r. ⌜ r ≤ length (now (out .exit)) ⌝ }
-{
-    if used == out.len() {
+pub fn put_byte(out: &mut [u8], used: usize, byte: u8) -> usize {
+    if used >= out.len() {
         return used;
     }
     out[used] = byte;
@@ -43,10 +39,7 @@ pub fn put_byte(out: &mut [u8], used: usize, byte: u8) -> usize
     written(out)
 }
 
-pub fn put_bytes(out: &mut [u8], used: usize, bytes: &[u8]) -> usize
-    requires { ⌜ used ≤ length (now out) ⌝ }
-    ensures { λ r. ⌜ r ≤ length (now (out .exit)) ⌝ }
-{
+pub fn put_bytes(out: &mut [u8], used: usize, bytes: &[u8]) -> usize {
     let mut next = used;
     let mut i = 0;
     while i < bytes.len() {
@@ -57,10 +50,7 @@ pub fn put_bytes(out: &mut [u8], used: usize, bytes: &[u8]) -> usize
 }
 
 // A character below 256: as it is in ASCII, as two bytes of UTF-8 above, and `.` if it is a control.
-pub fn put_character(out: &mut [u8], used: usize, character: u8) -> usize
-    requires { ⌜ used ≤ length (now out) ⌝ }
-    ensures { λ r. ⌜ r ≤ length (now (out .exit)) ⌝ }
-{
+fn put_character(out: &mut [u8], used: usize, character: u8) -> usize {
     if (character >= 0x20) & (character <= 0x7E) {
         return put_byte(out, used, character);
     }
@@ -72,10 +62,7 @@ pub fn put_character(out: &mut [u8], used: usize, character: u8) -> usize
 }
 
 // Characters, each of a byte, as status records and texts have them.
-pub fn put_characters(out: &mut [u8], used: usize, characters: &[u8]) -> usize
-    requires { ⌜ used ≤ length (now out) ⌝ }
-    ensures { λ r. ⌜ r ≤ length (now (out .exit)) ⌝ }
-{
+pub fn put_characters(out: &mut [u8], used: usize, characters: &[u8]) -> usize {
     let mut next = used;
     let mut i = 0;
     while i < characters.len() {
@@ -85,35 +72,13 @@ pub fn put_characters(out: &mut [u8], used: usize, characters: &[u8]) -> usize
     next
 }
 
-// The line for a case that is none. It is the last.
-pub fn put_bad(out: &mut [u8], used: usize) -> usize
-    requires { ⌜ used ≤ length (now out) ⌝ }
-    ensures { λ r. ⌜ r ≤ length (now (out .exit)) ⌝ }
-{
-    let next = put_bytes(out, used, b"BAD\n");
-    close(out, next)
-}
-
-pub fn put_number(out: &mut [u8], used: usize, number: u64) -> usize
-    requires { ⌜ used ≤ length (now out) ⌝ }
-    ensures { λ r. ⌜ r ≤ length (now (out .exit)) ⌝ }
-{
+pub fn put_number(out: &mut [u8], used: usize, number: u64) -> usize {
     let mut digits = [0u8; 20];
     let count = io::decimal(number, &mut digits);
     put_bytes(out, used, &digits[0..count])
 }
 
-// `place/length` of bytes in a reply.
-pub fn put_place(out: &mut [u8], used: usize, place: usize, count: usize) -> usize
-    requires { ⌜ used ≤ length (now out) ⌝ }
-    ensures { λ r. ⌜ r ≤ length (now (out .exit)) ⌝ }
-{
-    let next = put_number(out, used, place as u64);
-    let next = put_byte(out, next, b'/');
-    put_number(out, next, count as u64)
-}
-
-// How far a number is from zero: the least one too, though nothing of its type is so far above.
+// The absolute value, also of -2147483648, which no number of its type is.
 fn magnitude(number: i32) -> u64
     ensures { λ r. ⌜ r ≡ natAbs number ⌝ }
 {
@@ -123,10 +88,7 @@ fn magnitude(number: i32) -> u64
     number as u64
 }
 
-pub fn put_signed(out: &mut [u8], used: usize, number: i32) -> usize
-    requires { ⌜ used ≤ length (now out) ⌝ }
-    ensures { λ r. ⌜ r ≤ length (now (out .exit)) ⌝ }
-{
+pub fn put_signed(out: &mut [u8], used: usize, number: i32) -> usize {
     if number < 0 {
         let next = put_byte(out, used, b'-');
         return put_number(out, next, magnitude(number));
@@ -134,71 +96,22 @@ pub fn put_signed(out: &mut [u8], used: usize, number: i32) -> usize
     put_number(out, used, magnitude(number))
 }
 
-fn hex_digit(value: u8) -> u8
-    requires { ⌜ value < 16 ⌝ }
-{
-    if value < 10 { 48 + value } else { 87 + value }
-}
-
-pub fn put_hex_byte(out: &mut [u8], used: usize, byte: u8) -> usize
-    requires { ⌜ used ≤ length (now out) ⌝ }
-    ensures { λ r. ⌜ r ≤ length (now (out .exit)) ⌝ }
-{
-    let next = put_byte(out, used, hex_digit(byte / 16));
-    put_byte(out, next, hex_digit(byte % 16))
-}
-
-// Two lower-case digits for each byte, `-` where there is none.
-pub fn put_hex(out: &mut [u8], used: usize, bytes: &[u8]) -> usize
-    requires { ⌜ used ≤ length (now out) ⌝ }
-    ensures { λ r. ⌜ r ≤ length (now (out .exit)) ⌝ }
-{
-    if bytes.len() == 0 {
-        return put_byte(out, used, b'-');
-    }
-    let mut next = used;
-    let mut i = 0;
-    while i < bytes.len() {
-        next = put_hex_byte(out, next, bytes[i]);
-        i += 1;
-    }
-    next
-}
-
-// The first `count` bytes so, `?` where there are not so many.
-pub fn put_hex_first(out: &mut [u8], used: usize, bytes: &[u8], count: usize) -> usize
-    requires { ⌜ used ≤ length (now out) ⌝ }
-    ensures { λ r. ⌜ r ≤ length (now (out .exit)) ⌝ }
-{
-    if bytes.len() < count {
-        return put_byte(out, used, b'?');
-    }
-    put_hex(out, used, &bytes[0..count])
-}
-
-// A value behind a blank.
-pub fn put_value(out: &mut [u8], used: usize, value: usize) -> usize
-    requires { ⌜ used ≤ length (now out) ⌝ }
-    ensures { λ r. ⌜ r ≤ length (now (out .exit)) ⌝ }
-{
+// A value after a blank.
+pub fn put_value(out: &mut [u8], used: usize, value: u64) -> usize {
     let next = put_byte(out, used, b' ');
-    put_number(out, next, value as u64)
+    put_number(out, next, value)
 }
 
 // A refusal: `E` and its number, then its values, blank between.
-pub fn put_refusal(out: &mut [u8], used: usize, outcome: Outcome) -> usize
-    requires { ⌜ used ≤ length (now out) ⌝ }
-    ensures { λ r. ⌜ r ≤ length (now (out .exit)) ⌝ }
-{
-    let refusal = outcome::refusal_of(outcome);
+pub fn put_refusal(out: &mut [u8], used: usize, refusal: Refusal) -> usize {
     let start = put_byte(out, used, b'E');
     let number = put_number(out, start, refusal.number as u64);
     if refusal.count == 0 {
         return number;
     }
-    let first = put_value(out, number, refusal.first);
+    let first = put_value(out, number, refusal.first as u64);
     if refusal.count == 1 {
         return first;
     }
-    put_value(out, first, refusal.second)
+    put_value(out, first, refusal.second as u64)
 }

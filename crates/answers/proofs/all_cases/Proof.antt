@@ -1,17 +1,19 @@
--- A case leaves the position inside `out`, and what is lent as long as it was. The turns that are left fall, so the loop ends.
-use Prim.Native.Nat.{_≤_}
+-- The lengths stay.
 use mathlib.Core.Path.{_≡_}
+use Prim.Native.Nat.{}
 use lib.ListN.{length}
 use borrow.Author.Needs.{needs}
 use Rattle.answers.proofs.all_cases.Statement.{statement}
 use Rattle.answers.proofs.all_cases.Tie as tie
 
 abbrev Inv-loop : tie.InvT-loop
-Inv-loop out₀ payload₀ room₀ used₀ turns₀ out payload room used turns =
-    (used ≤ length out) × (length out ≡ length out₀) × (length payload ≡ length payload₀) × (length room ≡ length room₀)
+Inv-loop out₀ payload₀ room₀ words₀ others₀ used₀ turns₀ out payload room words others used turns = (length out ≡ length out₀) × (length payload ≡ length payload₀) × (length room ≡ length room₀) × (length words ≡ length words₀) × (length others ≡ length others₀)
 
 abbrev μ-loop : tie.MeasureT-loop
-μ-loop out₀ payload₀ room₀ used₀ turns₀ out payload room used turns = turns
+μ-loop out₀ payload₀ room₀ words₀ others₀ used₀ turns₀ out payload room words others used turns = turns
+
+loop-again : tie.Need-loop-again Inv-loop μ-loop
+loop-again c = search needs
 
 pub all-cases-spec : {M : Type 1} → statement M
 all-cases-spec =
@@ -20,6 +22,10 @@ all-cases-spec =
     Inv-loop
     μ-loop
     (search needs)
+    (search needs)
+    (search needs)
+    (search needs)
+    loop-again
     (search needs)
     (search needs)
     (search needs)

@@ -1,13 +1,13 @@
--- Each byte that is put leaves the position inside `out`, and its length as it was.
+-- Each byte that is put leaves the length of `out` as it was.
 use mathlib.Core.Path.{_≡_}
-use Prim.Native.Nat.{_≤_, _-_}
+use Prim.Native.Nat.{_-_}
 use lib.ListN.{length}
 use borrow.Author.Needs.{needs}
 use Rattle.output.proofs.put_bytes.Statement.{statement}
 use Rattle.output.proofs.put_bytes.Tie as tie
 
 abbrev Inv-loop : tie.InvT-loop
-Inv-loop out₀ used bytes next₀ i₀ out next i = (next ≤ length out) × (length out ≡ length out₀)
+Inv-loop out₀ used bytes next₀ i₀ out next i = length out ≡ length out₀
 
 abbrev μ-loop : tie.MeasureT-loop
 μ-loop out₀ used bytes next₀ i₀ out next i = length bytes - i

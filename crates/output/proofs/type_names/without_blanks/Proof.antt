@@ -2,8 +2,8 @@
 use Prim.Native.Nat.{_≤_}
 use lib.ListN.{length}
 use borrow.Author.Needs.{needs}
-use Rattle.status_output.proofs.without_blanks.Statement.{statement}
-use Rattle.status_output.proofs.without_blanks.Tie as tie
+use Rattle.output.proofs.type_names.without_blanks.Statement.{statement}
+use Rattle.output.proofs.type_names.without_blanks.Tie as tie
 
 abbrev Inv-loop : tie.InvT-loop
 Inv-loop characters end₀ end = end ≤ length characters

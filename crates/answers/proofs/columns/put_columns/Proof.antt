@@ -1,0 +1,29 @@
+-- Each column that is put leaves the lengths as they were.
+use mathlib.Core.Path.{_≡_}
+use Prim.Native.Nat.{_-_}
+use lib.ListN.{length}
+use borrow.Author.Needs.{needs}
+use Rattle.answers.proofs.columns.put_columns.Statement.{statement}
+use Rattle.answers.proofs.columns.put_columns.Tie as tie
+
+abbrev Inv-loop : tie.InvT-loop
+Inv-loop out₀ used reply words count room₀ next₀ i₀ out room next i = (length out ≡ length out₀) × (length room ≡ length room₀)
+
+abbrev μ-loop : tie.MeasureT-loop
+μ-loop out₀ used reply words count room₀ next₀ i₀ out room next i = count - i
+
+pub put-columns-spec : {M : Type 1} → statement M
+put-columns-spec =
+    tie.close
+    (tie.spec
+    Inv-loop
+    μ-loop
+    (search needs)
+    (search needs)
+    (search needs)
+    (search needs)
+    (search needs)
+    (search needs)
+    (search needs)
+    (search needs)
+    (search needs))

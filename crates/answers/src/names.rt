@@ -1,0 +1,110 @@
+// The entries that scan for names: N and n.
+use crate::lent;
+use crate::puts;
+use text::Text;
+
+// The words of the 8,192 texts that are lent.
+const WORDS: usize = 24_576;
+
+// The text at a place of a list in words, an empty one where there is none.
+fn text_in(words: &[u64], i: usize) -> Text {
+    if i >= words.len() / 3 {
+        return Text {
+            place: 0,
+            length: 0,
+            alphabet: 1,
+        };
+    }
+    let at = i * 3;
+    Text {
+        place: words[at] as usize,
+        length: words[at + 1] as usize,
+        alphabet: (words[at + 2] % 256) as u8,
+    }
+}
+
+// Whether the words past the first `count` texts are as they were marked.
+fn are_kept(words: &[u64], count: usize) -> bool {
+    if words.len() / 3 < count {
+        return false;
+    }
+    lent::are_marked(words, count * 3)
+}
+
+fn put_all(
+    out: &mut [u8],
+    used: usize,
+    reply: &[u8],
+    words: &[u64],
+    count: usize,
+    room: &mut [u8],
+) -> usize {
+    let mut next = used;
+    let mut i = 0;
+    while i < count {
+        next = puts::put_text(out, next, reply, text_in(words, i), 0, room);
+        i += 1;
+    }
+    next
+}
+
+fn put_all_places(out: &mut [u8], used: usize, words: &[u64], count: usize) -> usize {
+    let mut next = used;
+    let mut i = 0;
+    while i < count {
+        next = puts::put_text_place(out, next, text_in(words, i));
+        i += 1;
+    }
+    next
+}
+
+fn put_names_in(
+    out: &mut [u8],
+    used: usize,
+    reply: &[u8],
+    room: &mut [u8],
+    words: &mut [u64],
+) -> usize {
+    lent::mark_words(words);
+    let answer = jigshard::name_scan::jigshard_scan_column_names(reply, words);
+    let refusal = answer.refusal;
+    let count = answer.count;
+    let next = puts::put_count(out, used, refusal, count, are_kept(words, count));
+    put_all(out, next, reply, words, count, room)
+}
+
+// N: the names.
+pub(crate) fn put_names(
+    out: &mut [u8],
+    used: usize,
+    reply: &[u8],
+    room: &mut [u8],
+    words: &mut [u64],
+) -> usize {
+    if words.len() < WORDS {
+        return puts::put_bad(out, used);
+    }
+    put_names_in(out, used, reply, room, &mut words[0..WORDS])
+}
+
+fn put_places_in(out: &mut [u8], used: usize, reply: &[u8], words: &mut [u64]) -> usize {
+    lent::mark_words(words);
+    let answer = jigshard::name_scan::jigshard_scan_column_names(reply, words);
+    let refusal = answer.refusal;
+    let count = answer.count;
+    let next = puts::put_count(out, used, refusal, count, are_kept(words, count));
+    put_all_places(out, next, words, count)
+}
+
+// n: the same, and where they stand in the reply.
+pub(crate) fn put_name_places(
+    out: &mut [u8],
+    used: usize,
+    reply: &[u8],
+    words: &mut [u64],
+) -> usize {
+    if words.len() < WORDS {
+        return puts::put_bad(out, used);
+    }
+    put_places_in(out, used, reply, &mut words[0..WORDS])
+}
