@@ -2,7 +2,10 @@
 mod page037;
 
 ghost use mathlib.Core.Path.{_≡_};
+ghost use mathlib.Core.List.{map};
+ghost use Prim.Native.Nat.{_≤_};
 ghost use lib.ListN.{length, getD};
+ghost use Rattle.search.specs.Search.{over};
 ghost use Rattle.codepage.specs.Page.{page037, charIn};
 ghost use Rattle.codepage.specs.Blank.{isBlankIn};
 
@@ -26,6 +29,19 @@ pub fn char_by(table: &[u8], byte: u8) -> u8
     ensures { λ r. ⌜ r ≡ getD (now (table .entry)) byte 0 ⌝ }
 {
     table[byte as usize]
+}
+
+// Writes the bytes' characters over the buffer's front.
+pub fn write_chars(bytes: &[u8], buffer: &mut [u8])
+    requires { ⌜ length (now bytes) ≤ length (now buffer) ⌝ }
+    ensures { λ _. ⌜ now (buffer .exit) ≡ over (map (charIn page037) (now (bytes .entry))) (now (buffer .entry)) ⌝ }
+{
+    let table = ebcdic037_table();
+    let mut i = 0;
+    while i < bytes.len() {
+        buffer[i] = char_by(&table, bytes[i]);
+        i += 1;
+    }
 }
 
 // Whether trimming drops the byte's character. By the eight bytes themselves: naming the table would copy it at each call.

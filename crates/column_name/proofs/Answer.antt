@@ -4,18 +4,18 @@ use mathlib.Core.Bool.{true, false}
 use mathlib.Core.List.{List}
 use Prim.Native.Nat.{ℕ, _<_, _≤_}
 use native.Mathlib.Omega.{arith}
-use lib.Dec.{ltb}
 use lib.ListN.{length}
-use borrow.Author.Tests.{lt-ltb, le-ltb, eq-eqb, ne-eqb}
+use borrow.Author.Tests.{eq-eqb, ne-eqb}
 use Rattle.search.specs.Search.{over}
 use Rattle.codepage.specs.Page.{Page}
 use Rattle.outcome.specs.Refusal.{refusalOf, isRefused}
+use Rattle.outcome.specs.Room.{roomRefusal, roomLength, roomWritten}
+use Rattle.outcome.proofs.Room.{no-room, has-room}
 use Rattle.outcome.specs.declared.Outcome.{Outcome}
 use Rattle.outcome.specs.declared.Outcome.the-variants.{Accepted, RoomTooShort}
 use Rattle.text.specs.Chars.{chars}
 use Rattle.types.specs.declared.ColumnMetadata.{ColumnMetadata}
 use Rattle.column_name.specs.Part.{partRefusal, ownBytes}
-use Rattle.column_name.specs.Room.{roomRefusal, roomLength, roomWritten}
 use Rattle.column_name.specs.Name.{generatedName, nameOf, nameRefusal, nameLength, nameWritten}
 use Rattle.column_name.specs.declared.NameText.{NameText}
 
@@ -27,18 +27,14 @@ Writes text buffer m b =
 
 module _ (text buffer : List ℕ) (n : ℕ) (e : n ≡ length text) where
   pub writes-short : length buffer < n → (m : NameText) → (m .outcome ≡ RoomTooShort n) × (m .length ≡ 0) → Writes text buffer m buffer
-  unfolding roomRefusal roomLength roomWritten
   writes-short h m q =
-      let k : ltb (length buffer) (length text) ≡ true = lt-ltb (length buffer) (length text) (omega arith) in (
-        ap refusalOf (q .0) ∙ rw (k, e) refl,
-        (q .1 ∙ rw k refl, rw k refl),
-      )
+      let a = no-room text buffer (omega arith) in
+      (ap refusalOf (q .0) ∙ rw e (sym (a .refuses)), (q .1 ∙ sym (a .gives), sym (a .leaves)))
 
   pub writes-all : n ≤ length buffer → (b : List ℕ) → b ≡ over text buffer → Writes text buffer (record { outcome = Accepted; length = n }) b
-  unfolding roomRefusal roomLength roomWritten
   writes-all h b w =
-      let k : ltb (length buffer) (length text) ≡ false = le-ltb (length buffer) (length text) (omega arith) in
-      (rw k refl, (e ∙ rw k refl, w ∙ rw k refl))
+      let a = has-room text buffer (omega arith) in
+      (sym (a .refuses), (e ∙ sym (a .gives), w ∙ sym (a .leaves)))
 
 -- the answer m to a column's name, with the buffer b as it is left
 abbrev pub Answers : Page → List ℕ → ColumnMetadata → List ℕ → NameText → List ℕ → Type 0

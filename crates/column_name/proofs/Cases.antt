@@ -4,22 +4,23 @@ use mathlib.Core.List.{List, [], _∷_}
 use Prim.Native.Nat.{ℕ}
 use lib.ListN.{length}
 use Rattle.codepage.specs.Page.{page037, table037}
+use Rattle.decimal.specs.Decimal.{digitsOf, decimalOf}
+use Rattle.outcome.specs.Room.{roomRefusal, roomLength, roomWritten}
 use Rattle.text.specs.Chars.{charOf}
 use Rattle.text.specs.Text.{textIs}
 use Rattle.text.specs.declared.Text.{Text}
 use Rattle.types.specs.declared.ColumnMetadata.{ColumnMetadata}
 use Rattle.column_name.specs.Part.{partRefusal, partOf}
-use Rattle.column_name.specs.Room.{roomRefusal, roomLength, roomWritten}
 use Rattle.column_name.specs.Name.{generatedName, nameOf, nameRefusal, nameLength, nameWritten}
 
 -- COL1, the name of the first column
 pub case-col1 : generatedName 0 ≡ 0x43 ∷ 0x4F ∷ 0x4C ∷ 0x31 ∷ []
-unfolding generatedName
+unfolding generatedName decimalOf digitsOf
 case-col1 = refl
 
 -- COL65536, the longest
 pub case-col65536 : generatedName 65535 ≡ 0x43 ∷ 0x4F ∷ 0x4C ∷ 0x36 ∷ 0x35 ∷ 0x35 ∷ 0x33 ∷ 0x36 ∷ []
-unfolding generatedName
+unfolding generatedName decimalOf digitsOf
 case-col65536 = refl
 
 -- the name t of this reply is refused so, and its own bytes are these
@@ -74,5 +75,5 @@ module _ (c : ColumnMetadata) where
   -- a column without a name, the tenth
   pub case-col10 : c .name ≡ textIs 0 0 0 → c .number ≡ 9
       → Answered [] c (9 ∷ 9 ∷ 9 ∷ 9 ∷ 9 ∷ []) (0 ∷ []) 5 (0x43 ∷ 0x4F ∷ 0x4C ∷ 0x31 ∷ 0x30 ∷ [])
-  unfolding partRefusal nameRefusal nameLength nameWritten roomRefusal roomLength roomWritten nameOf generatedName
+  unfolding partRefusal nameRefusal nameLength nameWritten roomRefusal roomLength roomWritten nameOf generatedName decimalOf digitsOf
   case-col10 e f = record { refuses = rw (e, f) refl; gives = rw (e, f) refl; leaves = rw (e, f) refl }

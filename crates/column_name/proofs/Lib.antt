@@ -1,5 +1,5 @@
 pub mod Part
 pub mod Written
-pub mod Digits
+pub mod Letters
 pub mod Answer
 pub mod Cases

@@ -1,3 +1,2 @@
 pub mod Part
-pub mod Room
 pub mod Name

@@ -1,27 +1,19 @@
 -- The text of a column's name, and what the entry name text leaves in the buffer (01, Answers: name text; 01, Numbers of refusal).
-use mathlib.Core.List.{List, [], _∷_, _++_}
-use Prim.Native.Nat.{ℕ, zero, suc, _+_, _/_, _%_}
-use lib.Dec.{eqb, ltb}
+use mathlib.Core.List.{List, _∷_}
+use Prim.Native.Nat.{ℕ, _+_}
+use lib.Dec.{eqb}
 use Rattle.search.specs.Search.{pick}
 use Rattle.codepage.specs.Page.{Page}
 use Rattle.outcome.specs.Refusal.{isRefused}
+use Rattle.outcome.specs.Room.{roomRefusal, roomLength, roomWritten}
+use Rattle.decimal.specs.Decimal.{decimalOf}
 use Rattle.text.specs.Chars.{chars}
 use Rattle.types.specs.declared.ColumnMetadata.{ColumnMetadata}
-use Rattle.column_name.specs.Room.{roomRefusal, roomLength, roomWritten}
 use Rattle.column_name.specs.Part.{partRefusal, ownBytes}
 
--- an ASCII digit (01, Numbers of refusal: in decimal)
-abbrev pub digitOf : ℕ → ℕ
-digitOf n = 0x30 + n % 10
-
--- the decimal digits of n, at most k of them (01, Numbers of refusal: in decimal)
-abbrev pub digitsOf : ℕ → ℕ → List ℕ
-digitsOf zero n = []
-digitsOf (suc k) n = pick (ltb n 10) (digitOf n ∷ []) (digitsOf k (n / 10) ++ (digitOf n ∷ []))
-
--- COL and number + 1 in decimal, which has at most five digits: a number has 16 bits (01, Numbers of refusal: alphabet 0)
+-- COL and number + 1 in decimal (01, Numbers of refusal: alphabet 0)
 unfoldable pub generatedName : ℕ → List ℕ
-generatedName number = 0x43 ∷ 0x4F ∷ 0x4C ∷ digitsOf 5 (number + 1)
+generatedName number = 0x43 ∷ 0x4F ∷ 0x4C ∷ decimalOf (number + 1)
 
 -- the name's text: generated for alphabet 0, else its bytes' characters, untrimmed (01, Numbers of refusal: name part and name text)
 unfoldable pub nameOf : Page → List ℕ → ColumnMetadata → List ℕ

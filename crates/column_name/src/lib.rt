@@ -2,15 +2,14 @@
 ghost use mathlib.Core.Path.{_≡_};
 ghost use mathlib.Core.Bool.{false};
 ghost use mathlib.Core.List.{[], _∷_};
-ghost use Prim.Native.Nat.{_+_, _≤_, _%_};
+ghost use Prim.Native.Nat.{_≤_};
 ghost use lib.ListN.{length, drop};
-ghost use Rattle.search.specs.Search.{over};
 ghost use Rattle.codepage.specs.Page.{page037};
 ghost use Rattle.outcome.specs.Refusal.{refusalOf, isRefused};
 ghost use Rattle.text.specs.Chars.{chars};
 ghost use Rattle.column_name.specs.Part.{partRefusal, ownBytes, partOf};
-ghost use Rattle.column_name.specs.Name.{digitOf, generatedName, nameRefusal, nameLength, nameWritten};
-ghost use Rattle.column_name.specs.Room.{roomRefusal, roomLength, roomWritten};
+ghost use Rattle.column_name.specs.Name.{generatedName, nameRefusal, nameLength, nameWritten};
+ghost use Rattle.outcome.specs.Room.{roomRefusal, roomLength, roomWritten};
 use outcome::Outcome;
 use text::Text;
 use types::ColumnMetadata;
@@ -63,62 +62,25 @@ pub fn name_part<'a>(reply: &'a [u8], column: ColumnMetadata, refusal: &mut u8) 
     own_bytes(reply, name)
 }
 
-fn digit(n: u32) -> u8
-    ensures { λ r. ⌜ r ≡ digitOf n ⌝ }
-{
-    (0x30 + n % 10) as u8
-}
-
 // The generated name of a column: its characters end where the array ends.
 pub struct Generated {
-    pub characters: [u8; 8],
+    pub characters: [u8; 24],
     pub start: usize,
 }
 
 fn generated_name(number: u16) -> Generated
-    ensures within { λ r. ⌜ (r .start ≤ 8) × (length (r .characters) ≡ 8) ⌝ }
+    ensures within { λ r. ⌜ (r .start ≤ 24) × (length (r .characters) ≡ 24) ⌝ }
     ensures ends { λ r. ⌜ drop (r .start) (r .characters) ≡ generatedName number ⌝ }
 {
-    let mut characters = [0; 8];
-    let mut rest = number as u32 + 1;
-    let mut at = 7;
-    while rest >= 10 {
-        characters[at] = digit(rest);
-        rest /= 10;
-        at -= 1;
-    }
-    characters[at] = digit(rest);
-    characters[at - 1] = 0x4C;
-    characters[at - 2] = 0x4F;
-    characters[at - 3] = 0x43;
+    let digits = decimal::digits_of(number as u64 + 1);
+    let start = digits.start;
+    let mut characters = digits.characters;
+    characters[start - 1] = 0x4C;
+    characters[start - 2] = 0x4F;
+    characters[start - 3] = 0x43;
     Generated {
         characters,
-        start: at - 3,
-    }
-}
-
-// Writes the bytes over the buffer's front.
-fn copy_bytes(bytes: &[u8], buffer: &mut [u8])
-    requires { ⌜ length (now bytes) ≤ length (now buffer) ⌝ }
-    ensures { λ _. ⌜ now (buffer .exit) ≡ over (now (bytes .entry)) (now (buffer .entry)) ⌝ }
-{
-    let mut i = 0;
-    while i < bytes.len() {
-        buffer[i] = bytes[i];
-        i += 1;
-    }
-}
-
-// Writes the bytes' characters in page 037 over the buffer's front.
-fn write_page037(bytes: &[u8], buffer: &mut [u8])
-    requires { ⌜ length (now bytes) ≤ length (now buffer) ⌝ }
-    ensures { λ _. ⌜ now (buffer .exit) ≡ over (chars page037 2 (now (bytes .entry))) (now (buffer .entry)) ⌝ }
-{
-    let table = codepage::ebcdic037_table();
-    let mut i = 0;
-    while i < bytes.len() {
-        buffer[i] = codepage::char_by(&table, bytes[i]);
-        i += 1;
+        start: start - 3,
     }
 }
 
@@ -145,9 +107,9 @@ fn write_text(bytes: &[u8], alphabet: u8, buffer: &mut [u8]) -> NameText
         return refused(Outcome::RoomTooShort(n));
     }
     if alphabet == 2 {
-        write_page037(bytes, buffer);
+        codepage::write_chars(bytes, buffer);
     } else {
-        copy_bytes(bytes, buffer);
+        bytes::copy(bytes, buffer);
     }
     NameText {
         outcome: Outcome::Accepted,

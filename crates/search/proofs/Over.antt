@@ -5,7 +5,8 @@ use Prim.Native.Nat.{ℕ, zero, suc, _+_, _≤_, _<_}
 use native.Mathlib.Numerals.{add-one}
 use native.Mathlib.Omega.{arith}
 use lib.ListN.{length, getD, take, drop, set, length-append, length-drop, length-map, drop-of-length-le}
-use lib.Seq.{drop-cons, take-suc, set-at, length-take-le, take-all}
+use lib.Seq.{drop-cons, take-suc, set-at, length-take-le, take-length}
+use Rattle.search.specs.Search.{over}
 
 module _ {A : Type 0} (t b : List A) (i : ℕ) where
   -- one element more
@@ -18,13 +19,19 @@ module _ {A : Type 0} (t b : List A) (i : ℕ) where
   pub over-length : i ≤ length t → i ≤ length b → length (take i t ++ drop i b) ≡ length b
   over-length p q = omega (arith, length-append (take i t) (drop i b), length-drop i b, length-take-le i t p)
 
-  -- all of it, over a list that is as long
-  pub over-all : length t ≤ i → length b ≤ i → take i t ++ drop i b ≡ t
-  over-all p q = rw (take-all i t p, drop-of-length-le b q) (append-nil t)
+module _ {A : Type 0} (t b : List A) where
+  -- nothing is left of a list that is as long
+  pub over-whole : length t ≡ length b → over t b ≡ t
+  over-whole h =
+      let z : length b ≤ length t = omega arith in
+      rw (drop-of-length-le b z) (append-nil t)
 
--- a whole list, over one that is as long
-pub over-whole : {A : Type 0} (t b : List A) → length t ≡ length b → take (length t) t ++ drop (length t) b ≡ t
-over-whole t b h = over-all t b (length t) (omega arith) (omega arith)
+  -- as the toolchain's `bytes::copy` says it
+  pub over-copied : take (length t) t ++ drop (length t) b ≡ over t b
+  over-copied = rw (take-length t) refl
+
+  pub copied-whole : length t ≡ length b → take (length t) t ++ drop (length t) b ≡ t
+  copied-whole h = over-copied ∙ over-whole h
 
 -- an element of a list that was mapped
 pub getD-map : {A B : Type 0} (f : A → B) (l : List A) (i : ℕ) (d : A) (e : B) → i < length l → getD (map f l) i e ≡ f (getD l i d)
@@ -32,27 +39,23 @@ getD-map f [] i d e h = absurd (omega arith)
 getD-map f (x ∷ xs) zero d e h = refl
 getD-map f (x ∷ xs) (suc i) d e h = getD-map f xs i d e (omega arith)
 
--- a loop that maps l into b, which is as long: m stands there when i elements are written
+-- a loop that maps l over the front of b: m stands there when i elements are written
 abbrev pub Mapped : {A B : Type 0} → (A → B) → List A → List B → List B → ℕ → Type 0
 Mapped f l b m i = (i ≤ length l) × (m ≡ take i (map f l) ++ drop i b)
 
-module _ {A B : Type 0} (f : A → B) (l : List A) (b : List B) (h : length l ≡ length b) where
-  module _ (m : List B) (i : ℕ) (v : Mapped f l b m i) where
-    pub mapped-length : length m ≡ length b
-    mapped-length =
-        let n : length (map f l) ≡ length l = length-map l f in
-        let k = over-length (map f l) b i (omega (arith, v .0)) (omega (arith, v .0, h)) in
-        ap length (v .1) ∙ k
+module _ {A B : Type 0} (f : A → B) (l : List A) (b : List B) (h : length l ≤ length b) (m : List B) (i : ℕ) (v : Mapped f l b m i) where
+  pub mapped-length : length m ≡ length b
+  mapped-length = ap length (v .1) ∙ over-length (map f l) b i (omega (arith, length-map l f, v .0)) (omega (arith, v .0))
 
-    pub mapped-more : (x : B) (d : A) → i < length l → x ≡ f (getD l i d) → Mapped f l b (set m i x) (i + 1)
-    mapped-more x d g e =
-        let n : length (map f l) ≡ length l = length-map l f in
-        let y : x ≡ getD (map f l) i x = e ∙ sym (getD-map f l i d x g) in
-        let z : set m i x ≡ set (take i (map f l) ++ drop i b) i (getD (map f l) i x) =
-        ap (λ (w : List B). set w i x) (v .1) ∙ ap (set (take i (map f l) ++ drop i b) i) y in
-        (omega arith, z ∙ over-next (map f l) b i x (omega arith) (omega (arith, h)))
+  pub mapped-more : (x : B) (d : A) → i < length l → x ≡ f (getD l i d) → Mapped f l b (set m i x) (i + 1)
+  mapped-more x d g e =
+      let n : length (map f l) ≡ length l = length-map l f in
+      let y : x ≡ getD (map f l) i x = e ∙ sym (getD-map f l i d x g) in
+      let z : set m i x ≡ set (take i (map f l) ++ drop i b) i (getD (map f l) i x) =
+      ap (λ (w : List B). set w i x) (v .1) ∙ ap (set (take i (map f l) ++ drop i b) i) y in
+      (omega arith, z ∙ over-next (map f l) b i x (omega arith) (omega arith))
 
-    pub mapped-all : length l ≤ i → m ≡ map f l
-    mapped-all g =
-        let n : length (map f l) ≡ length l = length-map l f in
-        v .1 ∙ over-all (map f l) b i (omega arith) (omega (arith, h))
+  pub mapped-all : length l ≤ i → m ≡ over (map f l) b
+  mapped-all g =
+      let n : i ≡ length (map f l) = omega (arith, length-map l f, v .0) in
+      v .1 ∙ rw n (over-copied (map f l) b)

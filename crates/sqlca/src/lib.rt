@@ -1,10 +1,9 @@
 // The fields of a SQLCA: SQLCODE and its byte order, state and proc, numbers and warnings, the message.
 ghost use mathlib.Core.Path.{_≡_};
-ghost use mathlib.Core.List.{map};
 ghost use Prim.Native.Nat.{_+_, _≤_};
 ghost use lib.ListN.{length};
 ghost use Rattle.search.specs.Search.{each};
-ghost use Rattle.codepage.specs.Page.{page037, charIn};
+ghost use Rattle.codepage.specs.Page.{page037};
 ghost use Rattle.field.specs.Numbers.{number, signed};
 ghost use Rattle.message.specs.Message.{isPrintable, hasText};
 ghost use Rattle.sqlca.specs.Code.{isNear, codeOrder, codeOf, numbersOrder, fixedChars};
@@ -76,18 +75,6 @@ fn all_printable(bytes: &[u8]) -> bool
     true
 }
 
-fn convert(bytes: &[u8], characters: &mut [u8])
-    requires { ⌜ length (now bytes) ≡ length (now characters) ⌝ }
-    ensures { λ _. ⌜ now (characters .exit) ≡ map (charIn page037) (now (bytes .entry)) ⌝ }
-{
-    let table = codepage::ebcdic037_table();
-    let mut i = 0;
-    while i < bytes.len() {
-        characters[i] = codepage::char_by(&table, bytes[i]);
-        i += 1;
-    }
-}
-
 // The characters of state or proc, untrimmed.
 pub fn fixed_chars(bytes: &[u8], characters: &mut [u8])
     requires { ⌜ length (now bytes) ≡ length (now characters) ⌝ }
@@ -96,7 +83,7 @@ pub fn fixed_chars(bytes: &[u8], characters: &mut [u8])
     if all_printable(bytes) {
         bytes::copy(bytes, characters);
     } else {
-        convert(bytes, characters);
+        codepage::write_chars(bytes, characters);
     }
 }
 

@@ -4,7 +4,7 @@ use native.Mathlib.Omega.{arith}
 use borrow.Author.Needs.{needs}
 use Rattle.codepage.specs.Page.{page037}
 use Rattle.outcome.specs.Refusal.{isRefused}
-use Rattle.column_name.proofs.Digits.{lent-name}
+use Rattle.column_name.proofs.Letters.{lent-name}
 use Rattle.column_name.proofs.Written.{chars-other}
 use Rattle.column_name.proofs.Answer.{name-generated, name-own, answers-refused, answers-text}
 use Rattle.column_name.proofs.name_text.Statement.{statement}

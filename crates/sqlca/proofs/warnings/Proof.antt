@@ -2,7 +2,7 @@
 use mathlib.Core.Path.{sym, _∙_}
 use lib.ListN.{take, drop, replicate}
 use borrow.Author.Needs.{needs}
-use Rattle.search.proofs.Over.{over-whole}
+use Rattle.search.proofs.Over.{copied-whole}
 use Rattle.text.proofs.Decode.{lent-length}
 use Rattle.sqlca.proofs.Extended.{warnings-there, warnings-none}
 use Rattle.sqlca.proofs.warnings.Statement.{statement}
@@ -12,7 +12,7 @@ returns : tie.Need-returns
 returns c =
     let start = c .before .before .before .before .before .before in
     c .before .copy .ensures .1
-    ∙ (over-whole (take 11 (drop 43 (start .args .reply .now))) (replicate 11 0) (lent-length (start .args .reply .now) 43 11 (c .before .before .before .before .if1 .taken))
+    ∙ (copied-whole (take 11 (drop 43 (start .args .reply .now))) (replicate 11 0) (lent-length (start .args .reply .now) 43 11 (c .before .before .before .before .if1 .taken))
     ∙ sym (warnings-there (start .args .reply .now) (c .before .before .before .before .if1 .taken)))
 
 returns-2 : tie.Need-returns-2
