@@ -55,8 +55,12 @@ fn put_warnings(out: &mut [u8], used: usize, warnings: &[u8; 11]) -> usize {
 // MESSAGE: its text, written to `room` first; `?` where it is refused.
 fn put_message(out: &mut [u8], used: usize, reply: &[u8], card: SqlCard, room: &mut [u8]) -> usize {
     let next = put_comma(out, used);
-    let text =
-        jigshard::texts::jigshard_message_text(reply, card.message_place, card.message_length, room);
+    let text = jigshard::texts::jigshard_message_text(
+        reply,
+        card.message_place,
+        card.message_length,
+        room,
+    );
     let refusal = text.refusal;
     if refusal.number != 0 {
         return output::put_byte(out, next, b'?');
@@ -82,7 +86,12 @@ pub(crate) fn put_status(
 }
 
 // S: the status alone.
-pub(crate) fn put_status_alone(out: &mut [u8], used: usize, reply: &[u8], room: &mut [u8]) -> usize {
+pub(crate) fn put_status_alone(
+    out: &mut [u8],
+    used: usize,
+    reply: &[u8],
+    room: &mut [u8],
+) -> usize {
     let answer = jigshard::status::jigshard_parse_sqlcard_data(reply);
     let refusal = answer.refusal;
     if refusal.number != 0 {

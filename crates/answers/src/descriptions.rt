@@ -140,13 +140,7 @@ fn put_places_in(out: &mut [u8], used: usize, reply: &[u8], words: &mut [u64]) -
     columns::put_all_places(out, next, words, count)
 }
 
-fn put_places_of(
-    out: &mut [u8],
-    used: usize,
-    reply: &[u8],
-    lent: u16,
-    words: &mut [u64],
-) -> usize {
+fn put_places_of(out: &mut [u8], used: usize, reply: &[u8], lent: u16, words: &mut [u64]) -> usize {
     let end = 22 * lent as usize;
     if words.len() < end {
         return puts::put_bad(out, used);

@@ -61,7 +61,10 @@ fn described(reply: &[u8], words: &mut [u64]) -> usize {
     if words.len() < WORDS {
         return 0;
     }
-    let count = jigshard::description::jigshard_parse_sqldard_data(reply, &mut words[0..WORDS]).count;
+    let count = jigshard::description::jigshard_parse_sqldard_data(
+        reply,
+        &mut words[0..WORDS],
+    ).count;
     if 4096 < count {
         return 0;
     }
@@ -132,7 +135,14 @@ pub(crate) fn put_same_cut_of_records(
     if payload.len() - 4 - first != second {
         return puts::put_bad(out, used);
     }
-    put_two_lists(out, used, &payload[2..2 + first], &payload[4 + first..], words, others)
+    put_two_lists(
+        out,
+        used,
+        &payload[2..2 + first],
+        &payload[4 + first..],
+        words,
+        others,
+    )
 }
 
 // R: the widest row of records.

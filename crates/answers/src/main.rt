@@ -13,7 +13,7 @@ mod texts;
 
 use input::Next;
 
-// What one case is answered: an entry is a function and an arm. `room` is lent for texts, `words` and `others` for lists.
+// What a case is answered: an entry is a function and an arm. `room` is lent for texts, `words` and `others` for lists.
 fn put_answer(
     out: &mut [u8],
     used: usize,

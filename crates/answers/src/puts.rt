@@ -65,8 +65,14 @@ pub(crate) fn put_text(
     room: &mut [u8],
 ) -> usize {
     let next = output::put_byte(out, used, b' ');
-    let answer =
-        jigshard::texts::jigshard_name_text(reply, number, text.place, text.length, text.alphabet, room);
+    let answer = jigshard::texts::jigshard_name_text(
+        reply,
+        number,
+        text.place,
+        text.length,
+        text.alphabet,
+        room,
+    );
     let refusal = answer.refusal;
     if refusal.number != 0 {
         return output::put_byte(out, next, b'?');

@@ -89,12 +89,7 @@ fn put_name(out: &mut [u8], used: usize, reply: &[u8], named: Named, lent: &mut 
 }
 
 // T: a name's text. In front of the reply stand the column's number, its name's place, length and alphabet, and how many bytes are lent.
-pub(crate) fn put_name_text(
-    out: &mut [u8],
-    used: usize,
-    payload: &[u8],
-    room: &mut [u8],
-) -> usize {
+pub(crate) fn put_name_text(out: &mut [u8], used: usize, payload: &[u8], room: &mut [u8]) -> usize {
     if payload.len() < 13 {
         return puts::put_bad(out, used);
     }

@@ -12,7 +12,7 @@ ghost use Rattle.column_words.specs.Words.{valueOf, wordsOf};
 ghost use Rattle.column_words.specs.Columns.{typeWith, isType, numbersFit, alphabetsFit, isColumn, columnIn, areColumns};
 
 // The type's DRDA code without the nullable bit.
-fn type_code(db2_type: Db2Type) -> u8
+pub fn type_code(db2_type: Db2Type) -> u8
     ensures { λ r. ⌜ r ≡ codeOf «db2_type» ⌝ }
 {
     match db2_type {

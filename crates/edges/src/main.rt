@@ -1,20 +1,15 @@
 // Runs the cases of document 01 that have no letter, and a reply for each of its wrong turns: a line for each. The gate compares this with
 // the file stdout, which has what document 01 says.
-ghost use Prim.Native.Nat.{_≤_};
-ghost use lib.ListN.{length};
 use sqldard::SqldardAnswer;
 use types::ColumnMetadata;
 
 mod replies;
 
 // What stands in front of the columns: nothing, or why there are none.
-fn put_head(out: &mut [u8], used: usize, answer: SqldardAnswer) -> usize
-    requires { ⌜ used ≤ length (now out) ⌝ }
-    ensures { λ r. ⌜ r ≤ length (now (out .exit)) ⌝ }
-{
+fn put_head(out: &mut [u8], used: usize, answer: SqldardAnswer) -> usize {
     let outcome = answer.outcome;
     if outcome::is_refused(outcome) {
-        return output::put_refusal(out, used, outcome);
+        return output::put_refusal(out, used, outcome::refusal_of(outcome));
     }
     if answer.count == 0 {
         return output::put_bytes(out, used, b"no columns");
@@ -23,10 +18,7 @@ fn put_head(out: &mut [u8], used: usize, answer: SqldardAnswer) -> usize
 }
 
 // A column's name between quotes, so that its blanks are seen.
-fn put_name(out: &mut [u8], used: usize, reply: &[u8], column: ColumnMetadata) -> usize
-    requires { ⌜ used ≤ length (now out) ⌝ }
-    ensures { λ r. ⌜ r ≤ length (now (out .exit)) ⌝ }
-{
+fn put_name(out: &mut [u8], used: usize, reply: &[u8], column: ColumnMetadata) -> usize {
     let mut buffer = [0u8; 64];
     let text = column_name::name_text(reply, column, &mut buffer);
     let count = text.length;
@@ -40,10 +32,7 @@ fn put_name(out: &mut [u8], used: usize, reply: &[u8], column: ColumnMetadata) -
 }
 
 // What stands between two columns.
-fn put_comma(out: &mut [u8], used: usize, number: u16) -> usize
-    requires { ⌜ used ≤ length (now out) ⌝ }
-    ensures { λ r. ⌜ r ≤ length (now (out .exit)) ⌝ }
-{
+fn put_comma(out: &mut [u8], used: usize, number: u16) -> usize {
     if number == 0 {
         return used;
     }
@@ -51,22 +40,16 @@ fn put_comma(out: &mut [u8], used: usize, number: u16) -> usize
 }
 
 // A column's name and type.
-fn put_column(out: &mut [u8], used: usize, reply: &[u8], column: ColumnMetadata) -> usize
-    requires { ⌜ used ≤ length (now out) ⌝ }
-    ensures { λ r. ⌜ r ≤ length (now (out .exit)) ⌝ }
-{
+fn put_column(out: &mut [u8], used: usize, reply: &[u8], column: ColumnMetadata) -> usize {
     let db2_type = column.db2_type;
     let next = put_comma(out, used, column.number);
     let next = put_name(out, next, reply, column);
     let next = output::put_byte(out, next, b' ');
-    type_output::put_type(out, next, db2_type)
+    output::put_type(out, next, db2_type)
 }
 
 // The columns of a reply, in a line.
-fn put_reply(out: &mut [u8], used: usize, reply: &[u8]) -> usize
-    requires { ⌜ used ≤ length (now out) ⌝ }
-    ensures { λ r. ⌜ r ≤ length (now (out .exit)) ⌝ }
-{
+fn put_reply(out: &mut [u8], used: usize, reply: &[u8]) -> usize {
     let blank = column::blank_column();
     let mut columns = [blank; 16];
     let answer = sqldard::parse_sqldard_data(reply, &mut columns);
@@ -82,20 +65,14 @@ fn put_reply(out: &mut [u8], used: usize, reply: &[u8]) -> usize
 }
 
 // What a line shows, and the columns.
-fn put_case(out: &mut [u8], used: usize, shown: &[u8], reply: &[u8]) -> usize
-    requires { ⌜ used ≤ length (now out) ⌝ }
-    ensures { λ r. ⌜ r ≤ length (now (out .exit)) ⌝ }
-{
+fn put_case(out: &mut [u8], used: usize, shown: &[u8], reply: &[u8]) -> usize {
     let next = output::put_bytes(out, used, shown);
     let next = output::put_bytes(out, next, b": ");
     put_reply(out, next, reply)
 }
 
 // The two scores that document 01 gives.
-fn put_scores(out: &mut [u8], used: usize) -> usize
-    requires { ⌜ used ≤ length (now out) ⌝ }
-    ensures { λ r. ⌜ r ≤ length (now (out .exit)) ⌝ }
-{
+fn put_scores(out: &mut [u8], used: usize) -> usize {
     let of_three = scan::exact_score(1, 3, 2);
     let of_four = scan::exact_score(1, 4, 3);
     let next = output::put_bytes(out, used, b"score of one named, two generated: ");
@@ -106,10 +83,7 @@ fn put_scores(out: &mut [u8], used: usize) -> usize
 }
 
 // What these scores do to replies that only the scan can read.
-fn put_scans(out: &mut [u8], used: usize) -> usize
-    requires { ⌜ used ≤ length (now out) ⌝ }
-    ensures { λ r. ⌜ r ≤ length (now (out .exit)) ⌝ }
-{
+fn put_scans(out: &mut [u8], used: usize) -> usize {
     let mut reply = [0u8; 256];
     let end = replies::two_generated(&mut reply);
     let next = put_case(out, used, b"one named, two generated", &reply[0..end]);
@@ -120,10 +94,7 @@ fn put_scans(out: &mut [u8], used: usize) -> usize
 }
 
 // Two wrong turns of document 01, about names: a reader that takes one writes another line.
-fn put_names(out: &mut [u8], used: usize) -> usize
-    requires { ⌜ used ≤ length (now out) ⌝ }
-    ensures { λ r. ⌜ r ≤ length (now (out .exit)) ⌝ }
-{
+fn put_names(out: &mut [u8], used: usize) -> usize {
     let mut reply = [0u8; 256];
     let end = replies::blanks_in_name(&mut reply);
     let next = put_case(out, used, b"an ASCII name keeps its blanks", &reply[0..end]);
@@ -132,10 +103,7 @@ fn put_names(out: &mut [u8], used: usize) -> usize
 }
 
 // Its three wrong turns about readings.
-fn put_readings(out: &mut [u8], used: usize) -> usize
-    requires { ⌜ used ≤ length (now out) ⌝ }
-    ensures { λ r. ⌜ r ≤ length (now (out .exit)) ⌝ }
-{
+fn put_readings(out: &mut [u8], used: usize) -> usize {
     let mut reply = [0u8; 256];
     let end = replies::last_column_fails(&mut reply);
     let next = put_case(out, used, b"the last of two columns fails", &reply[0..end]);

@@ -2,49 +2,22 @@
 ghost use Prim.Native.Nat.{_≤_};
 ghost use lib.ListN.{length};
 
-// Puts a byte behind the first `used` bytes of a reply, where there is room.
-fn append_byte(reply: &mut [u8], used: usize, byte: u8) -> usize
-    requires { ⌜ used ≤ length (now reply) ⌝ }
-    ensures { λ r. ⌜ r ≤ length (now (reply .exit)) ⌝ }
-{
-    if used == reply.len() {
-        return used;
-    }
-    reply[used] = byte;
-    used + 1
-}
-
-fn append(reply: &mut [u8], used: usize, bytes: &[u8]) -> usize
-    requires { ⌜ used ≤ length (now reply) ⌝ }
-    ensures { λ r. ⌜ r ≤ length (now (reply .exit)) ⌝ }
-{
-    let mut next = used;
-    let mut i = 0;
-    while i < bytes.len() {
-        next = append_byte(reply, next, bytes[i]);
-        i += 1;
-    }
-    next
-}
-
 // The numbers of a descriptor: precision and scale, length, SQLTYPE and CCSID.
 fn append_numbers(reply: &mut [u8], used: usize) -> usize
-    requires { ⌜ used ≤ length (now reply) ⌝ }
     ensures { λ r. ⌜ r ≤ length (now (reply .exit)) ⌝ }
 {
-    let next = append(reply, used, b"\x00\x00\x00\x00");
-    let next = append(reply, next, b"\x00\x00\x00\x00\x00\x00\x00\x04");
-    append(reply, next, b"\x01\xC4\x04\xB8")
+    let next = line::append(reply, used, b"\x00\x00\x00\x00");
+    let next = line::append(reply, next, b"\x00\x00\x00\x00\x00\x00\x00\x04");
+    line::append(reply, next, b"\x01\xC4\x04\xB8")
 }
 
 // The rest of one that has a name, which is given with its length in front. No other string has bytes.
 fn append_strings(reply: &mut [u8], used: usize, name: &[u8]) -> usize
-    requires { ⌜ used ≤ length (now reply) ⌝ }
     ensures { λ r. ⌜ r ≤ length (now (reply .exit)) ⌝ }
 {
-    let next = append(reply, used, b"\x00\x00\x00");
-    let next = append(reply, next, name);
-    append(
+    let next = line::append(reply, used, b"\x00\x00\x00");
+    let next = line::append(reply, next, name);
+    line::append(
         reply,
         next,
         b"\x00\x00\x00\x00\x00\x00\x00\x00\x00\x00\xFF\xFF",
@@ -52,7 +25,6 @@ fn append_strings(reply: &mut [u8], used: usize, name: &[u8]) -> usize
 }
 
 fn append_named(reply: &mut [u8], used: usize, name: &[u8]) -> usize
-    requires { ⌜ used ≤ length (now reply) ⌝ }
     ensures { λ r. ⌜ r ≤ length (now (reply .exit)) ⌝ }
 {
     let next = append_numbers(reply, used);
@@ -61,18 +33,17 @@ fn append_named(reply: &mut [u8], used: usize, name: &[u8]) -> usize
 
 // A column without a name.
 fn append_generated(reply: &mut [u8], used: usize) -> usize
-    requires { ⌜ used ≤ length (now reply) ⌝ }
     ensures { λ r. ⌜ r ≤ length (now (reply .exit)) ⌝ }
 {
     let next = append_numbers(reply, used);
-    append_byte(reply, next, 0xFF)
+    line::append(reply, next, b"\xFF")
 }
 
 // The head says that there are no columns, so only the scan finds any.
 pub fn two_generated(reply: &mut [u8]) -> usize
     ensures { λ r. ⌜ r ≤ length (now (reply .exit)) ⌝ }
 {
-    let next = append(reply, 0, b"\xFF\xFF\x00\x00");
+    let next = line::append(reply, 0, b"\xFF\xFF\x00\x00");
     let next = append_named(reply, next, b"\x00\x04DOOR");
     let next = append_generated(reply, next);
     append_generated(reply, next)
@@ -93,14 +64,14 @@ pub fn generated_first(reply: &mut [u8]) -> usize
     let next = append_generated(reply, next);
     let next = append_generated(reply, next);
     let next = append_numbers(reply, next);
-    let next = append(reply, next, b"\x00\x00\x00\x00\x01X");
-    append(reply, next, b"\x00\x00\x00\x00\x00\x00\x00\x00\x00\x00")
+    let next = line::append(reply, next, b"\x00\x00\x00\x00\x01X");
+    line::append(reply, next, b"\x00\x00\x00\x00\x00\x00\x00\x00\x00\x00")
 }
 
 pub fn blanks_in_name(reply: &mut [u8]) -> usize
     ensures { λ r. ⌜ r ≤ length (now (reply .exit)) ⌝ }
 {
-    let next = append(reply, 0, b"\xFF\xFF\x00\x01");
+    let next = line::append(reply, 0, b"\xFF\xFF\x00\x01");
     append_named(reply, next, b"\x00\x03 A ")
 }
 
@@ -108,7 +79,7 @@ pub fn blanks_in_name(reply: &mut [u8]) -> usize
 pub fn col7_then_door(reply: &mut [u8]) -> usize
     ensures { λ r. ⌜ r ≤ length (now (reply .exit)) ⌝ }
 {
-    let next = append(reply, 0, b"\xFF\xFF\x00\x01");
+    let next = line::append(reply, 0, b"\xFF\xFF\x00\x01");
     let next = append_named(reply, next, b"\x00\x04COL7");
     append_named(reply, next, b"\x00\x04DOOR")
 }
@@ -117,19 +88,19 @@ pub fn col7_then_door(reply: &mut [u8]) -> usize
 pub fn last_column_fails(reply: &mut [u8]) -> usize
     ensures { λ r. ⌜ r ≤ length (now (reply .exit)) ⌝ }
 {
-    let next = append(reply, 0, b"\xFF\xFF\x00\x02");
+    let next = line::append(reply, 0, b"\xFF\xFF\x00\x02");
     let next = append_named(reply, next, b"\x00\x04DOOR");
-    append(reply, next, b"\x00\x00\x00\x00\x00\x00\x00\x00\x00\x00")
+    line::append(reply, next, b"\x00\x00\x00\x00\x00\x00\x00\x00\x00\x00")
 }
 
 // All numbers are LE, and the name's length too: the standard reading fails, and compact finds no name.
 pub fn length_in_le(reply: &mut [u8]) -> usize
     ensures { λ r. ⌜ r ≤ length (now (reply .exit)) ⌝ }
 {
-    let next = append(reply, 0, b"\xFF\xFF\x01\x00");
-    let next = append(reply, next, b"\x00\x00\x00\x00");
-    let next = append(reply, next, b"\x04\x00\x00\x00\x00\x00\x00\x00");
-    let next = append(reply, next, b"\xC4\x01\xB8\x04");
+    let next = line::append(reply, 0, b"\xFF\xFF\x01\x00");
+    let next = line::append(reply, next, b"\x00\x00\x00\x00");
+    let next = line::append(reply, next, b"\x04\x00\x00\x00\x00\x00\x00\x00");
+    let next = line::append(reply, next, b"\xC4\x01\xB8\x04");
     append_strings(reply, next, b"\x04\x00DOOR")
 }
 
@@ -137,10 +108,10 @@ pub fn length_in_le(reply: &mut [u8]) -> usize
 pub fn equal_scores(reply: &mut [u8]) -> usize
     ensures { λ r. ⌜ r ≤ length (now (reply .exit)) ⌝ }
 {
-    let next = append(reply, 0, b"\xFF\xFF\x00\x00");
+    let next = line::append(reply, 0, b"\xFF\xFF\x00\x00");
     let next = append_named(reply, next, b"\x00\x04DOOR");
     let next = append_named(reply, next, b"\x00\x04GATE");
-    let next = append_byte(reply, next, 0xFF);
+    let next = line::append(reply, next, b"\xFF");
     let next = append_named(reply, next, b"\x00\x04HALL");
     append_named(reply, next, b"\x00\x04YARD")
 }

@@ -73,9 +73,10 @@ pub fn put_characters(out: &mut [u8], used: usize, characters: &[u8]) -> usize {
 }
 
 pub fn put_number(out: &mut [u8], used: usize, number: u64) -> usize {
-    let mut digits = [0u8; 20];
-    let count = io::decimal(number, &mut digits);
-    put_bytes(out, used, &digits[0..count])
+    let digits = decimal::digits_of(number);
+    let characters = digits.characters;
+    let start = digits.start;
+    put_bytes(out, used, &characters[start..])
 }
 
 // The absolute value, also of -2147483648, which no number of its type is.

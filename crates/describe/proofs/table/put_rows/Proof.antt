@@ -1,0 +1,32 @@
+-- Each row that is put leaves the lengths as they were.
+use mathlib.Core.Path.{_≡_}
+use Prim.Native.Nat.{_-_}
+use lib.ListN.{length}
+use borrow.Author.Needs.{needs}
+use Rattle.describe.proofs.table.put_rows.Statement.{statement}
+use Rattle.describe.proofs.table.put_rows.Tie as tie
+
+abbrev Inv-loop : tie.InvT-loop
+Inv-loop out₀ used reply words count widths room₀ next₀ i₀ out room next i = (length out ≡ length out₀) × (length room ≡ length room₀)
+
+abbrev μ-loop : tie.MeasureT-loop
+μ-loop out₀ used reply words count widths room₀ next₀ i₀ out room next i = count - i
+
+loop-again : tie.Need-loop-again Inv-loop μ-loop
+loop-again c = search needs
+
+pub put-rows-spec : {M : Type 1} → statement M
+put-rows-spec =
+    tie.close
+    (tie.spec
+    Inv-loop
+    μ-loop
+    (search needs)
+    (search needs)
+    (search needs)
+    (search needs)
+    (search needs)
+    loop-again
+    (search needs)
+    (search needs)
+    (search needs))

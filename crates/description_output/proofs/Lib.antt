@@ -1,3 +1,0 @@
-pub mod ColumnMetadataRow
-pub mod Counts
-pub mod Known
