@@ -85,10 +85,11 @@ pub(crate) fn put_status(
     put_message(out, next, reply, card, room)
 }
 
-// S: the status alone.
+// S: the status alone. s: where its message stands in the reply.
 pub(crate) fn put_status_alone(
     out: &mut [u8],
     used: usize,
+    entry: u8,
     reply: &[u8],
     room: &mut [u8],
 ) -> usize {
@@ -99,19 +100,11 @@ pub(crate) fn put_status_alone(
     }
     let card = answer.card;
     let next = output::put_bytes(out, used, b"OK");
-    put_status(out, next, reply, card, room)
-}
-
-// s: the same, and where the message stands in the reply.
-pub(crate) fn put_message_place(out: &mut [u8], used: usize, reply: &[u8]) -> usize {
-    let answer = jigshard::status::jigshard_parse_sqlcard_data(reply);
-    let refusal = answer.refusal;
-    if refusal.number != 0 {
-        return output::put_refusal(out, used, refusal);
+    if entry == b's' {
+        let next = output::put_byte(out, next, b' ');
+        return puts::put_place(out, next, card.message_place, card.message_length);
     }
-    let card = answer.card;
-    let next = output::put_bytes(out, used, b"OK ");
-    puts::put_place(out, next, card.message_place, card.message_length)
+    put_status(out, next, reply, card, room)
 }
 
 // G: the SQLCA group and its length.

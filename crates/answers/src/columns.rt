@@ -28,19 +28,18 @@ fn put_front(
     output::put_type(out, next, db2_type)
 }
 
-// ` CODE LENGTH NULLABLE`.
-fn put_size(out: &mut [u8], used: usize, column: ColumnMetadata) -> usize {
-    let next = output::put_value(out, used, column.drda_type as u64);
-    let next = output::put_value(out, next, column.length as u64);
-    output::put_value(out, next, column.nullable as u64)
-}
-
-// ` PRECISION SCALE CCSID ORDER`.
+// ` CODE LENGTH NULLABLE PRECISION SCALE CCSID ORDER`.
 fn put_numbers(out: &mut [u8], used: usize, column: ColumnMetadata) -> usize {
     let order = column.byte_order;
-    let next = output::put_value(out, used, column.precision as u64);
-    let next = output::put_value(out, next, column.scale as u64);
-    let next = output::put_value(out, next, column.ccsid as u64);
+    let values = [
+        column.drda_type as u64,
+        column.length as u64,
+        column.nullable as u64,
+        column.precision as u64,
+        column.scale as u64,
+        column.ccsid as u64,
+    ];
+    let next = puts::put_values(out, used, &values);
     put_order(out, next, order)
 }
 
@@ -69,7 +68,6 @@ fn put_column(
     room: &mut [u8],
 ) -> usize {
     let next = put_front(out, used, reply, column, room);
-    let next = put_size(out, next, column);
     let next = put_numbers(out, next, column);
     put_texts(out, next, reply, column, room)
 }

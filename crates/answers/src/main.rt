@@ -24,15 +24,12 @@ fn put_answer(
     others: &mut [u64],
 ) -> usize {
     match entry {
-        b'D' => descriptions::put_description(out, used, payload, room, words),
-        b'd' => descriptions::put_text_places(out, used, payload, words),
-        b'L' => descriptions::put_short_list(out, used, payload, room, words),
-        b'P' => descriptions::put_at_code_point(out, used, payload, room, words),
-        b'S' => cards::put_status_alone(out, used, payload, room),
-        b's' => cards::put_message_place(out, used, payload),
+        b'D' | b'd' | b'L' | b'P' => {
+            descriptions::put_description(out, used, entry, payload, room, words)
+        }
+        b'S' | b's' => cards::put_status_alone(out, used, entry, payload, room),
         b'G' => cards::put_group(out, used, payload, room),
-        b'N' => names::put_names(out, used, payload, room, words),
-        b'n' => names::put_name_places(out, used, payload, words),
+        b'N' | b'n' => names::put_names(out, used, entry, payload, room, words),
         b'M' => texts::put_message_text(out, used, payload, room),
         b'T' => texts::put_name_text(out, used, payload, room),
         b'U' => texts::put_name_part(out, used, payload),

@@ -4,7 +4,7 @@ use crate::puts;
 use text::Text;
 
 // The words of the 8,192 texts that are lent.
-const WORDS: usize = 24_576;
+const WORDS: u16 = 24_576;
 
 // The text at a place of a list in words, an empty one where there is none.
 fn text_in(words: &[u64], i: usize) -> Text {
@@ -31,9 +31,25 @@ fn are_kept(words: &[u64], count: usize) -> bool {
     lent::are_marked(words, count * 3)
 }
 
+// A name as its characters, or as its place.
+fn put_name(
+    out: &mut [u8],
+    used: usize,
+    entry: u8,
+    reply: &[u8],
+    name: Text,
+    room: &mut [u8],
+) -> usize {
+    if entry == b'n' {
+        return puts::put_text_place(out, used, name);
+    }
+    puts::put_text(out, used, reply, name, 0, room)
+}
+
 fn put_all(
     out: &mut [u8],
     used: usize,
+    entry: u8,
     reply: &[u8],
     words: &[u64],
     count: usize,
@@ -42,25 +58,17 @@ fn put_all(
     let mut next = used;
     let mut i = 0;
     while i < count {
-        next = puts::put_text(out, next, reply, text_in(words, i), 0, room);
+        next = put_name(out, next, entry, reply, text_in(words, i), room);
         i += 1;
     }
     next
 }
 
-fn put_all_places(out: &mut [u8], used: usize, words: &[u64], count: usize) -> usize {
-    let mut next = used;
-    let mut i = 0;
-    while i < count {
-        next = puts::put_text_place(out, next, text_in(words, i));
-        i += 1;
-    }
-    next
-}
-
-fn put_names_in(
+// A name scan for which all of `words` is lent.
+fn put_lent(
     out: &mut [u8],
     used: usize,
+    entry: u8,
     reply: &[u8],
     room: &mut [u8],
     words: &mut [u64],
@@ -70,41 +78,21 @@ fn put_names_in(
     let refusal = answer.refusal;
     let count = answer.count;
     let next = puts::put_count(out, used, refusal, count, are_kept(words, count));
-    put_all(out, next, reply, words, count, room)
+    put_all(out, next, entry, reply, words, count, room)
 }
 
-// N: the names.
+// N: the names. n: where they stand in the reply.
 pub(crate) fn put_names(
     out: &mut [u8],
     used: usize,
+    entry: u8,
     reply: &[u8],
     room: &mut [u8],
     words: &mut [u64],
 ) -> usize {
-    if words.len() < WORDS {
+    let end = WORDS as usize;
+    if words.len() < end {
         return puts::put_bad(out, used);
     }
-    put_names_in(out, used, reply, room, &mut words[0..WORDS])
-}
-
-fn put_places_in(out: &mut [u8], used: usize, reply: &[u8], words: &mut [u64]) -> usize {
-    lent::mark_words(words);
-    let answer = jigshard::name_scan::jigshard_scan_column_names(reply, words);
-    let refusal = answer.refusal;
-    let count = answer.count;
-    let next = puts::put_count(out, used, refusal, count, are_kept(words, count));
-    put_all_places(out, next, words, count)
-}
-
-// n: the same, and where they stand in the reply.
-pub(crate) fn put_name_places(
-    out: &mut [u8],
-    used: usize,
-    reply: &[u8],
-    words: &mut [u64],
-) -> usize {
-    if words.len() < WORDS {
-        return puts::put_bad(out, used);
-    }
-    put_places_in(out, used, reply, &mut words[0..WORDS])
+    put_lent(out, used, entry, reply, room, &mut words[0..end])
 }

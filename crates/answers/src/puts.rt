@@ -8,6 +8,17 @@ pub(crate) fn put_bad(out: &mut [u8], used: usize) -> usize {
     output::close(out, next)
 }
 
+// Six values, each after a blank.
+pub(crate) fn put_values(out: &mut [u8], used: usize, values: &[u64; 6]) -> usize {
+    let mut next = used;
+    let mut i = 0;
+    while i < 6 {
+        next = output::put_value(out, next, values[i]);
+        i += 1;
+    }
+    next
+}
+
 // `place/length` of bytes in a reply.
 pub(crate) fn put_place(out: &mut [u8], used: usize, place: usize, count: usize) -> usize {
     let next = output::put_number(out, used, place as u64);

@@ -40,7 +40,7 @@ fn append_generated(reply: &mut [u8], used: usize) -> usize
 }
 
 // The head says that there are no columns, so only the scan finds any.
-pub fn two_generated(reply: &mut [u8]) -> usize
+pub(crate) fn two_generated(reply: &mut [u8]) -> usize
     ensures { λ r. ⌜ r ≤ length (now (reply .exit)) ⌝ }
 {
     let next = line::append(reply, 0, b"\xFF\xFF\x00\x00");
@@ -49,7 +49,7 @@ pub fn two_generated(reply: &mut [u8]) -> usize
     append_generated(reply, next)
 }
 
-pub fn three_generated(reply: &mut [u8]) -> usize
+pub(crate) fn three_generated(reply: &mut [u8]) -> usize
     ensures { λ r. ⌜ r ≤ length (now (reply .exit)) ⌝ }
 {
     let next = two_generated(reply);
@@ -57,7 +57,7 @@ pub fn three_generated(reply: &mut [u8]) -> usize
 }
 
 // The run of all four has a score below 0, that of the last two is the best. The last descriptor ends with the reply.
-pub fn generated_first(reply: &mut [u8]) -> usize
+pub(crate) fn generated_first(reply: &mut [u8]) -> usize
     ensures { λ r. ⌜ r ≤ length (now (reply .exit)) ⌝ }
 {
     let next = append_generated(reply, 0);
@@ -68,7 +68,7 @@ pub fn generated_first(reply: &mut [u8]) -> usize
     line::append(reply, next, b"\x00\x00\x00\x00\x00\x00\x00\x00\x00\x00")
 }
 
-pub fn blanks_in_name(reply: &mut [u8]) -> usize
+pub(crate) fn blanks_in_name(reply: &mut [u8]) -> usize
     ensures { λ r. ⌜ r ≤ length (now (reply .exit)) ⌝ }
 {
     let next = line::append(reply, 0, b"\xFF\xFF\x00\x01");
@@ -76,7 +76,7 @@ pub fn blanks_in_name(reply: &mut [u8]) -> usize
 }
 
 // The standard reading has the first column alone. The scan has both, and a name.
-pub fn col7_then_door(reply: &mut [u8]) -> usize
+pub(crate) fn col7_then_door(reply: &mut [u8]) -> usize
     ensures { λ r. ⌜ r ≤ length (now (reply .exit)) ⌝ }
 {
     let next = line::append(reply, 0, b"\xFF\xFF\x00\x01");
@@ -85,7 +85,7 @@ pub fn col7_then_door(reply: &mut [u8]) -> usize
 }
 
 // Of the second column only 10 bytes are there. The last reader takes the whole for one column of an unknown type.
-pub fn last_column_fails(reply: &mut [u8]) -> usize
+pub(crate) fn last_column_fails(reply: &mut [u8]) -> usize
     ensures { λ r. ⌜ r ≤ length (now (reply .exit)) ⌝ }
 {
     let next = line::append(reply, 0, b"\xFF\xFF\x00\x02");
@@ -94,7 +94,7 @@ pub fn last_column_fails(reply: &mut [u8]) -> usize
 }
 
 // All numbers are LE, and the name's length too: the standard reading fails, and compact finds no name.
-pub fn length_in_le(reply: &mut [u8]) -> usize
+pub(crate) fn length_in_le(reply: &mut [u8]) -> usize
     ensures { λ r. ⌜ r ≤ length (now (reply .exit)) ⌝ }
 {
     let next = line::append(reply, 0, b"\xFF\xFF\x01\x00");
@@ -105,7 +105,7 @@ pub fn length_in_le(reply: &mut [u8]) -> usize
 }
 
 // Two runs of two named columns, and a byte between them.
-pub fn equal_scores(reply: &mut [u8]) -> usize
+pub(crate) fn equal_scores(reply: &mut [u8]) -> usize
     ensures { λ r. ⌜ r ≤ length (now (reply .exit)) ⌝ }
 {
     let next = line::append(reply, 0, b"\xFF\xFF\x00\x00");

@@ -1,6 +1,6 @@
 -- The tests in the definition's own order.
 use mathlib.Core.Path.{refl}
-use borrow.Author.Needs.{needs}
+use native.Mathlib.Omega.{arith}
 use Rattle.column_words.specs.Columns.{alphabetsFit}
 use Rattle.column_words.proofs.alphabets_fit.Statement.{statement}
 use Rattle.column_words.proofs.alphabets_fit.Tie as tie
@@ -13,16 +13,16 @@ pub alphabets-fit-spec : {M : Type 1} → statement M
 alphabets-fit-spec =
     tie.close
     (tie.spec
-    (search needs)
-    (search needs)
-    (search needs)
-    (search needs)
-    (search needs)
-    (search needs)
-    (search needs)
-    (search needs)
-    (search needs)
-    (search needs)
-    (search needs)
-    (search needs)
+    (λ c. omega arith)
+    (λ c. omega arith)
+    (λ c. omega arith)
+    (λ c. omega arith)
+    (λ c. omega arith)
+    (λ c. omega arith)
+    (λ c. omega arith)
+    (λ c. omega arith)
+    (λ c. omega arith)
+    (λ c. omega arith)
+    (λ c. omega arith)
+    (λ c. omega arith)
     returns)

@@ -3,7 +3,6 @@ use mathlib.Core.Path.{_≡_, refl, sym, _∙_}
 use Prim.Native.Nat.{_≤_, _*_, _-_, _/_}
 use lib.ListN.{length}
 use native.Mathlib.Omega.{arith}
-use borrow.Author.Needs.{needs}
 use borrow.Author.Tests.{not-true, not-false}
 use Rattle.column_words.specs.Columns.{areFrom}
 use Rattle.column_words.proofs.Columns.{are-cut, are-more, are-no, are-yes}
@@ -63,7 +62,7 @@ are-columns-spec =
     is-column-requires
     returns-2
     add-at
-    (search needs)
-    (search needs)
+    (λ c. omega arith)
+    (λ c. omega arith)
     loop-again
     returns-3)

@@ -60,7 +60,7 @@ put-column-words-spec =
     mul-put-values
     sub-put-values
     part-put-values-start
-    (search needs)
+    (λ c. omega arith)
     put-values-requires
     (search needs)
     returns)

@@ -1,5 +1,6 @@
 -- The value fits a type.
 use borrow.Author.Needs.{needs}
+use native.Mathlib.Omega.{arith}
 use Rattle.column_words.proofs.Columns.{fits-at}
 use Rattle.column_words.proofs.type_at.Statement.{statement}
 use Rattle.column_words.proofs.type_at.Tie as tie
@@ -11,12 +12,12 @@ pub type-at-spec : {M : Type 1} → statement M
 type-at-spec =
     tie.close
     (tie.spec
-    (search needs)
-    (search needs)
-    (search needs)
-    (search needs)
-    (search needs)
-    (search needs)
+    (λ c. omega arith)
+    (λ c. omega arith)
+    (λ c. omega arith)
+    (λ c. omega arith)
+    (λ c. omega arith)
+    (λ c. omega arith)
     cast-type-with
     (search needs)
     (λ c. c .type-with .ensures))

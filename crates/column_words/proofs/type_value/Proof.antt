@@ -1,5 +1,6 @@
 -- What each type says besides its code: an arm's tag says the type, at which the definition computes.
 use borrow.Author.Needs.{needs}
+use native.Mathlib.Omega.{arith}
 use Rattle.column_words.proofs.type_value.Statement.{statement}
 use Rattle.column_words.proofs.type_value.Tie as tie
 
@@ -15,9 +16,9 @@ type-value-spec =
     (search needs)
     (search needs)
     (search needs)
+    (λ c. omega arith)
     (search needs)
-    (search needs)
-    (search needs)
+    (λ c. omega arith)
     (search needs)
     (search needs)
     (search needs)

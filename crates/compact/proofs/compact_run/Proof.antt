@@ -64,17 +64,17 @@ compact-run-spec =
     Inv-loop
     μ-loop
     loop-holds
-    (search needs)
+    (λ c. omega arith)
     returns
+    (λ c. omega arith)
+    (λ c. omega arith)
     (search needs)
-    (search needs)
-    (search needs)
-    (search needs)
+    (λ c. omega arith)
     returns-2
     (search needs)
     one-if-named-requires
     add-named
-    (search needs)
-    (search needs)
+    (λ c. omega arith)
+    (λ c. omega arith)
     loop-again
     returns-3)

@@ -51,16 +51,16 @@ extract-column-name-spec =
     (tie.spec
     Inv-loop
     μ-loop
-    (search needs)
-    (search needs)
+    (λ c. omega arith)
+    (λ c. omega arith)
     loop-holds
     name-here-requires
-    (search needs)
+    (λ c. omega arith)
     cast-length
-    (search needs)
+    (λ c. omega arith)
     returns
-    (search needs)
-    (search needs)
+    (λ c. omega arith)
+    (λ c. omega arith)
     loop-again
     (search needs)
     returns-2)

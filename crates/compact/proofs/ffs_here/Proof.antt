@@ -1,6 +1,6 @@
 -- The three bytes as the definition has them.
 use mathlib.Core.Path.{refl}
-use borrow.Author.Needs.{needs}
+use native.Mathlib.Omega.{arith}
 use Rattle.compact.specs.Compact.{ffsHere}
 use Rattle.compact.proofs.ffs_here.Statement.{statement}
 use Rattle.compact.proofs.ffs_here.Tie as tie
@@ -10,4 +10,4 @@ unfolding ffsHere
 returns c = refl
 
 pub ffs-here-spec : {M : Type 1} → statement M
-ffs-here-spec = tie.close (tie.spec (search needs) (search needs) (search needs) (search needs) (search needs) returns)
+ffs-here-spec = tie.close (tie.spec (λ c. omega arith) (λ c. omega arith) (λ c. omega arith) (λ c. omega arith) (λ c. omega arith) returns)

@@ -48,12 +48,12 @@ last-descriptor-end-spec =
     (tie.spec
     Inv-loop
     μ-loop
-    (search needs)
+    (λ c. omega arith)
     loop-holds
     (search needs)
-    (search needs)
+    (λ c. omega arith)
     returns
-    (search needs)
+    (λ c. omega arith)
     (search needs)
     loop-less
     loop-again

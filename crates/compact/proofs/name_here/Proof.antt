@@ -54,15 +54,15 @@ pub name-here-spec : {M : Type 1} → statement M
 name-here-spec =
     tie.close
     (tie.spec
-    (search needs)
+    (λ c. omega arith)
     cast-length
-    (search needs)
+    (λ c. omega arith)
     add-if2
-    (search needs)
+    (λ c. omega arith)
     returns
+    (λ c. omega arith)
     (search needs)
-    (search needs)
-    (search needs)
+    (λ c. omega arith)
     returns-2
     returns-3
     returns-4

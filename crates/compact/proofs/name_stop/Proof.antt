@@ -1,5 +1,6 @@
 -- The loop's invariant: the answer is that from i on.
 use Prim.Native.Nat.{_≤_, _-_}
+use native.Mathlib.Omega.{arith}
 use mathlib.Core.Path.{_≡_, sym, ap, _∙_}
 use mathlib.Core.Bool.{not}
 use borrow.Author.Needs.{needs}
@@ -44,10 +45,10 @@ name-stop-spec =
     μ-loop
     (search needs)
     loop-holds
-    (search needs)
+    (λ c. omega arith)
     (search needs)
     returns
-    (search needs)
-    (search needs)
+    (λ c. omega arith)
+    (λ c. omega arith)
     loop-again
     returns-2)

@@ -1,5 +1,6 @@
 -- Each of the eight tests.
 use borrow.Author.Needs.{needs}
+use native.Mathlib.Omega.{arith}
 use lib.ListN.{getD}
 use Rattle.text.specs.Chars.{isNameChar}
 use Rattle.compact.proofs.Stops.{by-eight}
@@ -22,27 +23,27 @@ pub other-in-eight-spec : {M : Type 1} → statement M
 other-in-eight-spec =
     tie.close
     (tie.spec
+    (λ c. omega arith)
     (search needs)
+    (λ c. omega arith)
+    (λ c. omega arith)
     (search needs)
+    (λ c. omega arith)
+    (λ c. omega arith)
     (search needs)
+    (λ c. omega arith)
+    (λ c. omega arith)
     (search needs)
+    (λ c. omega arith)
+    (λ c. omega arith)
     (search needs)
+    (λ c. omega arith)
+    (λ c. omega arith)
     (search needs)
+    (λ c. omega arith)
+    (λ c. omega arith)
     (search needs)
-    (search needs)
-    (search needs)
-    (search needs)
-    (search needs)
-    (search needs)
-    (search needs)
-    (search needs)
-    (search needs)
-    (search needs)
-    (search needs)
-    (search needs)
-    (search needs)
-    (search needs)
-    (search needs)
-    (search needs)
+    (λ c. omega arith)
+    (λ c. omega arith)
     (search needs)
     returns)

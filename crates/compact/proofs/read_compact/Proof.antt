@@ -1,5 +1,6 @@
 -- Each field is what its reader promises.
 use Prim.Native.Nat.{_%_}
+use native.Mathlib.Omega.{arith}
 use borrow.Author.Needs.{needs}
 use Rattle.field.specs.declared.ByteOrder.the-variants.{LittleEndian}
 use Rattle.compact.specs.Compact.{compactAt}
@@ -43,14 +44,14 @@ pub read-compact-spec : {M : Type 1} → statement M
 read-compact-spec =
     tie.close
     (tie.spec
+    (λ c. omega arith)
+    (search needs)
+    (λ c. omega arith)
     (search needs)
     (search needs)
+    (λ c. omega arith)
     (search needs)
-    (search needs)
-    (search needs)
-    (search needs)
-    (search needs)
-    (search needs)
+    (λ c. omega arith)
     (search needs)
     (search needs)
     (search needs)

@@ -1,5 +1,6 @@
 -- The loop's invariant: past all strings is past those that are left, from the position in hand.
 use mathlib.Core.Path.{_≡_, refl}
+use native.Mathlib.Omega.{arith}
 use borrow.Author.Needs.{needs}
 use Rattle.field.specs.Strings.{stringsEnd}
 use Rattle.field.proofs.Strings.{strings-more, strings-done}
@@ -30,7 +31,7 @@ skip-strings-spec =
     μ-loop
     loop-holds
     (search needs)
-    (search needs)
-    (search needs)
+    (λ c. omega arith)
+    (λ c. omega arith)
     loop-again
     returns)

@@ -1,5 +1,6 @@
 -- A law for each way out: past the end, no room for a length, no room for the bytes, and read.
 use mathlib.Core.Path.{_∙_}
+use native.Mathlib.Omega.{arith}
 use borrow.Author.Needs.{needs}
 use Rattle.field.proofs.Strings.{string-past, string-short, string-cut, string-full}
 use Rattle.field.proofs.string_at.Statement.{statement}
@@ -27,15 +28,15 @@ string-at-spec =
     (tie.spec
     (search needs)
     returns
-    (search needs)
+    (λ c. omega arith)
     (search needs)
     returns-2
     (search needs)
     (search needs)
-    (search needs)
-    (search needs)
-    (search needs)
+    (λ c. omega arith)
+    (λ c. omega arith)
+    (λ c. omega arith)
     (search needs)
     returns-3
-    (search needs)
+    (λ c. omega arith)
     returns-4)

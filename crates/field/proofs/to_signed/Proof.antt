@@ -1,5 +1,6 @@
 -- From 2^31 on the number is below zero.
 use borrow.Author.Needs.{needs}
+use native.Mathlib.Omega.{arith}
 use Rattle.field.proofs.Numbers.{at-least-zero-is, below-zero-fits, below-zero-is}
 use Rattle.field.proofs.to_signed.Statement.{statement}
 use Rattle.field.proofs.to_signed.Tie as tie
@@ -15,4 +16,4 @@ returns-2 c = below-zero-is (c .before .args .bits) (c .if1 .left) (c .before .f
 
 pub to-signed-spec : {M : Type 1} → statement M
 to-signed-spec =
-    tie.close (tie.spec (search needs) (search needs) (search needs) sub-result-2 returns returns-2)
+    tie.close (tie.spec (search needs) (λ c. omega arith) (search needs) sub-result-2 returns returns-2)

@@ -1,5 +1,6 @@
 -- The two halves, in the order that was matched: one law over the width.
 use Prim.Native.Nat.{_+_}
+use native.Mathlib.Omega.{arith}
 use borrow.Author.Needs.{needs}
 use Rattle.field.proofs.Numbers.{number-one, halves-big, halves-little}
 use Rattle.field.proofs.u16_at.Statement.{statement}
@@ -19,9 +20,9 @@ pub u16-at-spec : {M : Type 1} → statement M
 u16-at-spec =
     tie.close
     (tie.spec
-    (search needs)
-    (search needs)
-    (search needs)
+    (λ c. omega arith)
+    (λ c. omega arith)
+    (λ c. omega arith)
     (search needs)
     (search needs)
     (search needs)

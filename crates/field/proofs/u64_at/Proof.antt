@@ -1,5 +1,6 @@
 -- The two halves, in the order that was matched: one law over the width.
 use borrow.Author.Needs.{needs}
+use native.Mathlib.Omega.{arith}
 use Rattle.field.proofs.Numbers.{halves-big, halves-little}
 use Rattle.field.proofs.u64_at.Statement.{statement}
 use Rattle.field.proofs.u64_at.Tie as tie
@@ -19,7 +20,7 @@ u64-at-spec =
     tie.close
     (tie.spec
     (search needs)
-    (search needs)
+    (λ c. omega arith)
     (search needs)
     (search needs)
     (search needs)

@@ -50,11 +50,11 @@ characters-in-spec =
     Inv-loop
     μ-loop
     loop-holds
-    (search needs)
+    (λ c. omega arith)
     (search needs)
     (search needs)
     add-characters
-    (search needs)
-    (search needs)
+    (λ c. omega arith)
+    (λ c. omega arith)
     loop-again
     returns)

@@ -54,15 +54,15 @@ count-block-spec =
     Inv-loop
     μ-loop
     loop-holds
-    (search needs)
+    (λ c. omega arith)
     (search needs)
     (search needs)
     add-printables
-    (search needs)
+    (λ c. omega arith)
     (search needs)
     (search needs)
     add-others
-    (search needs)
-    (search needs)
+    (λ c. omega arith)
+    (λ c. omega arith)
     loop-again
     returns)

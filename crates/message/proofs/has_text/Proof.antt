@@ -76,11 +76,11 @@ has-text-spec =
     (search needs)
     loop-holds
     (search needs)
-    (search needs)
-    (search needs)
-    (search needs)
+    (λ c. omega arith)
+    (λ c. omega arith)
+    (λ c. omega arith)
     characters-in-requires
     returns
-    (search needs)
+    (λ c. omega arith)
     loop-again
     returns-2)

@@ -94,17 +94,17 @@ is-ascii-message-spec =
     μ-loop
     loop-holds
     (search needs)
-    (search needs)
-    (search needs)
-    (search needs)
+    (λ c. omega arith)
+    (λ c. omega arith)
+    (λ c. omega arith)
     count-block-requires
     (search needs)
     add-printables
     (search needs)
     add-others
-    (search needs)
+    (λ c. omega arith)
     loop-again
     returns
-    (search needs)
+    (λ c. omega arith)
     (search needs)
     returns-2)

@@ -56,12 +56,12 @@ message-length-spec =
     Inv-loop
     μ-loop
     loop-holds
-    (search needs)
+    (λ c. omega arith)
     (search needs)
     (search needs)
     add-end
     (search needs)
-    (search needs)
-    (search needs)
+    (λ c. omega arith)
+    (λ c. omega arith)
     loop-again
     returns)

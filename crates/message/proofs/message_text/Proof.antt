@@ -69,13 +69,13 @@ message-text-spec =
     returns
     (search needs)
     returns-2
-    (search needs)
+    (λ c. omega arith)
     (search needs)
     returns-3
-    (search needs)
-    (search needs)
-    (search needs)
-    (search needs)
+    (λ c. omega arith)
+    (λ c. omega arith)
+    (λ c. omega arith)
+    (λ c. omega arith)
     (search needs)
     (search needs)
     (search needs)

@@ -60,12 +60,12 @@ put-char-spec =
     returns
     (search needs)
     slice-write-buffer
-    (search needs)
+    (λ c. omega arith)
     slice-write-buffer-2
-    (search needs)
+    (λ c. omega arith)
     (search needs)
     returns-2
     slice-write-buffer-3
-    (search needs)
+    (λ c. omega arith)
     (search needs)
     returns-3)

@@ -1,5 +1,6 @@
 -- The loop's invariant: what is written so far stands over the buffer's front, and the text goes on with that of the bytes from i on.
 use Prim.Native.Nat.{_-_}
+use native.Mathlib.Omega.{arith}
 use mathlib.Core.Path.{ap, _∙_}
 use lib.ListN.{length}
 use borrow.Author.Needs.{needs}
@@ -68,13 +69,13 @@ write-message-spec =
     (search needs)
     loop-holds
     (search needs)
-    (search needs)
+    (λ c. omega arith)
     message-char-requires
     put-char-requires
     (search needs)
     (search needs)
-    (search needs)
-    (search needs)
+    (λ c. omega arith)
+    (λ c. omega arith)
     loop-again
     same-length
     returns)

@@ -42,10 +42,10 @@ all-printable-spec =
     Inv-loop
     μ-loop
     loop-holds
-    (search needs)
+    (λ c. omega arith)
     (search needs)
     returns
-    (search needs)
-    (search needs)
+    (λ c. omega arith)
+    (λ c. omega arith)
     loop-again
     returns-2)

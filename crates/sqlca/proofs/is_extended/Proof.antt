@@ -1,6 +1,6 @@
 -- The tests are the definition's.
 use mathlib.Core.Path.{refl}
-use borrow.Author.Needs.{needs}
+use native.Mathlib.Omega.{arith}
 use Rattle.sqlca.specs.Extension.{isExtended}
 use Rattle.sqlca.proofs.is_extended.Statement.{statement}
 use Rattle.sqlca.proofs.is_extended.Tie as tie
@@ -10,4 +10,4 @@ unfolding isExtended
 returns c = refl
 
 pub is-extended-spec : {M : Type 1} → statement M
-is-extended-spec = tie.close (tie.spec (search needs) returns)
+is-extended-spec = tie.close (tie.spec (λ c. omega arith) returns)

@@ -1,5 +1,6 @@
 -- The code's order where the two numbers differ, else that of the state's bytes.
 use mathlib.Core.Path.{sym, _∙_}
+use native.Mathlib.Omega.{arith}
 use mathlib.Core.Bool.{true, false}
 use borrow.Author.Needs.{needs}
 use Rattle.sqlca.proofs.Orders.{numbers-follow, numbers-by-state}
@@ -26,4 +27,4 @@ returns-3 c =
 pub sqlerrd-order-spec : {M : Type 1} → statement M
 sqlerrd-order-spec =
     tie.close
-    (tie.spec (search needs) (search needs) (search needs) returns (search needs) (search needs) (search needs) (search needs) returns-2 returns-3)
+    (tie.spec (search needs) (search needs) (search needs) returns (λ c. omega arith) (λ c. omega arith) (λ c. omega arith) (search needs) returns-2 returns-3)

@@ -1,7 +1,6 @@
 -- The part that is lent is the string's bytes.
 use mathlib.Core.Path.{ap, _∙_}
 use native.Mathlib.Omega.{arith}
-use borrow.Author.Needs.{needs}
 use Rattle.codepage.specs.Page.{page037}
 use Rattle.text.proofs.Decode.{lent, lent-length}
 use Rattle.message.specs.Message.{hasText}
@@ -22,4 +21,4 @@ returns c =
     c .has-text .ensures ∙ ap (hasText page037) (lent (start .args .reply .now) (start .args .string .place) (start .args .string .length))
 
 pub string-has-text-spec : {M : Type 1} → statement M
-string-has-text-spec = tie.close (tie.spec (search needs) (search needs) (search needs) (search needs) has-text-requires returns)
+string-has-text-spec = tie.close (tie.spec (λ c. omega arith) (λ c. omega arith) (λ c. omega arith) (λ c. omega arith) has-text-requires returns)

@@ -1,5 +1,6 @@
 -- Eleven bytes are copied over eleven zeros, where they are there.
 use mathlib.Core.Path.{sym, _∙_}
+use native.Mathlib.Omega.{arith}
 use lib.ListN.{take, drop, replicate}
 use borrow.Author.Needs.{needs}
 use Rattle.search.proofs.Over.{copied-whole}
@@ -22,9 +23,9 @@ pub warnings-spec : {M : Type 1} → statement M
 warnings-spec =
     tie.close
     (tie.spec
-    (search needs)
-    (search needs)
-    (search needs)
+    (λ c. omega arith)
+    (λ c. omega arith)
+    (λ c. omega arith)
     (search needs)
     (search needs)
     returns

@@ -61,10 +61,10 @@ decode-text-spec =
     tie.close
     (tie.spec
     returns
-    (search needs)
-    (search needs)
-    (search needs)
-    (search needs)
+    (λ c. omega arith)
+    (λ c. omega arith)
+    (λ c. omega arith)
+    (λ c. omega arith)
     (search needs)
     returns-2
     (search needs)

@@ -5,7 +5,6 @@ use native.Mathlib.Omega.{arith}
 use lib.Dec.{ltb}
 use lib.ListN.{length, drop}
 use borrow.Author.Tests.{lt-ltb, le-ltb}
-use borrow.Author.Needs.{needs}
 use Rattle.search.proofs.Each.{each-more, each-fails, each-done}
 use Rattle.text.specs.Chars.{isAscii}
 use Rattle.text.proofs.is_ascii.Statement.{statement}
@@ -45,9 +44,9 @@ is-ascii-spec =
     Inv-loop
     μ-loop
     loop-holds
-    (search needs)
+    (λ c. omega arith)
     returns
-    (search needs)
-    (search needs)
+    (λ c. omega arith)
+    (λ c. omega arith)
     loop-again
     returns-2)

@@ -1,5 +1,6 @@
 -- The three ways out: too short, another start, the digits' answer.
 use mathlib.Core.Path.{sym, _∙_}
+use native.Mathlib.Omega.{arith}
 use borrow.Author.Needs.{needs}
 use borrow.Author.Tests.{not-true, not-false}
 use Rattle.codepage.specs.Page.{page037}
@@ -32,8 +33,8 @@ is-generated-spec =
     returns
     (search needs)
     returns-2
-    (search needs)
-    (search needs)
-    (search needs)
+    (λ c. omega arith)
+    (λ c. omega arith)
+    (λ c. omega arith)
     (search needs)
     returns-3)

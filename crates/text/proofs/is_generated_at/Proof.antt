@@ -19,10 +19,10 @@ pub is-generated-at-spec : {M : Type 1} → statement M
 is-generated-at-spec =
     tie.close
     (tie.spec
-    (search needs)
-    (search needs)
-    (search needs)
-    (search needs)
+    (λ c. omega arith)
+    (λ c. omega arith)
+    (λ c. omega arith)
+    (λ c. omega arith)
     (search needs)
     (search needs)
     returns)

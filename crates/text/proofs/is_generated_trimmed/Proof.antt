@@ -68,7 +68,7 @@ is-generated-trimmed-spec =
     (search needs)
     sub-if1
     returns
-    (search needs)
+    (λ c. omega arith)
     returns-2
     (search needs)
     sub-is-generated

@@ -48,11 +48,11 @@ kept-bytes-spec =
     Inv-loop
     μ-loop
     loop-holds
-    (search needs)
-    (search needs)
+    (λ c. omega arith)
+    (λ c. omega arith)
     (search needs)
     returns
-    (search needs)
-    (search needs)
+    (λ c. omega arith)
+    (λ c. omega arith)
     loop-again
     returns-2)

@@ -7,10 +7,13 @@ use Rattle.answers.proofs.names.put_all.Statement.{statement}
 use Rattle.answers.proofs.names.put_all.Tie as tie
 
 abbrev Inv-loop : tie.InvT-loop
-Inv-loop out₀ used reply words count room₀ next₀ i₀ out room next i = (length out ≡ length out₀) × (length room ≡ length room₀)
+Inv-loop out₀ used entry reply words count room₀ next₀ i₀ out room next i = (length out ≡ length out₀) × (length room ≡ length room₀)
 
 abbrev μ-loop : tie.MeasureT-loop
-μ-loop out₀ used reply words count room₀ next₀ i₀ out room next i = count - i
+μ-loop out₀ used entry reply words count room₀ next₀ i₀ out room next i = count - i
+
+loop-again : tie.Need-loop-again Inv-loop μ-loop
+loop-again c = search needs
 
 pub put-all-spec : {M : Type 1} → statement M
 put-all-spec =
@@ -23,7 +26,7 @@ put-all-spec =
     (search needs)
     (search needs)
     (search needs)
-    (search needs)
+    loop-again
     (search needs)
     (search needs)
     (search needs))

@@ -83,8 +83,8 @@ fill-words-spec =
     put-column-words-requires
     (search needs)
     add-at
-    (search needs)
-    (search needs)
+    (λ c. omega arith)
+    (λ c. omega arith)
     loop-again
     same-length
     returns)
