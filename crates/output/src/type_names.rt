@@ -3,32 +3,48 @@ ghost use Prim.Native.Nat.{_≤_};
 ghost use lib.ListN.{length};
 use types::Db2Type;
 
+// The types' names, ten characters each.
+const NAMES: [u8; 220] = *b"SmallInt  Integer   BigInt    Real      Double    Decimal   DecFloat  Char      VarChar   Clob      Binary    VarBinary Blob      Date      Time      Timestamp Graphic   VarGraphicDbClob    RowId     Boolean   Xml       ";
+
+// Which of them is a type's.
+fn type_place(db2_type: Db2Type) -> u8 {
+    match db2_type {
+        Db2Type::SmallInt => 0,
+        Db2Type::Integer => 1,
+        Db2Type::BigInt => 2,
+        Db2Type::Real => 3,
+        Db2Type::Double => 4,
+        Db2Type::Decimal { precision, scale } => 5,
+        Db2Type::DecFloat(_) => 6,
+        Db2Type::Char(_) => 7,
+        Db2Type::VarChar(_) => 8,
+        Db2Type::Clob => 9,
+        Db2Type::Binary(_) => 10,
+        Db2Type::VarBinary(_) => 11,
+        Db2Type::Blob => 12,
+        Db2Type::Date => 13,
+        Db2Type::Time => 14,
+        Db2Type::Timestamp => 15,
+        Db2Type::Graphic(_) => 16,
+        Db2Type::VarGraphic(_) => 17,
+        Db2Type::DbClob => 18,
+        Db2Type::RowId(_) => 19,
+        Db2Type::Boolean => 20,
+        Db2Type::Xml => 21,
+    }
+}
+
 // The letters of a type's name, and blanks up to ten.
 pub fn type_letters(db2_type: Db2Type) -> [u8; 10] {
-    match db2_type {
-        Db2Type::SmallInt => *b"SmallInt  ",
-        Db2Type::Integer => *b"Integer   ",
-        Db2Type::BigInt => *b"BigInt    ",
-        Db2Type::Real => *b"Real      ",
-        Db2Type::Double => *b"Double    ",
-        Db2Type::Decimal { precision, scale } => *b"Decimal   ",
-        Db2Type::DecFloat(_) => *b"DecFloat  ",
-        Db2Type::Char(_) => *b"Char      ",
-        Db2Type::VarChar(_) => *b"VarChar   ",
-        Db2Type::Clob => *b"Clob      ",
-        Db2Type::Binary(_) => *b"Binary    ",
-        Db2Type::VarBinary(_) => *b"VarBinary ",
-        Db2Type::Blob => *b"Blob      ",
-        Db2Type::Date => *b"Date      ",
-        Db2Type::Time => *b"Time      ",
-        Db2Type::Timestamp => *b"Timestamp ",
-        Db2Type::Graphic(_) => *b"Graphic   ",
-        Db2Type::VarGraphic(_) => *b"VarGraphic",
-        Db2Type::DbClob => *b"DbClob    ",
-        Db2Type::RowId(_) => *b"RowId     ",
-        Db2Type::Boolean => *b"Boolean   ",
-        Db2Type::Xml => *b"Xml       ",
+    let names = NAMES;
+    let start = 10 * (type_place(db2_type) % 22) as usize;
+    let mut letters = [0u8; 10];
+    let mut i = 0;
+    while i < 10 {
+        letters[i] = names[start + i];
+        i += 1;
     }
+    letters
 }
 
 // How long characters are without the blanks at their end.

@@ -7,22 +7,22 @@ use Rattle.column_words.proofs.column_at.Statement.{statement}
 use Rattle.column_words.proofs.column_at.Tie as tie
 
 cast-t7 : tie.Need-cast-t7
-cast-t7 c = let f = fits-at _ _ (c .before .before .before .pre .1) in search needs
+cast-t7 c = record { fits = omega (arith, fits-at _ _ (c .before .before .before .pre .1) .number) }
 
 cast-t12 : tie.Need-cast-t12
-cast-t12 c = let f = fits-at _ _ (c .before .before .before .before .pre .1) in search needs
+cast-t12 c = record { fits = omega (arith, fits-at _ _ (c .before .before .before .before .pre .1) .code) }
 
 cast-t17 : tie.Need-cast-t17
-cast-t17 c = let f = fits-at _ _ (c .before .before .before .before .before .pre .1) in search needs
+cast-t17 c = record { fits = omega (arith, fits-at _ _ (c .before .before .before .before .before .pre .1) .length) }
 
 cast-t27 : tie.Need-cast-t27
-cast-t27 c = let f = fits-at _ _ (c .before .before .before .before .before .before .before .pre .1) in search needs
+cast-t27 c = record { fits = omega (arith, fits-at _ _ (c .before .before .before .before .before .before .before .pre .1) .precision) }
 
 cast-t32 : tie.Need-cast-t32
-cast-t32 c = let f = fits-at _ _ (c .before .before .before .before .before .before .before .before .pre .1) in search needs
+cast-t32 c = record { fits = omega (arith, fits-at _ _ (c .before .before .before .before .before .before .before .before .pre .1) .scale) }
 
 cast-t37 : tie.Need-cast-t37
-cast-t37 c = let f = fits-at _ _ (c .before .before .before .before .before .before .before .before .before .pre .1) in search needs
+cast-t37 c = record { fits = omega (arith, fits-at _ _ (c .before .before .before .before .before .before .before .before .before .pre .1) .ccsid) }
 
 text-from-requires : tie.Need-text-from-requires
 text-from-requires c κs =
