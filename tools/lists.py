@@ -109,7 +109,7 @@ class Function:
 
 def functions(s):
     impls = [(m.start(), closing(s, m.end() - 1), m.group(1)) for m in re.finditer(r'^impl(?:<[^>]*>)? (\w+)(?:<[^>]*>)?\s*\{', s, re.M)]
-    return [Function(s, m, impls) for m in re.finditer(r'^[ \t]*(?:pub )?(?:extern "C" )?fn (\w+)', s, re.M)]
+    return [Function(s, m, impls) for m in re.finditer(r'^[ \t]*(?:pub(?:\(crate\))? )?(?:extern "C" )?fn (\w+)', s, re.M)]
 
 
 def split(s):

@@ -4,7 +4,8 @@ ghost use lib.ListN.{length};
 use types::Db2Type;
 
 // The types' names, ten characters each.
-const NAMES: [u8; 220] = *b"SmallInt  Integer   BigInt    Real      Double    Decimal   DecFloat  Char      VarChar   Clob      Binary    VarBinary Blob      Date      Time      Timestamp Graphic   VarGraphicDbClob    RowId     Boolean   Xml       ";
+const NAMES: [u8; 220] =
+    *b"SmallInt  Integer   BigInt    Real      Double    Decimal   DecFloat  Char      VarChar   Clob      Binary    VarBinary Blob      Date      Time      Timestamp Graphic   VarGraphicDbClob    RowId     Boolean   Xml       ";
 
 // Which of them is a type's.
 fn type_place(db2_type: Db2Type) -> u8 {
