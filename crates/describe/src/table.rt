@@ -9,6 +9,15 @@ const WIDEST: usize = 128;
 // The cells of numbers in a row: a type has at most 17 characters, and is at most 128 wide.
 const LINE: usize = 192;
 
+// The texts of a column, in the order of its words.
+const NAME: u8 = 0;
+
+const LABEL: u8 = 1;
+
+const TABLE: u8 = 2;
+
+const SCHEMA: u8 = 3;
+
 // How wide the cells are that hold texts and types. The others are as wide as their heads, the last needs no width.
 struct Widths {
     name: usize,
@@ -41,18 +50,26 @@ fn type_width(db2_type: Db2Type) -> usize {
     cells::append_type(&mut line, 0, &letters[0..count], db2_type)
 }
 
+fn type_of(words: &[u64], i: usize) -> Db2Type {
+    let column = list_words::column_in(words, i);
+    column.db2_type
+}
+
+// How many characters a text of a column has.
+fn width_of(words: &[u64], i: usize, which: u8) -> usize {
+    text_width(
+        output::column_text(words, i, which),
+        output::number_of(words, i),
+    )
+}
+
 // The widths with one column more: none falls.
-fn widths_with(widths: Widths, column: ColumnMetadata) -> Widths {
-    let number = column.number;
-    let name = column.name;
-    let label = column.label;
-    let schema = column.schema_name;
-    let db2_type = column.db2_type;
+fn widths_with(widths: Widths, words: &[u64], i: usize) -> Widths {
     Widths {
-        name: wider(widths.name, text_width(name, number)),
-        db2_type: wider(widths.db2_type, type_width(db2_type)),
-        label: wider(widths.label, text_width(label, number)),
-        schema: wider(widths.schema, text_width(schema, number)),
+        name: wider(widths.name, width_of(words, i, NAME)),
+        db2_type: wider(widths.db2_type, type_width(type_of(words, i))),
+        label: wider(widths.label, width_of(words, i, LABEL)),
+        schema: wider(widths.schema, width_of(words, i, SCHEMA)),
     }
 }
 
@@ -65,7 +82,7 @@ fn widths_of(words: &[u64], count: usize) -> Widths {
     };
     let mut i = 0;
     while i < count {
-        widths = widths_with(widths, list_words::column_in(words, i));
+        widths = widths_with(widths, words, i);
         i += 1;
     }
     widths
@@ -88,25 +105,26 @@ fn put_head(out: &mut [u8], used: usize, word: &[u8], column: usize) -> usize {
     put_gap(out, next, word.len(), column)
 }
 
-fn put_heads(out: &mut [u8], used: usize, widths: Widths) -> usize {
+fn put_first_heads(out: &mut [u8], used: usize, widths: Widths) -> usize {
     let next = output::put_bytes(out, used, b"number  ");
     let next = put_head(out, next, b"name", widths.name);
-    let next = put_head(out, next, b"type", widths.db2_type);
-    let next = output::put_bytes(out, next, b"length  nullable  CCSID  ");
-    let next = put_head(out, next, b"label", widths.label);
+    put_head(out, next, b"type", widths.db2_type)
+}
+
+fn put_last_heads(out: &mut [u8], used: usize, widths: Widths) -> usize {
+    let next = put_head(out, used, b"label", widths.label);
     let next = put_head(out, next, b"schema", widths.schema);
     output::put_bytes(out, next, b"table\n")
 }
 
-// A text of the reply, decoded; `-` for an empty one, and `?` for one that does not lie in the reply. `number` is its column's.
-fn put_text(
-    out: &mut [u8],
-    used: usize,
-    reply: &[u8],
-    text: Text,
-    number: u16,
-    room: &mut [u8],
-) -> usize {
+fn put_heads(out: &mut [u8], used: usize, widths: Widths) -> usize {
+    let next = put_first_heads(out, used, widths);
+    let next = output::put_bytes(out, next, b"length  nullable  CCSID  ");
+    put_last_heads(out, next, widths)
+}
+
+// Writes a text of the reply, decoded, to `room`: its length, or more than there is room for where it does not lie in the reply.
+fn write_text(reply: &[u8], text: Text, number: u16, room: &mut [u8]) -> usize {
     let answer = jigshard::texts::jigshard_name_text(
         reply,
         number,
@@ -116,15 +134,30 @@ fn put_text(
         room,
     );
     let refusal = answer.refusal;
-    let count = answer.count;
-    if refusal.number != 0 {
-        return output::put_byte(out, used, b'?');
+    if refusal.number == 0 {
+        answer.count
+    } else {
+        usize::MAX
+    }
+}
+
+// A text of column `i`, decoded; `-` for an empty one, and `?` for one that does not lie in the reply.
+fn put_text(
+    out: &mut [u8],
+    used: usize,
+    reply: &[u8],
+    words: &[u64],
+    i: usize,
+    which: u8,
+    room: &mut [u8],
+) -> usize {
+    let text = output::column_text(words, i, which);
+    let count = write_text(reply, text, output::number_of(words, i), room);
+    if count == 0 {
+        return output::put_byte(out, used, b'-');
     }
     if room.len() < count {
         return output::put_byte(out, used, b'?');
-    }
-    if count == 0 {
-        return output::put_byte(out, used, b'-');
     }
     output::put_characters(out, used, &room[0..count])
 }
@@ -134,19 +167,20 @@ fn put_text_cell(
     out: &mut [u8],
     used: usize,
     reply: &[u8],
-    text: Text,
-    number: u16,
+    words: &[u64],
+    i: usize,
+    which: u8,
     column: usize,
     room: &mut [u8],
 ) -> usize {
-    let next = put_text(out, used, reply, text, number, room);
-    put_gap(out, next, text_width(text, number), column)
+    let next = put_text(out, used, reply, words, i, which, room);
+    put_gap(out, next, width_of(words, i, which), column)
 }
 
 // The number of a column.
-fn put_number_cell(out: &mut [u8], used: usize, column: ColumnMetadata) -> usize {
+fn put_number_cell(out: &mut [u8], used: usize, number: u16) -> usize {
     let mut line = [0u8; LINE];
-    let count = cells::append_number_cell(&mut line, 0, column.number, 6);
+    let count = cells::append_number_cell(&mut line, 0, number, 6);
     output::put_bytes(out, used, &line[0..count])
 }
 
@@ -165,34 +199,31 @@ fn put_texts(
     out: &mut [u8],
     used: usize,
     reply: &[u8],
-    column: ColumnMetadata,
+    words: &[u64],
+    i: usize,
     widths: Widths,
     room: &mut [u8],
 ) -> usize {
-    let number = column.number;
-    let label = column.label;
-    let schema = column.schema_name;
-    let table = column.base_table_name;
-    let next = put_text_cell(out, used, reply, label, number, widths.label, room);
-    let next = put_text_cell(out, next, reply, schema, number, widths.schema, room);
-    let next = put_text(out, next, reply, table, number, room);
+    let next = put_text_cell(out, used, reply, words, i, LABEL, widths.label, room);
+    let next = put_text_cell(out, next, reply, words, i, SCHEMA, widths.schema, room);
+    let next = put_text(out, next, reply, words, i, TABLE, room);
     output::put_byte(out, next, b'\n')
 }
 
-// The line of a column.
+// The line of column `i`.
 fn put_row(
     out: &mut [u8],
     used: usize,
     reply: &[u8],
-    column: ColumnMetadata,
+    words: &[u64],
+    i: usize,
     widths: Widths,
     room: &mut [u8],
 ) -> usize {
-    let name = column.name;
-    let next = put_number_cell(out, used, column);
-    let next = put_text_cell(out, next, reply, name, column.number, widths.name, room);
-    let next = put_cells(out, next, column, widths.db2_type);
-    put_texts(out, next, reply, column, widths, room)
+    let next = put_number_cell(out, used, output::number_of(words, i));
+    let next = put_text_cell(out, next, reply, words, i, NAME, widths.name, room);
+    let next = put_cells(out, next, list_words::column_in(words, i), widths.db2_type);
+    put_texts(out, next, reply, words, i, widths, room)
 }
 
 fn put_rows(
@@ -207,14 +238,7 @@ fn put_rows(
     let mut next = used;
     let mut i = 0;
     while i < count {
-        next = put_row(
-            out,
-            next,
-            reply,
-            list_words::column_in(words, i),
-            widths,
-            room,
-        );
+        next = put_row(out, next, reply, words, i, widths, room);
         i += 1;
     }
     next

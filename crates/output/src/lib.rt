@@ -2,10 +2,14 @@
 // A position at its end says that the output is closed, for good or because a write failed: then nothing is put any more.
 // `put_byte`, which alone stores a byte, tests the room itself: so nothing has to be known of a position, and the functions have no contract.
 mod type_names;
+mod words;
 
 pub use type_names::put_type;
 pub use type_names::type_letters;
 pub use type_names::without_blanks;
+pub use words::column_text;
+pub use words::number_of;
+pub use words::text_in;
 ghost use mathlib.Core.Path.{_≡_};
 ghost use lib.IntN.{natAbs};
 use libc::STDOUT_FILENO;

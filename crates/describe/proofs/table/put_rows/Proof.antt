@@ -25,7 +25,6 @@ put-rows-spec =
     (search needs)
     (search needs)
     (search needs)
-    (search needs)
     loop-again
     (search needs)
     (search needs)

@@ -23,6 +23,5 @@ widths-of-spec =
     (search needs)
     (search needs)
     (search needs)
-    (search needs)
     loop-again
     (search needs))
