@@ -8,21 +8,25 @@ fn put_comma(out: &mut [u8], used: usize) -> usize {
 }
 
 // NULL and CODE.
-fn put_code(out: &mut [u8], used: usize, card: SqlCard) -> usize {
+fn put_code(out: &mut [u8], used: usize, is_null: bool, sqlcode: i32) -> usize {
     let next = output::put_bytes(out, used, b" st=");
-    let next = output::put_number(out, next, card.is_null as u64);
+    let next = output::put_number(out, next, is_null as u64);
     let next = put_comma(out, next);
-    output::put_signed(out, next, card.sqlcode)
+    output::put_signed(out, next, sqlcode)
 }
 
 // STATE and PROC: of SQLERRPROC as many bytes as the record has.
-fn put_state(out: &mut [u8], used: usize, card: SqlCard) -> usize {
-    let state = card.sqlstate;
-    let procedure = card.sqlerrproc;
+fn put_state(
+    out: &mut [u8],
+    used: usize,
+    state: &[u8; 5],
+    procedure: &[u8; 8],
+    count: u8,
+) -> usize {
     let next = put_comma(out, used);
-    let next = puts::put_hex(out, next, &state);
+    let next = puts::put_hex(out, next, state);
     let next = put_comma(out, next);
-    puts::put_hex_first(out, next, &procedure, card.sqlerrproc_length as usize)
+    puts::put_hex_first(out, next, procedure, count as usize)
 }
 
 // The six numbers of SQLERRD, `/` between.
@@ -40,11 +44,11 @@ fn put_errors(out: &mut [u8], used: usize, errors: &[i32]) -> usize {
 }
 
 // FETCHED and UPDATED.
-fn put_rows(out: &mut [u8], used: usize, card: SqlCard) -> usize {
+fn put_rows(out: &mut [u8], used: usize, fetched: u64, updated: u32) -> usize {
     let next = put_comma(out, used);
-    let next = output::put_number(out, next, card.rows_fetched);
+    let next = output::put_number(out, next, fetched);
     let next = put_comma(out, next);
-    output::put_number(out, next, card.rows_updated as u64)
+    output::put_number(out, next, updated as u64)
 }
 
 fn put_warnings(out: &mut [u8], used: usize, warnings: &[u8; 11]) -> usize {
@@ -53,19 +57,38 @@ fn put_warnings(out: &mut [u8], used: usize, warnings: &[u8; 11]) -> usize {
 }
 
 // MESSAGE: its text, written to `room` first; `?` where it is refused.
-fn put_message(out: &mut [u8], used: usize, reply: &[u8], card: SqlCard, room: &mut [u8]) -> usize {
+fn put_message(
+    out: &mut [u8],
+    used: usize,
+    reply: &[u8],
+    place: usize,
+    length: usize,
+    room: &mut [u8],
+) -> usize {
     let next = put_comma(out, used);
-    let text = jigshard::texts::jigshard_message_text(
-        reply,
-        card.message_place,
-        card.message_length,
-        room,
-    );
+    let text = jigshard::texts::jigshard_message_text(reply, place, length, room);
     let refusal = text.refusal;
     if refusal.number != 0 {
         return output::put_byte(out, next, b'?');
     }
     puts::put_hex_first(out, next, room, text.count)
+}
+
+// From NULL to PROC.
+fn put_first(out: &mut [u8], used: usize, card: SqlCard) -> usize {
+    let state = card.sqlstate;
+    let procedure = card.sqlerrproc;
+    let next = put_code(out, used, card.is_null, card.sqlcode);
+    put_state(out, next, &state, &procedure, card.sqlerrproc_length)
+}
+
+// From E1 to WARNINGS.
+fn put_second(out: &mut [u8], used: usize, card: SqlCard) -> usize {
+    let errors = card.sqlerrd;
+    let warnings = card.sqlwarn;
+    let next = put_errors(out, used, &errors);
+    let next = put_rows(out, next, card.rows_fetched, card.rows_updated);
+    put_warnings(out, next, &warnings)
 }
 
 pub(crate) fn put_status(
@@ -75,14 +98,16 @@ pub(crate) fn put_status(
     card: SqlCard,
     room: &mut [u8],
 ) -> usize {
-    let errors = card.sqlerrd;
-    let warnings = card.sqlwarn;
-    let next = put_code(out, used, card);
-    let next = put_state(out, next, card);
-    let next = put_errors(out, next, &errors);
-    let next = put_rows(out, next, card);
-    let next = put_warnings(out, next, &warnings);
-    put_message(out, next, reply, card, room)
+    let next = put_first(out, used, card);
+    let next = put_second(out, next, card);
+    put_message(
+        out,
+        next,
+        reply,
+        card.message_place,
+        card.message_length,
+        room,
+    )
 }
 
 // S: the status alone. s: where its message stands in the reply.

@@ -4,6 +4,15 @@ use crate::puts;
 use field::ByteOrder;
 use types::ColumnMetadata;
 
+// The texts of a column, in the order of its words.
+const NAME: u8 = 0;
+
+const LABEL: u8 = 1;
+
+const BASE: u8 = 2;
+
+const SCHEMA: u8 = 3;
+
 fn put_order(out: &mut [u8], used: usize, order: ByteOrder) -> usize {
     match order {
         ByteOrder::BigEndian => output::put_bytes(out, used, b" BE"),
@@ -11,20 +20,38 @@ fn put_order(out: &mut [u8], used: usize, order: ByteOrder) -> usize {
     }
 }
 
-// ` C NUMBER NAME TYPE`.
+// A text of column `i`.
+fn put_text(
+    out: &mut [u8],
+    used: usize,
+    reply: &[u8],
+    words: &[u64],
+    i: usize,
+    which: u8,
+    room: &mut [u8],
+) -> usize {
+    let text = output::column_text(words, i, which);
+    puts::put_text(out, used, reply, text, output::number_of(words, i), room)
+}
+
+// ` C NUMBER NAME`.
 fn put_front(
     out: &mut [u8],
     used: usize,
     reply: &[u8],
-    column: ColumnMetadata,
+    words: &[u64],
+    i: usize,
     room: &mut [u8],
 ) -> usize {
-    let name = column.name;
-    let db2_type = column.db2_type;
     let next = output::put_bytes(out, used, b" C");
-    let next = output::put_value(out, next, column.number as u64);
-    let next = puts::put_text(out, next, reply, name, column.number, room);
-    let next = output::put_byte(out, next, b' ');
+    let next = output::put_value(out, next, output::number_of(words, i) as u64);
+    put_text(out, next, reply, words, i, NAME, room)
+}
+
+// ` TYPE`.
+fn put_type(out: &mut [u8], used: usize, column: ColumnMetadata) -> usize {
+    let db2_type = column.db2_type;
+    let next = output::put_byte(out, used, b' ');
     output::put_type(out, next, db2_type)
 }
 
@@ -48,40 +75,35 @@ fn put_texts(
     out: &mut [u8],
     used: usize,
     reply: &[u8],
-    column: ColumnMetadata,
+    words: &[u64],
+    i: usize,
     room: &mut [u8],
 ) -> usize {
-    let number = column.number;
-    let base = column.base_table_name;
-    let schema = column.schema_name;
-    let label = column.label;
-    let next = puts::put_text(out, used, reply, base, number, room);
-    let next = puts::put_text(out, next, reply, schema, number, room);
-    puts::put_text(out, next, reply, label, number, room)
+    let next = put_text(out, used, reply, words, i, BASE, room);
+    let next = put_text(out, next, reply, words, i, SCHEMA, room);
+    put_text(out, next, reply, words, i, LABEL, room)
 }
 
 fn put_column(
     out: &mut [u8],
     used: usize,
     reply: &[u8],
-    column: ColumnMetadata,
+    words: &[u64],
+    i: usize,
     room: &mut [u8],
 ) -> usize {
-    let next = put_front(out, used, reply, column, room);
-    let next = put_numbers(out, next, column);
-    put_texts(out, next, reply, column, room)
+    let next = put_front(out, used, reply, words, i, room);
+    let next = put_type(out, next, column_words::column_in(words, i));
+    let next = put_numbers(out, next, column_words::column_in(words, i));
+    put_texts(out, next, reply, words, i, room)
 }
 
 // ` NAME LABEL BASE SCHEMA`, where each stands.
-fn put_places(out: &mut [u8], used: usize, column: ColumnMetadata) -> usize {
-    let name = column.name;
-    let label = column.label;
-    let base = column.base_table_name;
-    let schema = column.schema_name;
-    let next = puts::put_text_place(out, used, name);
-    let next = puts::put_text_place(out, next, label);
-    let next = puts::put_text_place(out, next, base);
-    puts::put_text_place(out, next, schema)
+fn put_places(out: &mut [u8], used: usize, words: &[u64], i: usize) -> usize {
+    let next = puts::put_text_place(out, used, output::column_text(words, i, NAME));
+    let next = puts::put_text_place(out, next, output::column_text(words, i, LABEL));
+    let next = puts::put_text_place(out, next, output::column_text(words, i, BASE));
+    puts::put_text_place(out, next, output::column_text(words, i, SCHEMA))
 }
 
 // The first `count` columns of a list.
@@ -96,7 +118,7 @@ pub(crate) fn put_columns(
     let mut next = used;
     let mut i = 0;
     while i < count {
-        next = put_column(out, next, reply, list_words::column_in(words, i), room);
+        next = put_column(out, next, reply, words, i, room);
         i += 1;
     }
     next
@@ -107,7 +129,7 @@ pub(crate) fn put_all_places(out: &mut [u8], used: usize, words: &[u64], count: 
     let mut next = used;
     let mut i = 0;
     while i < count {
-        next = put_places(out, next, list_words::column_in(words, i));
+        next = put_places(out, next, words, i);
         i += 1;
     }
     next

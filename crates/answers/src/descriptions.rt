@@ -4,7 +4,7 @@ use crate::columns;
 use crate::lent;
 use crate::puts;
 use field::ByteOrder;
-use jigshard::description::SqldardResult;
+use sqldard_words::SqldardResult;
 
 // The records that are lent at most.
 const RECORDS: u16 = 4096;

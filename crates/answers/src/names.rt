@@ -7,20 +7,11 @@ use text::Text;
 const WORDS: u16 = 24_576;
 
 // The text at a place of a list in words, an empty one where there is none.
-fn text_in(words: &[u64], i: usize) -> Text {
+fn name_in(words: &[u64], i: usize) -> Text {
     if i >= words.len() / 3 {
-        return Text {
-            place: 0,
-            length: 0,
-            alphabet: 1,
-        };
+        return output::text_in(words, words.len());
     }
-    let at = i * 3;
-    Text {
-        place: words[at] as usize,
-        length: words[at + 1] as usize,
-        alphabet: (words[at + 2] % 256) as u8,
-    }
+    output::text_in(words, i * 3)
 }
 
 // Whether the words past the first `count` texts are as they were marked.
@@ -58,7 +49,7 @@ fn put_all(
     let mut next = used;
     let mut i = 0;
     while i < count {
-        next = put_name(out, next, entry, reply, text_in(words, i), room);
+        next = put_name(out, next, entry, reply, name_in(words, i), room);
         i += 1;
     }
     next

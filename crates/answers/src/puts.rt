@@ -66,6 +66,24 @@ pub(crate) fn put_hex_first(out: &mut [u8], used: usize, bytes: &[u8], count: us
     put_hex(out, used, &bytes[0..count])
 }
 
+// Writes a text's characters to `room`: their number, or more than there is room for where the text is not in the reply.
+fn write_text(reply: &[u8], text: Text, number: u16, room: &mut [u8]) -> usize {
+    let answer = jigshard::texts::jigshard_name_text(
+        reply,
+        number,
+        text.place,
+        text.length,
+        text.alphabet,
+        room,
+    );
+    let refusal = answer.refusal;
+    if refusal.number == 0 {
+        answer.count
+    } else {
+        usize::MAX
+    }
+}
+
 // A blank and a text's characters in hex, `?` where it is not in the reply. `number` is its column's, for a generated name; `room` is for the text.
 pub(crate) fn put_text(
     out: &mut [u8],
@@ -76,19 +94,8 @@ pub(crate) fn put_text(
     room: &mut [u8],
 ) -> usize {
     let next = output::put_byte(out, used, b' ');
-    let answer = jigshard::texts::jigshard_name_text(
-        reply,
-        number,
-        text.place,
-        text.length,
-        text.alphabet,
-        room,
-    );
-    let refusal = answer.refusal;
-    if refusal.number != 0 {
-        return output::put_byte(out, next, b'?');
-    }
-    put_hex_first(out, next, room, answer.count)
+    let count = write_text(reply, text, number, room);
+    put_hex_first(out, next, room, count)
 }
 
 // `OK n=COUNT` of what was written to a list, or the refusal; `TOUCHED` where more than that was written.

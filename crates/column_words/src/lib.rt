@@ -9,6 +9,7 @@ ghost use lib.ListN.{length, getD, take, drop};
 ghost use Rattle.search.specs.Search.{pick};
 ghost use Rattle.types.specs.Types.{codeOf};
 ghost use Rattle.column_words.specs.Words.{valueOf, wordsOf};
+ghost use Rattle.column_words.specs.Place.{columnAtPlace};
 ghost use Rattle.column_words.specs.Columns.{typeWith, isType, numbersFit, alphabetsFit, isColumn, columnIn, areColumns};
 
 // The type's DRDA code without the nullable bit.
@@ -241,4 +242,18 @@ pub fn column_at(words: &[u64], at: usize) -> ColumnMetadata
         base_table_name: column::text_from(words, at + 16),
         schema_name: column::text_from(words, at + 19),
     }
+}
+
+// The column at place `i`, by value; a blank one where the words have none there.
+pub fn column_in(words: &[u64], i: usize) -> ColumnMetadata
+    ensures { λ r. ⌜ r ≡ columnAtPlace (now (words .entry)) i ⌝ }
+{
+    if i >= words.len() / 22 {
+        return column::blank_column();
+    }
+    let at = i * 22;
+    if is_column(words, at) {
+        return column_at(words, at);
+    }
+    column::blank_column()
 }

@@ -12,7 +12,7 @@ fn put_description(
     room: &mut [u8],
     words: &mut [u64],
 ) -> usize {
-    let answer = jigshard::description::jigshard_parse_sqldard_data(reply, words);
+    let answer = sqldard_words::parse_sqldard_data(reply, words);
     let refusal = answer.refusal;
     if refusal.number != 0 {
         return status::put_refusal(out, used, refusal);

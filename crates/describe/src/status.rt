@@ -3,14 +3,12 @@ use outcome::Refusal;
 use sqlcard::SqlCard;
 
 // Code, state and proc.
-fn put_code(out: &mut [u8], used: usize, card: SqlCard) -> usize {
-    let state = card.sqlstate;
-    let procedure = card.sqlerrproc;
-    let end = output::without_blanks(&procedure);
+fn put_code(out: &mut [u8], used: usize, sqlcode: i32, state: &[u8; 5], procedure: &[u8]) -> usize {
+    let end = output::without_blanks(procedure);
     let next = output::put_bytes(out, used, b"SQLCODE ");
-    let next = output::put_signed(out, next, card.sqlcode);
+    let next = output::put_signed(out, next, sqlcode);
     let next = output::put_bytes(out, next, b", SQLSTATE ");
-    let next = output::put_characters(out, next, &state);
+    let next = output::put_characters(out, next, state);
     let next = output::put_bytes(out, next, b", proc ");
     output::put_characters(out, next, &procedure[0..end])
 }
@@ -26,15 +24,22 @@ fn put_counted(out: &mut [u8], used: usize, count: usize, word: &[u8]) -> usize 
     output::put_byte(out, next, b's')
 }
 
-// The message's text, written to `room` first.
-fn put_message(out: &mut [u8], used: usize, reply: &[u8], card: SqlCard, room: &mut [u8]) -> usize {
-    let text = jigshard::texts::jigshard_message_text(
-        reply,
-        card.message_place,
-        card.message_length,
-        room,
-    );
-    let count = text.count;
+fn put_updated(out: &mut [u8], used: usize, rows: usize) -> usize {
+    let next = output::put_bytes(out, used, b", ");
+    let next = put_counted(out, next, rows, b"row");
+    output::put_bytes(out, next, b" updated\n")
+}
+
+// The message's text, written to `room` first: it is at most as long as the reply.
+fn put_message(
+    out: &mut [u8],
+    used: usize,
+    reply: &[u8],
+    place: usize,
+    length: usize,
+    room: &mut [u8],
+) -> usize {
+    let count = message::message_text(reply, place, length, room).length;
     if count == 0 {
         return used;
     }
@@ -46,7 +51,7 @@ fn put_message(out: &mut [u8], used: usize, reply: &[u8], card: SqlCard, room: &
     output::put_byte(out, next, b'\n')
 }
 
-// The lines of a status record; `room` is for its message's text, which is at most as long as the reply.
+// The lines of a status record; `room` is for its message's text.
 pub(crate) fn put_status(
     out: &mut [u8],
     used: usize,
@@ -58,11 +63,18 @@ pub(crate) fn put_status(
     if card.is_null {
         return output::put_bytes(out, next, b"success\n");
     }
-    let next = put_code(out, next, card);
-    let next = output::put_bytes(out, next, b", ");
-    let next = put_counted(out, next, card.rows_updated as usize, b"row");
-    let next = output::put_bytes(out, next, b" updated\n");
-    put_message(out, next, reply, card, room)
+    let state = card.sqlstate;
+    let procedure = card.sqlerrproc;
+    let next = put_code(out, next, card.sqlcode, &state, &procedure);
+    let next = put_updated(out, next, card.rows_updated as usize);
+    put_message(
+        out,
+        next,
+        reply,
+        card.message_place,
+        card.message_length,
+        room,
+    )
 }
 
 // How many columns and bytes there are.

@@ -51,7 +51,7 @@ fn type_width(db2_type: Db2Type) -> usize {
 }
 
 fn type_of(words: &[u64], i: usize) -> Db2Type {
-    let column = list_words::column_in(words, i);
+    let column = column_words::column_in(words, i);
     column.db2_type
 }
 
@@ -123,21 +123,22 @@ fn put_heads(out: &mut [u8], used: usize, widths: Widths) -> usize {
     put_last_heads(out, next, widths)
 }
 
+// A column with this number and this text as its name: name text asks for nothing else.
+fn named(text: Text, number: u16) -> ColumnMetadata {
+    let mut column = column::blank_column();
+    column.number = number;
+    column.name = text;
+    column
+}
+
 // Writes a text of the reply, decoded, to `room`: its length, or more than there is room for where it does not lie in the reply.
-fn write_text(reply: &[u8], text: Text, number: u16, room: &mut [u8]) -> usize {
-    let answer = jigshard::texts::jigshard_name_text(
-        reply,
-        number,
-        text.place,
-        text.length,
-        text.alphabet,
-        room,
-    );
-    let refusal = answer.refusal;
-    if refusal.number == 0 {
-        answer.count
-    } else {
+fn write_text(reply: &[u8], column: ColumnMetadata, room: &mut [u8]) -> usize {
+    let answer = column_name::name_text(reply, column, room);
+    let outcome = answer.outcome;
+    if outcome::is_refused(outcome) {
         usize::MAX
+    } else {
+        answer.length
     }
 }
 
@@ -152,7 +153,7 @@ fn put_text(
     room: &mut [u8],
 ) -> usize {
     let text = output::column_text(words, i, which);
-    let count = write_text(reply, text, output::number_of(words, i), room);
+    let count = write_text(reply, named(text, output::number_of(words, i)), room);
     if count == 0 {
         return output::put_byte(out, used, b'-');
     }
@@ -222,7 +223,12 @@ fn put_row(
 ) -> usize {
     let next = put_number_cell(out, used, output::number_of(words, i));
     let next = put_text_cell(out, next, reply, words, i, NAME, widths.name, room);
-    let next = put_cells(out, next, list_words::column_in(words, i), widths.db2_type);
+    let next = put_cells(
+        out,
+        next,
+        column_words::column_in(words, i),
+        widths.db2_type,
+    );
     put_texts(out, next, reply, words, i, widths, room)
 }
 

@@ -1,4 +1,4 @@
-// Lists of columns as words: one column by value, whether two lists make the same cut, and how wide a row can be.
+// Lists of columns as words: whether two make the same cut, and how wide a row can be.
 ghost use mathlib.Core.Bool.{true};
 ghost use mathlib.Core.Path.{_≡_};
 ghost use Prim.Native.Nat.{_/_, _≤_};
@@ -7,24 +7,8 @@ ghost use Rattle.outcome.specs.Refusal.{refusalOf};
 ghost use Rattle.columns.specs.Cut.{sameCut};
 ghost use Rattle.columns.specs.Row.{rowRefusal, rowAnswer};
 ghost use Rattle.column_words.specs.Columns.{columnsIn, areColumns};
-ghost use Rattle.list_words.specs.Place.{columnAtPlace};
 use columns::RowAnswer;
 use outcome::Outcome;
-use types::ColumnMetadata;
-
-// The column at place `i`, by value; a blank one where the words have none there.
-pub fn column_in(words: &[u64], i: usize) -> ColumnMetadata
-    ensures { λ r. ⌜ r ≡ columnAtPlace (now (words .entry)) i ⌝ }
-{
-    if i >= words.len() / 22 {
-        return column::blank_column();
-    }
-    let at = i * 22;
-    if column_words::is_column(words, at) {
-        return column_words::column_at(words, at);
-    }
-    column::blank_column()
-}
 
 // Whether the columns of two lists are cut from a row alike.
 pub fn same_columns(first: &[u64], second: &[u64]) -> bool

@@ -12,6 +12,9 @@ Inv-loop out₀ used words count next₀ i₀ out next i = length out ≡ length
 abbrev μ-loop : tie.MeasureT-loop
 μ-loop out₀ used words count next₀ i₀ out next i = count - i
 
+loop-again : tie.Need-loop-again Inv-loop μ-loop
+loop-again c = search needs
+
 pub put-all-places-spec : {M : Type 1} → statement M
 put-all-places-spec =
     tie.close
@@ -22,7 +25,6 @@ put-all-places-spec =
     (search needs)
     (search needs)
     (search needs)
-    (search needs)
-    (search needs)
+    loop-again
     (search needs)
     (search needs))

@@ -12,6 +12,9 @@ Inv-loop out₀ used reply words count room₀ next₀ i₀ out room next i = (l
 abbrev μ-loop : tie.MeasureT-loop
 μ-loop out₀ used reply words count room₀ next₀ i₀ out room next i = count - i
 
+loop-again : tie.Need-loop-again Inv-loop μ-loop
+loop-again c = search needs
+
 pub put-columns-spec : {M : Type 1} → statement M
 put-columns-spec =
     tie.close
@@ -22,8 +25,7 @@ put-columns-spec =
     (search needs)
     (search needs)
     (search needs)
-    (search needs)
-    (search needs)
+    loop-again
     (search needs)
     (search needs)
     (search needs))

@@ -10,8 +10,8 @@ use Rattle.codepage.specs.Page.{page037}
 use Rattle.column_words.specs.Words.{wordsOf, allWords}
 use Rattle.column_words.proofs.Words.{words-length, all-length}
 use Rattle.plan.specs.Plan.{walkOf, columnsOf}
-use Rattle.jigshard.proofs.description.fill_words.Statement.{statement}
-use Rattle.jigshard.proofs.description.fill_words.Tie as tie
+use Rattle.sqldard_words.proofs.fill_words.Statement.{statement}
+use Rattle.sqldard_words.proofs.fill_words.Tie as tie
 
 abbrev Inv-loop : tie.InvT-loop
 Inv-loop reply plan words₀ count offset₀ at₀ i₀ words offset at i =

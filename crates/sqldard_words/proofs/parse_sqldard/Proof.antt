@@ -1,8 +1,8 @@
 use lib.ListN.{length}
 use borrow.Author.Needs.{needs}
-use Rattle.jigshard.proofs.Deciding.{can-fill-words, filled-words}
-use Rattle.jigshard.proofs.description.jigshard_parse_sqldard.Statement.{statement}
-use Rattle.jigshard.proofs.description.jigshard_parse_sqldard.Tie as tie
+use Rattle.sqldard_words.proofs.Deciding.{can-fill-words, filled-words}
+use Rattle.sqldard_words.proofs.parse_sqldard.Statement.{statement}
+use Rattle.sqldard_words.proofs.parse_sqldard.Tie as tie
 
 fill-words-requires : tie.Need-fill-words-requires
 fill-words-requires c κs =
@@ -15,6 +15,6 @@ returns c =
     let columns = decided .before .before .before .args .columns .now in
     filled-words (length columns) (decided .decide-at .ensures) (c .result-of .result) _ columns (c .result-of .ensures) (c .before .before .before .fill-words .ensures)
 
-pub jigshard-parse-sqldard-spec : {M : Type 1} → statement M
-jigshard-parse-sqldard-spec =
+pub parse-sqldard-spec : {M : Type 1} → statement M
+parse-sqldard-spec =
     tie.close (tie.spec (search needs) fill-words-requires (search needs) (search needs) returns)

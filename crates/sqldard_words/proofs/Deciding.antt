@@ -15,7 +15,7 @@ use Rattle.sqldard.specs.Decision.{Decides}
 use Rattle.sqldard.specs.Description.{Description}
 use Rattle.sqldard.proofs.Deciding.{can-fill}
 use Rattle.column_words.specs.Words.{allWords}
-use Rattle.jigshard.specs.declared.description.SqldardResult.{SqldardResult}
+use Rattle.sqldard_words.specs.declared.SqldardResult.{SqldardResult}
 
 module _ (n : ℕ) {page : Page} {s : List ℕ} {d : Decision} {wanted : Description} (t : Decides page (n / 22) s d wanted) where
   pub can-fill-words : (d .plan .limit ≤ 65535) × ((d .plan .count ≡ length (columnsOf page s (d .plan))) × (d .plan .count * 22 ≤ n))

@@ -6,8 +6,8 @@ use Prim.Native.Nat.{ℕ, _*_, _/_, _<_, _≤_}
 use lib.ListN.{length}
 use borrow.Author.Tests.{lt-ltb, le-ltb}
 use Rattle.column.specs.Column.{blankColumn}
 use Rattle.column_words.specs.Columns.{isColumn, columnIn}
-use Rattle.list_words.specs.Place.{columnAtPlace}
+use Rattle.column_words.specs.Place.{columnAtPlace}
 
 module _ (w : List ℕ) (i : ℕ) where
   pub place-beyond : length w / 22 ≤ i → blankColumn ≡ columnAtPlace w i

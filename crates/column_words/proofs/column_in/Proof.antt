@@ -3,9 +3,9 @@ use mathlib.Core.Path.{sym, _∙_}
 use native.Mathlib.Omega.{arith}
 use denote.Ref.{now}
 use borrow.Author.Needs.{needs}
-use Rattle.list_words.proofs.Place.{place-beyond, place-of-none, place-of-one}
-use Rattle.list_words.proofs.column_in.Statement.{statement}
-use Rattle.list_words.proofs.column_in.Tie as tie
+use Rattle.column_words.proofs.Place.{place-beyond, place-of-none, place-of-one}
+use Rattle.column_words.proofs.column_in.Statement.{statement}
+use Rattle.column_words.proofs.column_in.Tie as tie
 
 returns : tie.Need-returns
 returns c = let a = c .before .before .before .args in c .blank-column .ensures ∙ place-beyond (now (a .words)) (a .i) (c .before .if1 .taken)
