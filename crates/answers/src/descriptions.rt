@@ -1,6 +1,6 @@
 // The entries that list columns: D, L, P and d.
 use crate::cards;
-use crate::columns;
+use crate::column_list;
 use crate::lent;
 use crate::puts;
 use field::ByteOrder;
@@ -29,15 +29,21 @@ fn put_described(
     let refusal = answer.refusal;
     let card = answer.card;
     let count = answer.count;
-    let next = puts::put_count(out, used, refusal, count, columns::are_kept(words, count));
+    let next = puts::put_count(
+        out,
+        used,
+        refusal,
+        count,
+        column_list::are_kept(words, count),
+    );
     if refusal.number != 0 {
         return next;
     }
     if entry == b'd' {
-        return columns::put_all_places(out, next, words, count);
+        return column_list::put_all_places(out, next, words, count);
     }
     let next = cards::put_status(out, next, reply, card, room);
-    columns::put_columns(out, next, reply, words, count, room)
+    column_list::put_columns(out, next, reply, words, count, room)
 }
 
 // A description for which all of `words` is lent.

@@ -1,12 +1,12 @@
 // Answers cases: reads them from standard input and writes a line for each, as docs/ANSWERS.md says. The entries are those that other programs
 // link: what is tested here is the library.
 mod cards;
-mod columns;
+mod column_list;
 mod descriptions;
 mod input;
 mod lent;
 mod lists;
-mod names;
+mod name_list;
 mod puts;
 mod records;
 mod texts;
@@ -29,7 +29,7 @@ fn put_answer(
         }
         b'S' | b's' => cards::put_status_alone(out, used, entry, payload, room),
         b'G' => cards::put_group(out, used, payload, room),
-        b'N' | b'n' => names::put_names(out, used, entry, payload, room, words),
+        b'N' | b'n' => name_list::put_names(out, used, entry, payload, room, words),
         b'M' => texts::put_message_text(out, used, payload, room),
         b'T' => texts::put_name_text(out, used, payload, room),
         b'U' => texts::put_name_part(out, used, payload),

@@ -3,8 +3,8 @@ use mathlib.Core.Path.{_≡_}
 use Prim.Native.Nat.{_-_}
 use lib.ListN.{length}
 use borrow.Author.Needs.{needs}
-use Rattle.answers.proofs.columns.put_all_places.Statement.{statement}
-use Rattle.answers.proofs.columns.put_all_places.Tie as tie
+use Rattle.answers.proofs.column_list.put_all_places.Statement.{statement}
+use Rattle.answers.proofs.column_list.put_all_places.Tie as tie
 
 abbrev Inv-loop : tie.InvT-loop
 Inv-loop out₀ used words count next₀ i₀ out next i = length out ≡ length out₀
