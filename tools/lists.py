@@ -8,6 +8,9 @@ record's own terms. antt checks what comes out as it checks any proof: nothing h
     tools/lists.py [CRATE..]    makes the files anew, of all crates that have a lists.conf if none is named
     tools/lists.py --check      writes nothing; says which files are not what would be made, and then has exit status 1
 
+Making them takes minutes, so tools/lists.sum keeps a digest of what they were made from (the twins, not the contracts) and of themselves;
+where it holds, --check makes nothing anew. Where it does not, --check makes all and compares; a run without a crate's name writes it anew.
+
 crates/CRATE/lists.conf has a line for each record, with a value of it in specs/ (what stands past the end of a list), and for each function:
 
     record Rec Blank.none           `none` of specs/Blank.antt; `enum` for an enum
@@ -26,6 +29,7 @@ proofs/Lib.antt must have `pub mod RecRow` for each record, and `pub mod Known`.
 A function of lists.conf may copy a record out of a list (`let r = list[i];`), store it (`list[i] = r;`), hold it in locals and local
 arrays, and pass it by value. What reads its fields, makes one or matches on it goes into covered functions that it calls.
 """
+import hashlib
 import os
 import re
 import shutil
@@ -37,6 +41,7 @@ ROOT = os.path.dirname(os.path.dirname(os.path.abspath(__file__)))
 WORK = ROOT + '/target/lists'
 ROW = open(ROOT + '/tools/Row.antt.in', encoding='utf-8').read()
 MARK = '-- Made by tools/lists.py'
+SUM = ROOT + '/tools/lists.sum'
 
 
 def read(path):
@@ -421,20 +426,26 @@ class Crate:
         first = path.split('.')[0] + '.rt'
         return first if first in self.sources[self.name] else 'lib.rt' if 'lib.rt' in self.sources[self.name] else 'main.rt'
 
-    def derive(self, ready, called, everywhere):
-        """The driver's derivations of the twins, in a repository of their own."""
-        repo, out = WORK + '/' + self.name, WORK + '/generated/' + self.name
+    def twins(self, ready, called, everywhere):
+        """The files of that repository: all that the driver sees."""
         imported = {x.split('::')[-1] for x in re.findall(r'^(?:pub )?use ([\w:]+);', self.everything, re.M)}
         constants = constants_of(self.alias, self.everything)
-        write(repo + '/crates.txt', ''.join('%s: %s\n' % (c, ' '.join(self.needs[c])) for c in self.order))
+        yield 'crates.txt', ''.join('%s: %s\n' % (c, ' '.join(self.needs[c])) for c in self.order)
         for c in self.order:
             own = c == self.name
-            shutil.rmtree('%s/crates/%s/src' % (repo, c), ignore_errors=True)
             for file, t in self.sources[c].items():
                 kept = [x.removeprefix(file[:-3] + '.') for x in ready if self.file_of(x) == file] if own else []
                 text = twin(t, kept, imported | (called if own else everywhere), self.types, self.alias, constants)
-                write('%s/crates/%s/src/%s' % (repo, c, file), text)
-            write('%s/crates/%s/specs/Lib.antt' % (repo, c), '')
+                yield 'crates/%s/src/%s' % (c, file), text
+            yield 'crates/%s/specs/Lib.antt' % c, ''
+
+    def derive(self, ready, called, everywhere):
+        """The driver's derivations of the twins, in a repository of their own."""
+        repo, out = WORK + '/' + self.name, WORK + '/generated/' + self.name
+        for c in self.order:
+            shutil.rmtree('%s/crates/%s/src' % (repo, c), ignore_errors=True)
+        for path, text in self.twins(ready, called, everywhere):
+            write(repo + '/' + path, text)
         shutil.rmtree(out, ignore_errors=True)
         said = rt(repo, 'dev', self.name, '--generated', out)
         return '%s/Rattle.%s.proofs/proofs/' % (out, self.name), said
@@ -449,10 +460,13 @@ class Crate:
         t = re.sub(r'^use %s\.(Lts[\w-]*|Tie)\b' % re.escape(at), r'use %s.Proof.\1' % at, t, flags=re.M)
         return ''.join('use %s.%s as %s\n' % (self.mine, row, row) for row, _, _ in self.rows if row + '.' in t) + t
 
-    def make_derivations(self):
+    def all_rounds(self):
         rounds = list(self.rounds())
         everywhere = set().union(*(called for _, called in rounds))
-        for ready, called in rounds:
+        return [(ready, called, everywhere) for ready, called in rounds]
+
+    def make_derivations(self):
+        for ready, called, everywhere in self.all_rounds():
             folder, said = self.derive(ready, called, everywhere)
             for path in ready:
                 self.make_one(path, folder, said)
@@ -535,6 +549,18 @@ def committed(crates):
                     yield path
 
 
+def digest(parts, crates):
+    """Of all that the derivations are made from, and of the derivations as they stand."""
+    told = hashlib.sha256()
+    texts = [rt(ROOT, 'version'), read(os.path.abspath(__file__)), ROW]
+    texts += [str(part.names) + str(part.rows) for part in parts]
+    texts += [t for part in parts for ready, called, everywhere in part.all_rounds() for file in part.twins(ready, called, everywhere) for t in file]
+    texts += [t for path in sorted(committed(crates)) for t in (path, read(ROOT + '/' + path))]
+    for text in texts:
+        told.update(b'%d ' % len(text) + text.encode())
+    return told.hexdigest() + '\n'
+
+
 def main():
     needs, made = dependencies(), {}
     check, named = '--check' in sys.argv[1:], [x for x in sys.argv[1:] if x != '--check']
@@ -542,6 +568,9 @@ def main():
     if named:
         crates = [c for c in crates if any(c in reached(x, needs) for x in named)]
     parts = [Crate(c, needs, made) for c in crates]
+    if check and not named and os.path.exists(SUM) and read(SUM) == digest(parts, crates):
+        print('lists: as they were made')
+        return
     # most of the time is the driver's: two crates at a time
     with ThreadPoolExecutor(2) as pool:
         list(pool.map(Crate.make_derivations, parts))
@@ -561,6 +590,8 @@ def main():
         os.remove(ROOT + '/' + path)
     for path in changed:
         write(ROOT + '/' + path, made[path])
+    if not named:
+        write(SUM, digest(parts, crates))
 
 
 main()
