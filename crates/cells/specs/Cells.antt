@@ -37,6 +37,10 @@ typeText letters t = letters ++ valuesText (codeOf t) (valueOf t)
 abbrev pub yesOrNo : Bool → List ℕ
 yesOrNo holds = pick holds (0x79 ∷ 0x65 ∷ 0x73 ∷ []) (0x6E ∷ 0x6F ∷ [])
 
+-- the first cell of a row: the column's number (01, Answers: a record)
+abbrev pub numberCell : ColumnMetadata → List ℕ
+numberCell c = padded 6 (decimalOf (c .number))
+
 -- the cells from the type to the CCSID: type, length, nullable, CCSID (01, Answers: a record)
 unfoldable pub cellsOf : List ℕ → ℕ → ColumnMetadata → List ℕ
 cellsOf letters width c =

@@ -4,7 +4,7 @@ ghost use mathlib.Core.List.{_++_};
 ghost use mathlib.Core.Path.{_≡_};
 ghost use Rattle.decimal.specs.Decimal.{decimalOf};
 ghost use Rattle.line.specs.Line.{Appended, padded};
-ghost use Rattle.cells.specs.Cells.{isSized, inBrackets, precisionText, valuesText, typeText, yesOrNo, cellsOf};
+ghost use Rattle.cells.specs.Cells.{isSized, inBrackets, precisionText, valuesText, typeText, yesOrNo, numberCell, cellsOf};
 use types::ColumnMetadata;
 use types::Db2Type;
 
@@ -76,11 +76,18 @@ fn append_type_cell(
 }
 
 // A number under a head of this width.
-pub fn append_number_cell(line: &mut [u8], used: usize, number: u16, width: usize) -> usize
+fn append_number_cell(line: &mut [u8], used: usize, number: u16, width: usize) -> usize
     ensures { λ r. ⌜ Appended (now (line .entry)) used (padded width (decimalOf number)) (now (line .exit)) r ⌝ }
 {
     let next = line::append_decimal(line, used, number as u64);
     line::append_padded(line, next, used, width)
+}
+
+// The number of a column, under its head.
+pub fn append_number(line: &mut [u8], used: usize, column: ColumnMetadata) -> usize
+    ensures { λ r. ⌜ Appended (now (line .entry)) used (numberCell column) (now (line .exit)) r ⌝ }
+{
+    append_number_cell(line, used, column.number, 6)
 }
 
 fn append_yes_or_no(line: &mut [u8], used: usize, holds: bool) -> usize

@@ -179,9 +179,9 @@ fn put_text_cell(
 }
 
 // The number of a column.
-fn put_number_cell(out: &mut [u8], used: usize, number: u16) -> usize {
+fn put_number_cell(out: &mut [u8], used: usize, column: ColumnMetadata) -> usize {
     let mut line = [0u8; LINE];
-    let count = cells::append_number_cell(&mut line, 0, number, 6);
+    let count = cells::append_number(&mut line, 0, column);
     output::put_bytes(out, used, &line[0..count])
 }
 
@@ -221,7 +221,7 @@ fn put_row(
     widths: Widths,
     room: &mut [u8],
 ) -> usize {
-    let next = put_number_cell(out, used, output::number_of(words, i));
+    let next = put_number_cell(out, used, column_words::column_in(words, i));
     let next = put_text_cell(out, next, reply, words, i, NAME, widths.name, room);
     let next = put_cells(
         out,
