@@ -8,7 +8,9 @@ record's own terms. antt checks what comes out as it checks any proof: nothing h
     tools/lists.py [CRATE..]    makes the files anew, of all crates that have a lists.conf if none is named
     tools/lists.py --check      writes nothing; says which files are not what would be made, and then has exit status 1
 
-Making them takes minutes, so tools/lists.sum keeps a digest of what they were made from (the twins, not the contracts) and of themselves;
+Exit status: 0 all is as it should be, 1 --check found a difference, or making failed, 2 bad usage.
+
+Making them takes a minute, so tools/lists.sum keeps a digest of what they were made from (the twins, not the contracts) and of themselves;
 where it holds, --check makes nothing anew. Where it does not, --check makes all and compares; a run without a crate's name writes it anew.
 
 crates/CRATE/lists.conf has a line for each record, with a value of it in specs/ (what stands past the end of a list), and for each function:
@@ -564,6 +566,12 @@ def digest(parts, crates):
 def main():
     needs, made = dependencies(), {}
     check, named = '--check' in sys.argv[1:], [x for x in sys.argv[1:] if x != '--check']
+    if {'-h', '--help'} & set(named):
+        print(__doc__.strip())
+        return
+    for unknown in (x for x in named if x not in needs):
+        print("lists: crates.txt lists no crate %s; 'tools/lists.py --help' says what there is" % unknown, file=sys.stderr)
+        sys.exit(2)
     crates = [c for c in needs if os.path.exists('%s/crates/%s/lists.conf' % (ROOT, c))]
     if named:
         crates = [c for c in crates if any(c in reached(x, needs) for x in named)]

@@ -13,50 +13,35 @@ const BASE: u8 = 2;
 
 const SCHEMA: u8 = 3;
 
-fn put_order(out: &mut [u8], used: usize, order: ByteOrder) -> usize {
+fn put_order(order: ByteOrder) {
     match order {
-        ByteOrder::BigEndian => output::put_bytes(out, used, b" BE"),
-        ByteOrder::LittleEndian => output::put_bytes(out, used, b" LE"),
+        ByteOrder::BigEndian => output::put_bytes(b" BE"),
+        ByteOrder::LittleEndian => output::put_bytes(b" LE"),
     }
 }
 
 // A text of column `i`.
-fn put_text(
-    out: &mut [u8],
-    used: usize,
-    reply: &[u8],
-    words: &[u64],
-    i: usize,
-    which: u8,
-    room: &mut [u8],
-) -> usize {
+fn put_text(reply: &[u8], words: &[u64], i: usize, which: u8, room: &mut [u8]) {
     let text = output::column_text(words, i, which);
-    puts::put_text(out, used, reply, text, output::number_of(words, i), room)
+    puts::put_text(reply, text, output::number_of(words, i), room);
 }
 
 // ` C NUMBER NAME`.
-fn put_front(
-    out: &mut [u8],
-    used: usize,
-    reply: &[u8],
-    words: &[u64],
-    i: usize,
-    room: &mut [u8],
-) -> usize {
-    let next = output::put_bytes(out, used, b" C");
-    let next = output::put_value(out, next, output::number_of(words, i) as u64);
-    put_text(out, next, reply, words, i, NAME, room)
+fn put_front(reply: &[u8], words: &[u64], i: usize, room: &mut [u8]) {
+    output::put_bytes(b" C");
+    output::put_value(output::number_of(words, i) as u64);
+    put_text(reply, words, i, NAME, room);
 }
 
 // ` TYPE`.
-fn put_type(out: &mut [u8], used: usize, column: ColumnMetadata) -> usize {
+fn put_type(column: ColumnMetadata) {
     let db2_type = column.db2_type;
-    let next = output::put_byte(out, used, b' ');
-    output::put_type(out, next, db2_type)
+    output::put_byte(b' ');
+    output::put_type(db2_type);
 }
 
 // ` CODE LENGTH NULLABLE PRECISION SCALE CCSID ORDER`.
-fn put_numbers(out: &mut [u8], used: usize, column: ColumnMetadata) -> usize {
+fn put_numbers(column: ColumnMetadata) {
     let order = column.byte_order;
     let values = [
         column.drda_type as u64,
@@ -66,73 +51,48 @@ fn put_numbers(out: &mut [u8], used: usize, column: ColumnMetadata) -> usize {
         column.scale as u64,
         column.ccsid as u64,
     ];
-    let next = puts::put_values(out, used, &values);
-    put_order(out, next, order)
+    puts::put_values(&values);
+    put_order(order);
 }
 
 // ` BASE SCHEMA LABEL`.
-fn put_texts(
-    out: &mut [u8],
-    used: usize,
-    reply: &[u8],
-    words: &[u64],
-    i: usize,
-    room: &mut [u8],
-) -> usize {
-    let next = put_text(out, used, reply, words, i, BASE, room);
-    let next = put_text(out, next, reply, words, i, SCHEMA, room);
-    put_text(out, next, reply, words, i, LABEL, room)
+fn put_texts(reply: &[u8], words: &[u64], i: usize, room: &mut [u8]) {
+    put_text(reply, words, i, BASE, room);
+    put_text(reply, words, i, SCHEMA, room);
+    put_text(reply, words, i, LABEL, room);
 }
 
-fn put_column(
-    out: &mut [u8],
-    used: usize,
-    reply: &[u8],
-    words: &[u64],
-    i: usize,
-    room: &mut [u8],
-) -> usize {
-    let next = put_front(out, used, reply, words, i, room);
-    let next = put_type(out, next, column_words::column_in(words, i));
-    let next = put_numbers(out, next, column_words::column_in(words, i));
-    put_texts(out, next, reply, words, i, room)
+fn put_column(reply: &[u8], words: &[u64], i: usize, room: &mut [u8]) {
+    put_front(reply, words, i, room);
+    put_type(column_words::column_in(words, i));
+    put_numbers(column_words::column_in(words, i));
+    put_texts(reply, words, i, room);
 }
 
 // ` NAME LABEL BASE SCHEMA`, where each stands.
-fn put_places(out: &mut [u8], used: usize, words: &[u64], i: usize) -> usize {
-    let next = puts::put_text_place(out, used, output::column_text(words, i, NAME));
-    let next = puts::put_text_place(out, next, output::column_text(words, i, LABEL));
-    let next = puts::put_text_place(out, next, output::column_text(words, i, BASE));
-    puts::put_text_place(out, next, output::column_text(words, i, SCHEMA))
+fn put_places(words: &[u64], i: usize) {
+    puts::put_text_place(output::column_text(words, i, NAME));
+    puts::put_text_place(output::column_text(words, i, LABEL));
+    puts::put_text_place(output::column_text(words, i, BASE));
+    puts::put_text_place(output::column_text(words, i, SCHEMA));
 }
 
 // The first `count` columns of a list.
-pub(crate) fn put_columns(
-    out: &mut [u8],
-    used: usize,
-    reply: &[u8],
-    words: &[u64],
-    count: usize,
-    room: &mut [u8],
-) -> usize {
-    let mut next = used;
+pub(crate) fn put_columns(reply: &[u8], words: &[u64], count: usize, room: &mut [u8]) {
     let mut i = 0;
     while i < count {
-        next = put_column(out, next, reply, words, i, room);
+        put_column(reply, words, i, room);
         i += 1;
     }
-    next
 }
 
 // The places of their texts.
-pub(crate) fn put_all_places(out: &mut [u8], used: usize, words: &[u64], count: usize) -> usize {
-    let mut next = used;
+pub(crate) fn put_all_places(words: &[u64], count: usize) {
     let mut i = 0;
     while i < count {
-        next = put_places(out, next, words, i);
+        put_places(words, i);
         i += 1;
     }
-    next
 }
 
 // Whether the words past the first `count` columns are as they were marked.

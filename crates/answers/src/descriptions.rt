@@ -17,104 +17,63 @@ fn described(entry: u8, code_point: u16, reply: &[u8], words: &mut [u64]) -> Sql
 }
 
 // `OK n=COUNT`, then the status and the columns, or the places of their texts; or the refusal.
-fn put_described(
-    out: &mut [u8],
-    used: usize,
-    entry: u8,
-    reply: &[u8],
-    answer: SqldardResult,
-    words: &[u64],
-    room: &mut [u8],
-) -> usize {
+fn put_described(entry: u8, reply: &[u8], answer: SqldardResult, words: &[u64], room: &mut [u8]) {
     let refusal = answer.refusal;
     let card = answer.card;
     let count = answer.count;
-    let next = puts::put_count(
-        out,
-        used,
-        refusal,
-        count,
-        column_list::are_kept(words, count),
-    );
+    puts::put_count(refusal, count, column_list::are_kept(words, count));
     if refusal.number != 0 {
-        return next;
+        return;
     }
     if entry == b'd' {
-        return column_list::put_all_places(out, next, words, count);
+        column_list::put_all_places(words, count);
+        return;
     }
-    let next = cards::put_status(out, next, reply, card, room);
-    column_list::put_columns(out, next, reply, words, count, room)
+    cards::put_status(reply, card, room);
+    column_list::put_columns(reply, words, count, room);
 }
 
 // A description for which all of `words` is lent.
-fn put_lent(
-    out: &mut [u8],
-    used: usize,
-    entry: u8,
-    code_point: u16,
-    reply: &[u8],
-    room: &mut [u8],
-    words: &mut [u64],
-) -> usize {
+fn put_lent(entry: u8, code_point: u16, reply: &[u8], room: &mut [u8], words: &mut [u64]) {
     lent::mark_words(words);
     let answer = described(entry, code_point, reply, words);
-    put_described(out, used, entry, reply, answer, words, room)
+    put_described(entry, reply, answer, words, room);
 }
 
 // One for which as many records are lent.
 fn put_list(
-    out: &mut [u8],
-    used: usize,
     entry: u8,
     code_point: u16,
     reply: &[u8],
     records: u16,
     room: &mut [u8],
     words: &mut [u64],
-) -> usize {
+) -> bool {
     let end = 22 * records as usize;
     if RECORDS < records {
-        return puts::put_bad(out, used);
+        return puts::put_bad();
     }
     if words.len() < end {
-        return puts::put_bad(out, used);
+        return puts::put_bad();
     }
-    put_lent(
-        out,
-        used,
-        entry,
-        code_point,
-        reply,
-        room,
-        &mut words[0..end],
-    )
+    put_lent(entry, code_point, reply, room, &mut words[0..end]);
+    true
 }
 
 // D and d: the reply. L: how many records are lent, and the reply. P: the code point, and the reply.
 pub(crate) fn put_description(
-    out: &mut [u8],
-    used: usize,
     entry: u8,
     payload: &[u8],
     room: &mut [u8],
     words: &mut [u64],
-) -> usize {
+) -> bool {
     if (entry == b'D') | (entry == b'd') {
-        return put_list(out, used, entry, 0, payload, RECORDS, room, words);
+        return put_list(entry, 0, payload, RECORDS, room, words);
     }
     if payload.len() < 2 {
-        return puts::put_bad(out, used);
+        return puts::put_bad();
     }
     let number = field::u16_at(payload, 0, ByteOrder::BigEndian);
     let records = if entry == b'L' { number } else { RECORDS };
-    put_list(
-        out,
-        used,
-        entry,
-        number,
-        &payload[2..],
-        records,
-        room,
-        words,
-    )
+    put_list(entry, number, &payload[2..], records, room, words)
 }

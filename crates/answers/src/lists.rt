@@ -2,58 +2,45 @@
 use crate::puts;
 use crate::records;
 use field::ByteOrder;
-use jigshard::CountResult;
-use jigshard::CutResult;
+use outcome::Refusal;
 
 // The words of the 4,096 records that are lent for a description.
 const WORDS: usize = 90_112;
 
-// `OK 1` if the cut is the same, else `OK 0`.
-fn put_cut(out: &mut [u8], used: usize, answer: CutResult) -> usize {
-    let refusal = answer.refusal;
+// `OK` and a value, or the refusal.
+fn put_found(refusal: Refusal, value: u64) {
     if refusal.number != 0 {
-        return output::put_refusal(out, used, refusal);
+        output::put_refusal(refusal);
+        return;
     }
-    let next = output::put_bytes(out, used, b"OK");
-    output::put_value(out, next, answer.same as u64)
+    output::put_bytes(b"OK");
+    output::put_value(value);
 }
 
-// `OK SUM`.
-fn put_width(out: &mut [u8], used: usize, answer: CountResult) -> usize {
-    let refusal = answer.refusal;
-    if refusal.number != 0 {
-        return output::put_refusal(out, used, refusal);
+// Same cut of two lists: 1 or 0. The first takes the words up to `middle`, the second `count` words from there on.
+fn put_cut_of(words: &[u64], middle: usize, count: usize) -> bool {
+    if words.len() < middle {
+        return puts::put_bad();
     }
-    let next = output::put_bytes(out, used, b"OK");
-    output::put_value(out, next, answer.count as u64)
-}
-
-// Same cut of the first words of two lists.
-fn put_cut_of(
-    out: &mut [u8],
-    used: usize,
-    words: &[u64],
-    end: usize,
-    others: &[u64],
-    other_end: usize,
-) -> usize {
-    if words.len() < end {
-        return puts::put_bad(out, used);
+    if words.len() - middle < count {
+        return puts::put_bad();
     }
-    if others.len() < other_end {
-        return puts::put_bad(out, used);
-    }
-    let answer = jigshard::lists::jigshard_same_cut(&words[0..end], &others[0..other_end]);
-    put_cut(out, used, answer)
+    let answer = jigshard::lists::jigshard_same_cut(
+        &words[0..middle],
+        &words[middle..middle + count],
+    );
+    put_found(answer.refusal, answer.same as u64);
+    true
 }
 
 // The widest row of the first words of a list.
-fn put_width_of(out: &mut [u8], used: usize, words: &[u64], end: usize) -> usize {
+fn put_width_of(words: &[u64], end: usize) -> bool {
     if words.len() < end {
-        return puts::put_bad(out, used);
+        return puts::put_bad();
     }
     let answer = jigshard::lists::jigshard_widest_row(&words[0..end]);
-    put_width(out, used, answer)
+    put_found(answer.refusal, answer.count as u64);
+    true
 }
 
 // How many words the list takes that a reply describes; none where it is refused.
@@ -71,87 +58,69 @@ fn described(reply: &[u8], words: &mut [u64]) -> usize {
     count * 22
 }
 
+// The lists that two replies describe, one behind the other in `words`.
+fn put_cut_of_replies(first: &[u8], second: &[u8], words: &mut [u64]) -> bool {
+    let middle = described(first, words);
+    if words.len() < middle {
+        return puts::put_bad();
+    }
+    let count = described(second, &mut words[middle..]);
+    put_cut_of(words, middle, count)
+}
+
 // C: same cut. In front of the two replies stands the length of the first.
-pub(crate) fn put_same_cut(
-    out: &mut [u8],
-    used: usize,
-    payload: &[u8],
-    words: &mut [u64],
-    others: &mut [u64],
-) -> usize {
+pub(crate) fn put_same_cut(payload: &[u8], words: &mut [u64]) -> bool {
     if payload.len() < 4 {
-        return puts::put_bad(out, used);
+        return puts::put_bad();
     }
     let count = field::u32_at(payload, 0, ByteOrder::BigEndian) as usize;
     if payload.len() - 4 < count {
-        return puts::put_bad(out, used);
+        return puts::put_bad();
     }
-    let end = described(&payload[4..4 + count], words);
-    let other_end = described(&payload[4 + count..], others);
-    put_cut_of(out, used, words, end, others, other_end)
+    put_cut_of_replies(&payload[4..4 + count], &payload[4 + count..], words)
 }
 
 // W: the widest row of the list that a reply describes.
-pub(crate) fn put_widest_row(
-    out: &mut [u8],
-    used: usize,
-    reply: &[u8],
-    words: &mut [u64],
-) -> usize {
+pub(crate) fn put_widest_row(reply: &[u8], words: &mut [u64]) -> bool {
     let end = described(reply, words);
-    put_width_of(out, used, words, end)
+    put_width_of(words, end)
 }
 
-// The two lists' bytes, if they are records.
-fn put_two_lists(
-    out: &mut [u8],
-    used: usize,
-    first: &[u8],
-    second: &[u8],
-    words: &mut [u64],
-    others: &mut [u64],
-) -> usize {
-    let end = records::fill_records(first, words);
-    let other_end = records::fill_records(second, others);
-    put_cut_of(out, used, words, end, others, other_end)
+// The two lists' bytes, if they are records; their words as those of two replies.
+fn put_cut_of_lists(first: &[u8], second: &[u8], words: &mut [u64]) -> bool {
+    let middle = records::fill_records(first, words);
+    if words.len() < middle {
+        return puts::put_bad();
+    }
+    let count = records::fill_records(second, &mut words[middle..]);
+    put_cut_of(words, middle, count)
+}
+
+// How many bytes the records take whose count stands at the start; more than there are where no count does.
+fn counted(bytes: &[u8]) -> usize {
+    if bytes.len() < 2 {
+        return usize::MAX;
+    }
+    50 * field::u16_at(bytes, 0, ByteOrder::BigEndian) as usize
 }
 
 // Q: same cut of two lists of records, each after its count.
-pub(crate) fn put_same_cut_of_records(
-    out: &mut [u8],
-    used: usize,
-    payload: &[u8],
-    words: &mut [u64],
-    others: &mut [u64],
-) -> usize {
-    if payload.len() < 2 {
-        return puts::put_bad(out, used);
+pub(crate) fn put_same_cut_of_records(payload: &[u8], words: &mut [u64]) -> bool {
+    let first = counted(payload);
+    if payload.len() < first {
+        return puts::put_bad();
     }
-    let first = 50 * field::u16_at(payload, 0, ByteOrder::BigEndian) as usize;
-    if payload.len() - 2 < first + 2 {
-        return puts::put_bad(out, used);
+    if payload.len() - first < 4 {
+        return puts::put_bad();
     }
-    let second = 50 * field::u16_at(payload, 2 + first, ByteOrder::BigEndian) as usize;
-    if payload.len() - 4 - first != second {
-        return puts::put_bad(out, used);
+    if payload.len() - first - 4 != counted(&payload[first + 2..]) {
+        return puts::put_bad();
     }
-    put_two_lists(
-        out,
-        used,
-        &payload[2..2 + first],
-        &payload[4 + first..],
-        words,
-        others,
-    )
+    put_cut_of_lists(&payload[2..first + 2], &payload[first + 4..], words)
 }
 
 // R: the widest row of records.
-pub(crate) fn put_widest_row_of_records(
-    out: &mut [u8],
-    used: usize,
-    payload: &[u8],
-    words: &mut [u64],
-) -> usize {
+pub(crate) fn put_widest_row_of_records(payload: &[u8], words: &mut [u64]) -> bool {
     let end = records::fill_records(payload, words);
-    put_width_of(out, used, words, end)
+    put_width_of(words, end)
 }

@@ -23,67 +23,38 @@ fn are_kept(words: &[u64], count: usize) -> bool {
 }
 
 // A name as its characters, or as its place.
-fn put_name(
-    out: &mut [u8],
-    used: usize,
-    entry: u8,
-    reply: &[u8],
-    name: Text,
-    room: &mut [u8],
-) -> usize {
+fn put_name(entry: u8, reply: &[u8], name: Text, room: &mut [u8]) {
     if entry == b'n' {
-        return puts::put_text_place(out, used, name);
+        puts::put_text_place(name);
+        return;
     }
-    puts::put_text(out, used, reply, name, 0, room)
+    puts::put_text(reply, name, 0, room);
 }
 
-fn put_all(
-    out: &mut [u8],
-    used: usize,
-    entry: u8,
-    reply: &[u8],
-    words: &[u64],
-    count: usize,
-    room: &mut [u8],
-) -> usize {
-    let mut next = used;
+fn put_all(entry: u8, reply: &[u8], words: &[u64], count: usize, room: &mut [u8]) {
     let mut i = 0;
     while i < count {
-        next = put_name(out, next, entry, reply, name_in(words, i), room);
+        put_name(entry, reply, name_in(words, i), room);
         i += 1;
     }
-    next
 }
 
 // A name scan for which all of `words` is lent.
-fn put_lent(
-    out: &mut [u8],
-    used: usize,
-    entry: u8,
-    reply: &[u8],
-    room: &mut [u8],
-    words: &mut [u64],
-) -> usize {
+fn put_lent(entry: u8, reply: &[u8], room: &mut [u8], words: &mut [u64]) {
     lent::mark_words(words);
     let answer = jigshard::name_scan::jigshard_scan_column_names(reply, words);
     let refusal = answer.refusal;
     let count = answer.count;
-    let next = puts::put_count(out, used, refusal, count, are_kept(words, count));
-    put_all(out, next, entry, reply, words, count, room)
+    puts::put_count(refusal, count, are_kept(words, count));
+    put_all(entry, reply, words, count, room);
 }
 
 // N: the names. n: where they stand in the reply.
-pub(crate) fn put_names(
-    out: &mut [u8],
-    used: usize,
-    entry: u8,
-    reply: &[u8],
-    room: &mut [u8],
-    words: &mut [u64],
-) -> usize {
+pub(crate) fn put_names(entry: u8, reply: &[u8], room: &mut [u8], words: &mut [u64]) -> bool {
     let end = WORDS as usize;
     if words.len() < end {
-        return puts::put_bad(out, used);
+        return puts::put_bad();
     }
-    put_lent(out, used, entry, reply, room, &mut words[0..end])
+    put_lent(entry, reply, room, &mut words[0..end]);
+    true
 }

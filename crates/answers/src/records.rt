@@ -86,13 +86,21 @@ fn value_taken(code: u64, value: u64) -> u64 {
     column_words::type_value(db2_type)
 }
 
-// The fields of a record as they stand.
-fn fill_fields(record: &[u8], words: &mut [u64]) {
+// Field `i` of a record.
+fn field_in(record: &[u8], i: usize) -> u64 {
     let starts = STARTS;
     let widths = WIDTHS;
+    if i >= 22 {
+        return 0;
+    }
+    number_at(record, place(starts[i]), widths[i])
+}
+
+// The fields of a record as they stand.
+fn fill_fields(record: &[u8], words: &mut [u64]) {
     let mut i = 0;
-    while i < 22 && i < words.len() {
-        words[i] = number_at(record, place(starts[i]), widths[i]);
+    while i < words.len() {
+        words[i] = field_in(record, i);
         i += 1;
     }
 }
@@ -105,6 +113,27 @@ fn fill_record(record: &[u8], words: &mut [u64]) {
     }
 }
 
+// The words of record `i` of many.
+fn fill_at(bytes: &[u8], words: &mut [u64], i: usize) {
+    if bytes.len() / 50 <= i {
+        return;
+    }
+    if words.len() / 22 <= i {
+        return;
+    }
+    let at = i * 50;
+    let to = i * 22;
+    fill_record(&bytes[at..at + 50], &mut words[to..to + 22]);
+}
+
+fn fill_all(bytes: &[u8], words: &mut [u64], count: usize) {
+    let mut i = 0;
+    while i < count {
+        fill_at(bytes, words, i);
+        i += 1;
+    }
+}
+
 // The records' words at the front of `words`, and how many they are; more than there are, where the bytes are not those of records.
 pub(crate) fn fill_records(bytes: &[u8], words: &mut [u64]) -> usize {
     let count = bytes.len() / 50;
@@ -114,13 +143,7 @@ pub(crate) fn fill_records(bytes: &[u8], words: &mut [u64]) -> usize {
     if words.len() / 22 < count {
         return usize::MAX;
     }
-    let mut i = 0;
-    while i < count {
-        let at = i * 50;
-        let to = i * 22;
-        fill_record(&bytes[at..at + 50], &mut words[to..to + 22]);
-        i += 1;
-    }
+    fill_all(bytes, words, count);
     let end = count * 22;
     if column_words::are_columns(&words[0..end]) {
         return end;

@@ -3,50 +3,42 @@ use crate::lent;
 use crate::puts;
 use field::ByteOrder;
 use jigshard::CountResult;
+use jigshard::PartResult;
 
 // The text in what was lent and marked, or the refusal; `TOUCHED` where more than the text was written.
-fn put_lent(out: &mut [u8], used: usize, lent: &[u8], answer: CountResult) -> usize {
+fn put_lent(lent: &[u8], answer: CountResult) {
     let refusal = answer.refusal;
     if !lent::is_marked(lent, answer.count) {
-        return output::put_bytes(out, used, b"TOUCHED");
+        output::put_bytes(b"TOUCHED");
+        return;
     }
     if refusal.number != 0 {
-        return output::put_refusal(out, used, refusal);
+        output::put_refusal(refusal);
+        return;
     }
-    let next = output::put_bytes(out, used, b"OK ");
-    puts::put_hex_first(out, next, lent, answer.count)
+    output::put_bytes(b"OK ");
+    puts::put_hex_first(lent, answer.count);
 }
 
-fn put_message(
-    out: &mut [u8],
-    used: usize,
-    reply: &[u8],
-    place: usize,
-    count: usize,
-    lent: &mut [u8],
-) -> usize {
+fn put_message(reply: &[u8], place: usize, count: usize, lent: &mut [u8]) {
     lent::mark(lent);
     let answer = jigshard::texts::jigshard_message_text(reply, place, count, lent);
-    put_lent(out, used, lent, answer)
+    put_lent(lent, answer);
 }
 
 // M: a message's text. In front of the reply stand its place, its length and how many bytes are lent.
-pub(crate) fn put_message_text(
-    out: &mut [u8],
-    used: usize,
-    payload: &[u8],
-    room: &mut [u8],
-) -> usize {
+pub(crate) fn put_message_text(payload: &[u8], room: &mut [u8]) -> bool {
     if payload.len() < 10 {
-        return puts::put_bad(out, used);
+        return puts::put_bad();
     }
     let place = field::u32_at(payload, 0, ByteOrder::BigEndian) as usize;
     let count = field::u32_at(payload, 4, ByteOrder::BigEndian) as usize;
     let lent = field::u16_at(payload, 8, ByteOrder::BigEndian) as usize;
     if room.len() < lent {
-        return puts::put_bad(out, used);
+        return puts::put_bad();
     }
-    put_message(out, used, &payload[10..], place, count, &mut room[0..lent])
+    put_message(&payload[10..], place, count, &mut room[0..lent]);
+    true
 }
 
 // Where a case says that a name stands, and in which alphabet.
@@ -75,7 +67,7 @@ fn named_in(payload: &[u8]) -> Named {
     }
 }
 
-fn put_name(out: &mut [u8], used: usize, reply: &[u8], named: Named, lent: &mut [u8]) -> usize {
+fn put_name(reply: &[u8], named: Named, lent: &mut [u8]) {
     lent::mark(lent);
     let answer = jigshard::texts::jigshard_name_text(
         reply,
@@ -85,26 +77,37 @@ fn put_name(out: &mut [u8], used: usize, reply: &[u8], named: Named, lent: &mut 
         named.alphabet,
         lent,
     );
-    put_lent(out, used, lent, answer)
+    put_lent(lent, answer);
 }
 
 // T: a name's text. In front of the reply stand the column's number, its name's place, length and alphabet, and how many bytes are lent.
-pub(crate) fn put_name_text(out: &mut [u8], used: usize, payload: &[u8], room: &mut [u8]) -> usize {
+pub(crate) fn put_name_text(payload: &[u8], room: &mut [u8]) -> bool {
     if payload.len() < 13 {
-        return puts::put_bad(out, used);
+        return puts::put_bad();
     }
     let named = named_in(payload);
     let lent = field::u16_at(payload, 11, ByteOrder::BigEndian) as usize;
     if room.len() < lent {
-        return puts::put_bad(out, used);
+        return puts::put_bad();
     }
-    put_name(out, used, &payload[13..], named, &mut room[0..lent])
+    put_name(&payload[13..], named, &mut room[0..lent]);
+    true
+}
+
+fn put_part(answer: PartResult) {
+    let refusal = answer.refusal;
+    if refusal.number != 0 {
+        output::put_refusal(refusal);
+        return;
+    }
+    output::put_bytes(b"OK ");
+    puts::put_place(answer.place, answer.length);
 }
 
 // U: a name's own bytes. In front of the reply stand the column's number, and its name's place, length and alphabet.
-pub(crate) fn put_name_part(out: &mut [u8], used: usize, payload: &[u8]) -> usize {
+pub(crate) fn put_name_part(payload: &[u8]) -> bool {
     if payload.len() < 11 {
-        return puts::put_bad(out, used);
+        return puts::put_bad();
     }
     let named = named_in(payload);
     let answer = jigshard::texts::jigshard_name_part(
@@ -113,10 +116,6 @@ pub(crate) fn put_name_part(out: &mut [u8], used: usize, payload: &[u8]) -> usiz
         named.count,
         named.alphabet,
     );
-    let refusal = answer.refusal;
-    if refusal.number != 0 {
-        return output::put_refusal(out, used, refusal);
-    }
-    let next = output::put_bytes(out, used, b"OK ");
-    puts::put_place(out, next, answer.place, answer.length)
+    put_part(answer);
+    true
 }

@@ -5,27 +5,21 @@ mod table;
 use libc::STDIN_FILENO;
 
 // All that is written of a reply. It has at most 4,095 columns (`reading-few`), so the list is never too short.
-fn put_description(
-    out: &mut [u8],
-    used: usize,
-    reply: &[u8],
-    room: &mut [u8],
-    words: &mut [u64],
-) -> usize {
+fn put_description(reply: &[u8], room: &mut [u8], words: &mut [u64]) {
     let answer = sqldard_words::parse_sqldard_data(reply, words);
     let refusal = answer.refusal;
     if refusal.number != 0 {
-        return status::put_refusal(out, used, refusal);
+        status::put_refusal(refusal);
+        return;
     }
     let count = answer.count;
     let card = answer.card;
-    let next = status::put_status(out, used, reply, card, room);
-    let next = status::put_size(out, next, count, reply.len());
-    table::put_table(out, next, reply, words, count, room)
+    status::put_status(reply, card, room);
+    status::put_size(count, reply.len());
+    table::put_table(reply, words, count, room);
 }
 
 fn main() {
-    let mut out = [0u8; 65_536];
     // One byte more than a reply may have, so that a longer one is told.
     let mut reply = [0u8; 65_537];
     // For the text of the status record's message, and for those of the columns.
@@ -33,6 +27,5 @@ fn main() {
     // 4,096 columns of 22 words.
     let mut words = [0u64; 90_112];
     let got = io::read_full(STDIN_FILENO, &mut reply);
-    let used = put_description(&mut out, 0, &reply[0..got], &mut room, &mut words);
-    output::close(&mut out, used);
+    put_description(&reply[0..got], &mut room, &mut words);
 }

@@ -89,38 +89,40 @@ fn widths_of(words: &[u64], count: usize) -> Widths {
 }
 
 // Blanks behind a cell of `width` characters in a column of `column` characters: two at least.
-fn put_gap(out: &mut [u8], used: usize, width: usize, column: usize) -> usize {
-    let mut next = output::put_bytes(out, used, b"  ");
-    let mut i = width;
-    while i < column {
-        next = output::put_byte(out, next, b' ');
-        i += 1;
+fn put_gap(width: usize, column: usize) {
+    let blanks = [0x20u8; 130];
+    if column <= width {
+        output::put_bytes(b"  ");
+        return;
     }
-    next
+    if WIDEST < column {
+        return;
+    }
+    output::put_bytes(&blanks[width..column + 2]);
 }
 
 // A head and its gap.
-fn put_head(out: &mut [u8], used: usize, word: &[u8], column: usize) -> usize {
-    let next = output::put_bytes(out, used, word);
-    put_gap(out, next, word.len(), column)
+fn put_head(word: &[u8], column: usize) {
+    output::put_bytes(word);
+    put_gap(word.len(), column);
 }
 
-fn put_first_heads(out: &mut [u8], used: usize, widths: Widths) -> usize {
-    let next = output::put_bytes(out, used, b"number  ");
-    let next = put_head(out, next, b"name", widths.name);
-    put_head(out, next, b"type", widths.db2_type)
+fn put_first_heads(widths: Widths) {
+    output::put_bytes(b"number  ");
+    put_head(b"name", widths.name);
+    put_head(b"type", widths.db2_type);
 }
 
-fn put_last_heads(out: &mut [u8], used: usize, widths: Widths) -> usize {
-    let next = put_head(out, used, b"label", widths.label);
-    let next = put_head(out, next, b"schema", widths.schema);
-    output::put_bytes(out, next, b"table\n")
+fn put_last_heads(widths: Widths) {
+    put_head(b"label", widths.label);
+    put_head(b"schema", widths.schema);
+    output::put_bytes(b"table\n");
 }
 
-fn put_heads(out: &mut [u8], used: usize, widths: Widths) -> usize {
-    let next = put_first_heads(out, used, widths);
-    let next = output::put_bytes(out, next, b"length  nullable  CCSID  ");
-    put_last_heads(out, next, widths)
+fn put_heads(widths: Widths) {
+    put_first_heads(widths);
+    output::put_bytes(b"length  nullable  CCSID  ");
+    put_last_heads(widths);
 }
 
 // A column with this number and this text as its name: name text asks for nothing else.
@@ -143,126 +145,73 @@ fn write_text(reply: &[u8], column: ColumnMetadata, room: &mut [u8]) -> usize {
 }
 
 // A text of column `i`, decoded; `-` for an empty one, and `?` for one that does not lie in the reply.
-fn put_text(
-    out: &mut [u8],
-    used: usize,
-    reply: &[u8],
-    words: &[u64],
-    i: usize,
-    which: u8,
-    room: &mut [u8],
-) -> usize {
+fn put_text(reply: &[u8], words: &[u64], i: usize, which: u8, room: &mut [u8]) {
     let text = output::column_text(words, i, which);
     let count = write_text(reply, named(text, output::number_of(words, i)), room);
     if count == 0 {
-        return output::put_byte(out, used, b'-');
+        output::put_byte(b'-');
+        return;
     }
     if room.len() < count {
-        return output::put_byte(out, used, b'?');
+        output::put_byte(b'?');
+        return;
     }
-    output::put_characters(out, used, &room[0..count])
+    output::put_characters(&room[0..count]);
 }
 
 // A text and its gap.
-fn put_text_cell(
-    out: &mut [u8],
-    used: usize,
-    reply: &[u8],
-    words: &[u64],
-    i: usize,
-    which: u8,
-    column: usize,
-    room: &mut [u8],
-) -> usize {
-    let next = put_text(out, used, reply, words, i, which, room);
-    put_gap(out, next, width_of(words, i, which), column)
+fn put_text_cell(reply: &[u8], words: &[u64], i: usize, which: u8, column: usize, room: &mut [u8]) {
+    put_text(reply, words, i, which, room);
+    put_gap(width_of(words, i, which), column);
 }
 
 // The number of a column.
-fn put_number_cell(out: &mut [u8], used: usize, column: ColumnMetadata) -> usize {
+fn put_number_cell(column: ColumnMetadata) {
     let mut line = [0u8; LINE];
     let count = cells::append_number(&mut line, 0, column);
-    output::put_bytes(out, used, &line[0..count])
+    output::put_bytes(&line[0..count]);
 }
 
 // From its type to its CCSID.
-fn put_cells(out: &mut [u8], used: usize, column: ColumnMetadata, width: usize) -> usize {
+fn put_cells(column: ColumnMetadata, width: usize) {
     let db2_type = column.db2_type;
     let letters = output::type_letters(db2_type);
     let end = output::without_blanks(&letters);
     let mut line = [0u8; LINE];
     let count = cells::append_cells(&mut line, 0, &letters[0..end], column, width);
-    output::put_bytes(out, used, &line[0..count])
+    output::put_bytes(&line[0..count]);
 }
 
 // From its label to its table.
-fn put_texts(
-    out: &mut [u8],
-    used: usize,
-    reply: &[u8],
-    words: &[u64],
-    i: usize,
-    widths: Widths,
-    room: &mut [u8],
-) -> usize {
-    let next = put_text_cell(out, used, reply, words, i, LABEL, widths.label, room);
-    let next = put_text_cell(out, next, reply, words, i, SCHEMA, widths.schema, room);
-    let next = put_text(out, next, reply, words, i, TABLE, room);
-    output::put_byte(out, next, b'\n')
+fn put_texts(reply: &[u8], words: &[u64], i: usize, widths: Widths, room: &mut [u8]) {
+    put_text_cell(reply, words, i, LABEL, widths.label, room);
+    put_text_cell(reply, words, i, SCHEMA, widths.schema, room);
+    put_text(reply, words, i, TABLE, room);
+    output::put_byte(b'\n');
 }
 
 // The line of column `i`.
-fn put_row(
-    out: &mut [u8],
-    used: usize,
-    reply: &[u8],
-    words: &[u64],
-    i: usize,
-    widths: Widths,
-    room: &mut [u8],
-) -> usize {
-    let next = put_number_cell(out, used, column_words::column_in(words, i));
-    let next = put_text_cell(out, next, reply, words, i, NAME, widths.name, room);
-    let next = put_cells(
-        out,
-        next,
-        column_words::column_in(words, i),
-        widths.db2_type,
-    );
-    put_texts(out, next, reply, words, i, widths, room)
+fn put_row(reply: &[u8], words: &[u64], i: usize, widths: Widths, room: &mut [u8]) {
+    put_number_cell(column_words::column_in(words, i));
+    put_text_cell(reply, words, i, NAME, widths.name, room);
+    put_cells(column_words::column_in(words, i), widths.db2_type);
+    put_texts(reply, words, i, widths, room);
 }
 
-fn put_rows(
-    out: &mut [u8],
-    used: usize,
-    reply: &[u8],
-    words: &[u64],
-    count: usize,
-    widths: Widths,
-    room: &mut [u8],
-) -> usize {
-    let mut next = used;
+fn put_rows(reply: &[u8], words: &[u64], count: usize, widths: Widths, room: &mut [u8]) {
     let mut i = 0;
     while i < count {
-        next = put_row(out, next, reply, words, i, widths, room);
+        put_row(reply, words, i, widths, room);
         i += 1;
     }
-    next
 }
 
 // The table of the first `count` columns of a list; nothing where there is none.
-pub(crate) fn put_table(
-    out: &mut [u8],
-    used: usize,
-    reply: &[u8],
-    words: &[u64],
-    count: usize,
-    room: &mut [u8],
-) -> usize {
+pub(crate) fn put_table(reply: &[u8], words: &[u64], count: usize, room: &mut [u8]) {
     if count == 0 {
-        return used;
+        return;
     }
     let widths = widths_of(words, count);
-    let next = put_heads(out, used, widths);
-    put_rows(out, next, reply, words, count, widths, room)
+    put_heads(widths);
+    put_rows(reply, words, count, widths, room);
 }

@@ -1,128 +1,118 @@
 // Runs the cases of document 01 that have no letter, and a reply for each of its wrong turns: a line for each. The gate compares this with
-// the file stdout, which has what document 01 says.
+// the file stdout, which has what document 01 says. The replies are in the file stdin, which tests/replies/make makes: for each, what it
+// shows and its bytes, with a byte for the length in front of both.
+ghost use Prim.Native.Nat.{_≤_};
+use libc::STDIN_FILENO;
 use sqldard::SqldardAnswer;
 use types::ColumnMetadata;
 
-mod replies;
-
 // What stands in front of the columns: nothing, or why there are none.
-fn put_head(out: &mut [u8], used: usize, answer: SqldardAnswer) -> usize {
+fn put_head(answer: SqldardAnswer) {
     let outcome = answer.outcome;
     if outcome::is_refused(outcome) {
-        return output::put_refusal(out, used, outcome::refusal_of(outcome));
+        output::put_refusal(outcome::refusal_of(outcome));
+        return;
     }
     if answer.count == 0 {
-        return output::put_bytes(out, used, b"no columns");
+        output::put_bytes(b"no columns");
     }
-    used
 }
 
 // A column's name between quotes, so that its blanks are seen.
-fn put_name(out: &mut [u8], used: usize, reply: &[u8], column: ColumnMetadata) -> usize {
+fn put_name(reply: &[u8], column: ColumnMetadata) {
     let mut buffer = [0u8; 64];
     let text = column_name::name_text(reply, column, &mut buffer);
     let count = text.length;
     // No length beyond the buffer is answered: the test spares the proof of that.
     if buffer.len() < count {
-        return output::put_byte(out, used, b'?');
+        output::put_byte(b'?');
+        return;
     }
-    let next = output::put_byte(out, used, b'"');
-    let next = output::put_characters(out, next, &buffer[0..count]);
-    output::put_byte(out, next, b'"')
+    output::put_byte(b'"');
+    output::put_characters(&buffer[0..count]);
+    output::put_byte(b'"');
 }
 
-// What stands between two columns.
-fn put_comma(out: &mut [u8], used: usize, number: u16) -> usize {
-    if number == 0 {
-        return used;
-    }
-    output::put_bytes(out, used, b", ")
-}
-
-// A column's name and type.
-fn put_column(out: &mut [u8], used: usize, reply: &[u8], column: ColumnMetadata) -> usize {
+// A column's name and type, after a comma if it is not the first.
+fn put_column(reply: &[u8], column: ColumnMetadata) {
     let db2_type = column.db2_type;
-    let next = put_comma(out, used, column.number);
-    let next = put_name(out, next, reply, column);
-    let next = output::put_byte(out, next, b' ');
-    output::put_type(out, next, db2_type)
+    if 0 < column.number {
+        output::put_bytes(b", ");
+    }
+    put_name(reply, column);
+    output::put_byte(b' ');
+    output::put_type(db2_type);
 }
 
 // The columns of a reply, in a line.
-fn put_reply(out: &mut [u8], used: usize, reply: &[u8]) -> usize {
+fn put_reply(reply: &[u8]) {
     let blank = column::blank_column();
     let mut columns = [blank; 16];
     let answer = sqldard::parse_sqldard_data(reply, &mut columns);
     let count = answer.count;
-    let mut next = put_head(out, used, answer);
+    put_head(answer);
     let mut i = 0;
     while i < count {
         let column = columns[i];
-        next = put_column(out, next, reply, column);
+        put_column(reply, column);
         i += 1;
     }
-    output::put_byte(out, next, b'\n')
-}
-
-// What a line shows, and the columns.
-fn put_case(out: &mut [u8], used: usize, shown: &[u8], reply: &[u8]) -> usize {
-    let next = output::put_bytes(out, used, shown);
-    let next = output::put_bytes(out, next, b": ");
-    put_reply(out, next, reply)
+    output::put_byte(b'\n');
 }
 
 // The two scores that document 01 gives.
-fn put_scores(out: &mut [u8], used: usize) -> usize {
+fn put_scores() {
     let of_three = scan::exact_score(1, 3, 2);
     let of_four = scan::exact_score(1, 4, 3);
-    let next = output::put_bytes(out, used, b"score of one named, two generated: ");
-    let next = output::put_signed(out, next, of_three as i32);
-    let next = output::put_bytes(out, next, b"\nscore of one named, three generated: ");
-    let next = output::put_signed(out, next, of_four as i32);
-    output::put_byte(out, next, b'\n')
+    output::put_bytes(b"score of one named, two generated: ");
+    output::put_signed(of_three as i32);
+    output::put_bytes(b"\nscore of one named, three generated: ");
+    output::put_signed(of_four as i32);
+    output::put_byte(b'\n');
 }
 
-// What these scores do to replies that only the scan can read.
-fn put_scans(out: &mut [u8], used: usize) -> usize {
-    let mut reply = [0u8; 256];
-    let end = replies::two_generated(&mut reply);
-    let next = put_case(out, used, b"one named, two generated", &reply[0..end]);
-    let end = replies::three_generated(&mut reply);
-    let next = put_case(out, next, b"one named, three generated", &reply[0..end]);
-    let end = replies::generated_first(&mut reply);
-    put_case(out, next, b"three generated, one named", &reply[0..end])
+fn wide(byte: u8) -> usize
+    ensures { λ r. ⌜ r ≤ 255 ⌝ }
+{
+    byte as usize
 }
 
-// Two wrong turns of document 01, about names: a reader that takes one writes another line.
-fn put_names(out: &mut [u8], used: usize) -> usize {
-    let mut reply = [0u8; 256];
-    let end = replies::blanks_in_name(&mut reply);
-    let next = put_case(out, used, b"an ASCII name keeps its blanks", &reply[0..end]);
-    let end = replies::col7_then_door(&mut reply);
-    put_case(out, next, b"COL7 does not count as named", &reply[0..end])
+// What the first case shows, and its columns. The case's length, or that of all that is left where it ends early.
+fn put_case(cases: &[u8]) -> usize
+    ensures { λ r. ⌜ 1 ≤ r ⌝ }
+{
+    let all = cases.len() + 1;
+    if cases.len() == 0 {
+        return all;
+    }
+    let start = wide(cases[0]) + 2;
+    if cases.len() < start {
+        return all;
+    }
+    let end = start + wide(cases[start - 1]);
+    if cases.len() < end {
+        return all;
+    }
+    output::put_bytes(&cases[1..start - 1]);
+    output::put_bytes(b": ");
+    put_reply(&cases[start..end]);
+    end
 }
 
-// Its three wrong turns about readings.
-fn put_readings(out: &mut [u8], used: usize) -> usize {
-    let mut reply = [0u8; 256];
-    let end = replies::last_column_fails(&mut reply);
-    let next = put_case(out, used, b"the last of two columns fails", &reply[0..end]);
-    let end = replies::length_in_le(&mut reply);
-    let next = put_case(out, next, b"a length is never LE", &reply[0..end]);
-    let end = replies::equal_scores(&mut reply);
-    put_case(
-        out,
-        next,
-        b"an equal score replaces nothing",
-        &reply[0..end],
-    )
+fn put_cases(cases: &[u8]) {
+    let mut at = 0;
+    while at < cases.len() {
+        let taken = put_case(&cases[at..]);
+        if cases.len() - at < taken {
+            return;
+        }
+        at += taken;
+    }
 }
 
 fn main() {
-    let mut out = [0u8; 4096];
-    let used = put_scores(&mut out, 0);
-    let used = put_scans(&mut out, used);
-    let used = put_names(&mut out, used);
-    let used = put_readings(&mut out, used);
-    output::close(&mut out, used);
+    let mut cases = [0u8; 4096];
+    let got = io::read_full(STDIN_FILENO, &mut cases);
+    put_scores();
+    put_cases(&cases[0..got]);
 }

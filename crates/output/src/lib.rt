@@ -1,6 +1,5 @@
-// The output of a program. Bytes are gathered in `out`, the first `used` of it; when it is full, it is written and starts again.
-// A position at its end says that the output is closed, for good or because a write failed: then nothing is put any more.
-// `put_byte`, which alone stores a byte, tests the room itself: so nothing has to be known of a position, and the functions have no contract.
+// The output of a program, written as it comes. A buffer would have to be lent to, and its position handed through, every function that
+// prints; that made up more than half of what the prover did for a program. Nothing is stored, so these functions have no contract.
 mod type_names;
 mod words;
 
@@ -15,72 +14,62 @@ ghost use lib.IntN.{natAbs};
 use libc::STDOUT_FILENO;
 use outcome::Refusal;
 
-// Writes all of it. The next position is the start, or the end where the write failed.
-fn written(out: &[u8]) -> usize {
-    if io::write_all(STDOUT_FILENO, out) {
-        return 0;
-    }
-    out.len()
+pub fn put_bytes(bytes: &[u8]) {
+    io::write_all(STDOUT_FILENO, bytes);
 }
 
-// Writes what was gathered, and closes the output.
-pub fn close(out: &mut [u8], used: usize) -> usize {
-    if used < out.len() {
-        io::write_all(STDOUT_FILENO, &out[0..used]);
-    }
-    out.len()
-}
-
-pub fn put_byte(out: &mut [u8], used: usize, byte: u8) -> usize {
-    if used >= out.len() {
-        return used;
-    }
-    out[used] = byte;
-    let next = used + 1;
-    if next < out.len() {
-        return next;
-    }
-    written(out)
-}
-
-pub fn put_bytes(out: &mut [u8], used: usize, bytes: &[u8]) -> usize {
-    let mut next = used;
-    let mut i = 0;
-    while i < bytes.len() {
-        next = put_byte(out, next, bytes[i]);
-        i += 1;
-    }
-    next
+pub fn put_byte(byte: u8) {
+    let bytes = [byte];
+    put_bytes(&bytes);
 }
 
 // A character below 256: as it is in ASCII, as two bytes of UTF-8 above, and `.` if it is a control.
-fn put_character(out: &mut [u8], used: usize, character: u8) -> usize {
-    if (character >= 0x20) & (character <= 0x7E) {
-        return put_byte(out, used, character);
+fn put_character(character: u8) {
+    if is_printable(character) {
+        put_byte(character);
+        return;
     }
     if character < 0xA0 {
-        return put_byte(out, used, b'.');
+        put_byte(b'.');
+        return;
     }
-    let next = put_byte(out, used, 0xC0 + character / 64);
-    put_byte(out, next, 0x80 + character % 64)
+    let bytes = [0xC0 + character / 64, 0x80 + character % 64];
+    put_bytes(&bytes);
 }
 
-// Characters, each of a byte, as status records and texts have them.
-pub fn put_characters(out: &mut [u8], used: usize, characters: &[u8]) -> usize {
-    let mut next = used;
+fn is_printable(character: u8) -> bool {
+    (character >= 0x20) & (character <= 0x7E)
+}
+
+fn are_printable(characters: &[u8]) -> bool {
     let mut i = 0;
     while i < characters.len() {
-        next = put_character(out, next, characters[i]);
+        if !is_printable(characters[i]) {
+            return false;
+        }
         i += 1;
     }
-    next
+    true
 }
 
-pub fn put_number(out: &mut [u8], used: usize, number: u64) -> usize {
+// Characters, each of a byte, as status records and texts have them. A quick path: those of ASCII are written at once.
+pub fn put_characters(characters: &[u8]) {
+    if are_printable(characters) {
+        put_bytes(characters);
+        return;
+    }
+    let mut i = 0;
+    while i < characters.len() {
+        put_character(characters[i]);
+        i += 1;
+    }
+}
+
+pub fn put_number(number: u64) {
     let digits = decimal::digits_of(number);
     let characters = digits.characters;
     let start = digits.start;
-    put_bytes(out, used, &characters[start..])
+    put_bytes(&characters[start..]);
 }
 
 // The absolute value, also of -2147483648, which no number of its type is.
@@ -93,30 +82,27 @@ fn magnitude(number: i32) -> u64
     number as u64
 }
 
-pub fn put_signed(out: &mut [u8], used: usize, number: i32) -> usize {
+pub fn put_signed(number: i32) {
     if number < 0 {
-        let next = put_byte(out, used, b'-');
-        return put_number(out, next, magnitude(number));
+        put_byte(b'-');
     }
-    put_number(out, used, magnitude(number))
+    put_number(magnitude(number));
 }
 
 // A value after a blank.
-pub fn put_value(out: &mut [u8], used: usize, value: u64) -> usize {
-    let next = put_byte(out, used, b' ');
-    put_number(out, next, value)
+pub fn put_value(value: u64) {
+    put_byte(b' ');
+    put_number(value);
 }
 
 // A refusal: `E` and its number, then its values, blank between.
-pub fn put_refusal(out: &mut [u8], used: usize, refusal: Refusal) -> usize {
-    let start = put_byte(out, used, b'E');
-    let number = put_number(out, start, refusal.number as u64);
-    if refusal.count == 0 {
-        return number;
+pub fn put_refusal(refusal: Refusal) {
+    put_byte(b'E');
+    put_number(refusal.number as u64);
+    if 0 < refusal.count {
+        put_value(refusal.first as u64);
     }
-    let first = put_value(out, number, refusal.first as u64);
-    if refusal.count == 1 {
-        return first;
+    if 1 < refusal.count {
+        put_value(refusal.second as u64);
     }
-    put_value(out, first, refusal.second as u64)
 }

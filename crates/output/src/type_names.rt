@@ -63,40 +63,40 @@ pub fn without_blanks(characters: &[u8]) -> usize
 }
 
 // A type with one number: `(4)`.
-fn put_size(out: &mut [u8], used: usize, size: u64) -> usize {
-    let next = crate::put_byte(out, used, b'(');
-    let next = crate::put_number(out, next, size);
-    crate::put_byte(out, next, b')')
+fn put_size(size: u64) {
+    crate::put_byte(b'(');
+    crate::put_number(size);
+    crate::put_byte(b')');
 }
 
-fn put_precision(out: &mut [u8], used: usize, precision: u8, scale: u8) -> usize {
-    let next = crate::put_bytes(out, used, b"{precision:");
-    let next = crate::put_number(out, next, precision as u64);
-    let next = crate::put_bytes(out, next, b",scale:");
-    let next = crate::put_number(out, next, scale as u64);
-    crate::put_byte(out, next, b'}')
+fn put_precision(precision: u8, scale: u8) {
+    crate::put_bytes(b"{precision:");
+    crate::put_number(precision as u64);
+    crate::put_bytes(b",scale:");
+    crate::put_number(scale as u64);
+    crate::put_byte(b'}');
 }
 
 // What a type says besides its name.
-fn put_values(out: &mut [u8], used: usize, db2_type: Db2Type) -> usize {
+fn put_values(db2_type: Db2Type) {
     match db2_type {
-        Db2Type::Decimal { precision, scale } => put_precision(out, used, precision, scale),
-        Db2Type::DecFloat(digits) => put_size(out, used, digits as u64),
-        Db2Type::Char(n) => put_size(out, used, n as u64),
-        Db2Type::VarChar(n) => put_size(out, used, n as u64),
-        Db2Type::Binary(n) => put_size(out, used, n as u64),
-        Db2Type::VarBinary(n) => put_size(out, used, n as u64),
-        Db2Type::Graphic(n) => put_size(out, used, n as u64),
-        Db2Type::VarGraphic(n) => put_size(out, used, n as u64),
-        Db2Type::RowId(n) => put_size(out, used, n as u64),
-        _ => used,
+        Db2Type::Decimal { precision, scale } => put_precision(precision, scale),
+        Db2Type::DecFloat(digits) => put_size(digits as u64),
+        Db2Type::Char(n) => put_size(n as u64),
+        Db2Type::VarChar(n) => put_size(n as u64),
+        Db2Type::Binary(n) => put_size(n as u64),
+        Db2Type::VarBinary(n) => put_size(n as u64),
+        Db2Type::Graphic(n) => put_size(n as u64),
+        Db2Type::VarGraphic(n) => put_size(n as u64),
+        Db2Type::RowId(n) => put_size(n as u64),
+        _ => {}
     }
 }
 
 // A type in the Rust's Debug form without blanks: `Char(4)`, `Decimal{precision:5,scale:2}`.
-pub fn put_type(out: &mut [u8], used: usize, db2_type: Db2Type) -> usize {
+pub fn put_type(db2_type: Db2Type) {
     let letters = type_letters(db2_type);
     let count = without_blanks(&letters);
-    let next = crate::put_bytes(out, used, &letters[0..count]);
-    put_values(out, next, db2_type)
+    crate::put_bytes(&letters[0..count]);
+    put_values(db2_type);
 }

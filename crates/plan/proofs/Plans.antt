@@ -113,13 +113,18 @@ counts-none : (page : Page) (s : List ℕ) → Counts page s noRun
 unfolding chain
 counts-none page s = record { count-is = refl; named-is = refl }
 
+-- apart, so that the 512 steps of a run's walk stay folded below
+none-found : (page : Page) (order : ByteOrder) (s : List ℕ) (j : ℕ) → [] ≡ chain (standardWalk page order s) 0 0 j
+unfolding chain
+none-found page order s j = refl
+
 counts-run : (page : Page) (order : ByteOrder) (s : List ℕ) (j : ℕ) → Counts page s (runFrom page order s j)
-unfolding runFrom standardRun chain
+unfolding runFrom standardRun
 counts-run page order s j = go (chain (standardWalk page order s) 512 0 j) refl
   where
     go : (l : List ColumnMetadata) → chain (standardWalk page order s) 512 0 j ≡ l
         → Counts page s (record { start = j; order = order; count = length l; named = namedIn page s l })
-    go [] e = record { count-is = refl; named-is = refl }
+    go [] e = record { count-is = ap length (none-found page order s j); named-is = ap (namedIn page s) (none-found page order s j) }
     go (x ∷ xs) e =
         let h : leb 1 (length (x ∷ xs)) ≡ true = le-leb 1 (length (x ∷ xs)) (omega arith) in
         record {

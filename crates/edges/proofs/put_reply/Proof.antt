@@ -1,23 +1,21 @@
--- The answer's count is at most the list's length, and each column that is put leaves the length of `out` as it was.
+-- The answer's count is at most the list's length.
 mod Lts
 mod Tie
-use mathlib.Core.Path.{_≡_}
 use Prim.Native.Nat.{_≤_, _-_}
 use native.Mathlib.Omega.{arith}
-use lib.ListN.{length}
 use borrow.Author.Needs.{needs}
 use Rattle.sqldard.proofs.Deciding.{no-more}
 use Rattle.edges.proofs.put_reply.Statement.{statement}
 use Rattle.edges.proofs.put_reply.Proof.Tie as tie
 
 abbrev Inv-loop : tie.InvT-loop
-Inv-loop out₀ used reply columns count next₀ i₀ out next i = (length out ≡ length out₀) × (count ≤ 16)
+Inv-loop reply columns count i₀ i = count ≤ 16
 
 abbrev μ-loop : tie.MeasureT-loop
-μ-loop out₀ used reply columns count next₀ i₀ out next i = count - i
+μ-loop reply columns count i₀ i = count - i
 
 loop-holds : tie.Need-loop-holds Inv-loop μ-loop
-loop-holds c = (search needs, omega (arith, no-more _ _ _ _ (c .before .before .before .before .before .parse-sqldard-data .ensures .1 .1 .0)))
+loop-holds c = omega (arith, no-more _ _ _ _ (c .before .before .parse-sqldard-data .ensures .1 .1 .0))
 
 pub put-reply-spec : {M : Type 1} → statement M
 put-reply-spec =
@@ -30,7 +28,6 @@ put-reply-spec =
     (search needs)
     (search needs)
     loop-holds
-    (search needs)
     (search needs)
     (search needs)
     (search needs)

@@ -19,12 +19,12 @@ of-four = record { sfits = omega arith }
 
 cast-put-signed : tie.Need-cast-put-signed
 cast-put-signed c =
-    let x = c .before .before .before .before .before .before .before .exact-score in
+    let x = c .before .before .before .exact-score in
     subst (SFits w32) (sym (back64 _ (x .ok) ∙ x .ensures)) of-three
 
 cast-put-signed-2 : tie.Need-cast-put-signed-2
 cast-put-signed-2 c =
-    let x = c .before .before .before .before .before .before .before .before .before .before .before .before .before .before .before .exact-score2 in
+    let x = c .before .before .before .before .before .exact-score2 in
     subst (SFits w32) (sym (back64 _ (x .ok) ∙ x .ensures)) of-four
 
 pub put-scores-spec : {M : Type 1} → statement M
@@ -40,7 +40,6 @@ put-scores-spec =
     (search needs)
     (search needs)
     cast-put-signed-2
-    (search needs)
     (search needs)
     (search needs)
     (search needs))

@@ -1,16 +1,15 @@
--- Each number that is put leaves the length of `out` as it was.
-use mathlib.Core.Path.{_≡_}
-use Prim.Native.Nat.{_-_}
+-- The place goes up to the end.
+use Prim.Native.Nat.{_≤_, _-_}
 use lib.ListN.{length}
 use borrow.Author.Needs.{needs}
 use Rattle.answers.proofs.cards.put_errors.Statement.{statement}
 use Rattle.answers.proofs.cards.put_errors.Tie as tie
 
 abbrev Inv-loop : tie.InvT-loop
-Inv-loop out₀ used errors next₀ i₀ mark₀ out next i mark = length out ≡ length out₀
+Inv-loop errors i₀ mark₀ i mark = i ≤ length errors
 
 abbrev μ-loop : tie.MeasureT-loop
-μ-loop out₀ used errors next₀ i₀ mark₀ out next i mark = length errors - i
+μ-loop errors i₀ mark₀ i mark = length errors - i
 
 pub put-errors-spec : {M : Type 1} → statement M
 put-errors-spec =
@@ -18,7 +17,6 @@ put-errors-spec =
     (tie.spec
     Inv-loop
     μ-loop
-    (search needs)
     (search needs)
     (search needs)
     (search needs)

@@ -1,4 +1,4 @@
--- Each text that is put leaves the lengths as they were.
+-- Each name leaves the length of `room` as it was.
 use mathlib.Core.Path.{_≡_}
 use Prim.Native.Nat.{_-_}
 use lib.ListN.{length}
@@ -7,13 +7,10 @@ use Rattle.answers.proofs.name_list.put_all.Statement.{statement}
 use Rattle.answers.proofs.name_list.put_all.Tie as tie
 
 abbrev Inv-loop : tie.InvT-loop
-Inv-loop out₀ used entry reply words count room₀ next₀ i₀ out room next i = (length out ≡ length out₀) × (length room ≡ length room₀)
+Inv-loop entry reply words count room₀ i₀ room i = length room ≡ length room₀
 
 abbrev μ-loop : tie.MeasureT-loop
-μ-loop out₀ used entry reply words count room₀ next₀ i₀ out room next i = count - i
-
-loop-again : tie.Need-loop-again Inv-loop μ-loop
-loop-again c = search needs
+μ-loop entry reply words count room₀ i₀ room i = count - i
 
 pub put-all-spec : {M : Type 1} → statement M
 put-all-spec =
@@ -26,7 +23,6 @@ put-all-spec =
     (search needs)
     (search needs)
     (search needs)
-    loop-again
     (search needs)
     (search needs)
     (search needs))

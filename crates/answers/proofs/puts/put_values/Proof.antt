@@ -1,19 +1,14 @@
--- Each value that is put leaves the length of `out` as it was.
-use mathlib.Core.Path.{_≡_}
-use Prim.Native.Nat.{_-_}
-use lib.ListN.{length}
+-- Six values.
+use Prim.Native.Nat.{_≤_, _-_}
 use borrow.Author.Needs.{needs}
 use Rattle.answers.proofs.puts.put_values.Statement.{statement}
 use Rattle.answers.proofs.puts.put_values.Tie as tie
 
 abbrev Inv-loop : tie.InvT-loop
-Inv-loop out₀ used values next₀ i₀ out next i = length out ≡ length out₀
+Inv-loop values i₀ i = i ≤ 6
 
 abbrev μ-loop : tie.MeasureT-loop
-μ-loop out₀ used values next₀ i₀ out next i = 6 - i
-
-loop-again : tie.Need-loop-again Inv-loop μ-loop
-loop-again c = search needs
+μ-loop values i₀ i = 6 - i
 
 pub put-values-spec : {M : Type 1} → statement M
 put-values-spec =
@@ -27,6 +22,5 @@ put-values-spec =
     (search needs)
     (search needs)
     (search needs)
-    loop-again
     (search needs)
     (search needs))

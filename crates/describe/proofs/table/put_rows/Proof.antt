@@ -1,4 +1,4 @@
--- Each row that is put leaves the lengths as they were.
+-- Each row leaves the length of `room` as it was.
 use mathlib.Core.Path.{_≡_}
 use Prim.Native.Nat.{_-_}
 use lib.ListN.{length}
@@ -7,13 +7,10 @@ use Rattle.describe.proofs.table.put_rows.Statement.{statement}
 use Rattle.describe.proofs.table.put_rows.Tie as tie
 
 abbrev Inv-loop : tie.InvT-loop
-Inv-loop out₀ used reply words count widths room₀ next₀ i₀ out room next i = (length out ≡ length out₀) × (length room ≡ length room₀)
+Inv-loop reply words count widths room₀ i₀ room i = length room ≡ length room₀
 
 abbrev μ-loop : tie.MeasureT-loop
-μ-loop out₀ used reply words count widths room₀ next₀ i₀ out room next i = count - i
-
-loop-again : tie.Need-loop-again Inv-loop μ-loop
-loop-again c = search needs
+μ-loop reply words count widths room₀ i₀ room i = count - i
 
 pub put-rows-spec : {M : Type 1} → statement M
 put-rows-spec =
@@ -25,7 +22,6 @@ put-rows-spec =
     (search needs)
     (search needs)
     (search needs)
-    loop-again
     (search needs)
     (search needs)
     (search needs))

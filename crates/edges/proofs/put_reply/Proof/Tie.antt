@@ -33,9 +33,6 @@ MeasureT-loop = Lts.MeasureT-loop
 abbrev pub Start : (Inv : InvT-loop) → (μ : MeasureT-loop) → Type 0
 Start = λ Inv μ. Lts.Start (Reads.Asked, Reads.Learnt, Reads'5.Asked, Reads'5.Learnt, Reads''.Asked, Reads''.Learnt, Reads'.Asked, Reads'.Learnt, Reads'4.Asked, Reads'4.Learnt) Reads'3.Pre Reads'3.Post Inv μ
 
-abbrev pub After-slice-known : (Inv : InvT-loop) → (μ : MeasureT-loop) → Type 0
-After-slice-known = λ Inv μ. Lts.After-slice-known (Reads.Asked, Reads.Learnt, Reads'5.Asked, Reads'5.Learnt, Reads''.Asked, Reads''.Learnt, Reads'.Asked, Reads'.Learnt, Reads'4.Asked, Reads'4.Learnt) Reads'3.Pre Reads'3.Post Inv μ
-
 abbrev pub After-shared-slice-known : (Inv : InvT-loop) → (μ : MeasureT-loop) → Type 0
 After-shared-slice-known = λ Inv μ. Lts.After-shared-slice-known (Reads.Asked, Reads.Learnt, Reads'5.Asked, Reads'5.Learnt, Reads''.Asked, Reads''.Learnt, Reads'.Asked, Reads'.Learnt, Reads'4.Asked, Reads'4.Learnt) Reads'3.Pre Reads'3.Post Inv μ
 
@@ -51,17 +48,8 @@ After-parse-sqldard-data = λ Inv μ. Lts.After-parse-sqldard-data (Reads.Asked,
 abbrev pub After-columns2 : (Inv : InvT-loop) → (μ : MeasureT-loop) → Type 0
 After-columns2 = λ Inv μ. Lts.After-columns2 (Reads.Asked, Reads.Learnt, Reads'5.Asked, Reads'5.Learnt, Reads''.Asked, Reads''.Learnt, Reads'.Asked, Reads'.Learnt, Reads'4.Asked, Reads'4.Learnt) Reads'3.Pre Reads'3.Post Inv μ
 
-abbrev pub After-put-head-arg : (Inv : InvT-loop) → (μ : MeasureT-loop) → Type 0
-After-put-head-arg = λ Inv μ. Lts.After-put-head-arg (Reads.Asked, Reads.Learnt, Reads'5.Asked, Reads'5.Learnt, Reads''.Asked, Reads''.Learnt, Reads'.Asked, Reads'.Learnt, Reads'4.Asked, Reads'4.Learnt) Reads'3.Pre Reads'3.Post Inv μ
-
 abbrev pub After-put-head : (Inv : InvT-loop) → (μ : MeasureT-loop) → Type 0
 After-put-head = λ Inv μ. Lts.After-put-head (Reads.Asked, Reads.Learnt, Reads'5.Asked, Reads'5.Learnt, Reads''.Asked, Reads''.Learnt, Reads'.Asked, Reads'.Learnt, Reads'4.Asked, Reads'4.Learnt) Reads'3.Pre Reads'3.Post Inv μ
-
-abbrev pub After-out : (Inv : InvT-loop) → (μ : MeasureT-loop) → Type 0
-After-out = λ Inv μ. Lts.After-out (Reads.Asked, Reads.Learnt, Reads'5.Asked, Reads'5.Learnt, Reads''.Asked, Reads''.Learnt, Reads'.Asked, Reads'.Learnt, Reads'4.Asked, Reads'4.Learnt) Reads'3.Pre Reads'3.Post Inv μ
-
-abbrev pub After-slice-known2 : (Inv : InvT-loop) → (μ : MeasureT-loop) → Type 0
-After-slice-known2 = λ Inv μ. Lts.After-slice-known2 (Reads.Asked, Reads.Learnt, Reads'5.Asked, Reads'5.Learnt, Reads''.Asked, Reads''.Learnt, Reads'.Asked, Reads'.Learnt, Reads'4.Asked, Reads'4.Learnt) Reads'3.Pre Reads'3.Post Inv μ
 
 abbrev pub At-loop : (Inv : InvT-loop) → (μ : MeasureT-loop) → Type 0
 At-loop = λ Inv μ. Lts.At-loop (Reads.Asked, Reads.Learnt, Reads'5.Asked, Reads'5.Learnt, Reads''.Asked, Reads''.Learnt, Reads'.Asked, Reads'.Learnt, Reads'4.Asked, Reads'4.Learnt) Reads'3.Pre Reads'3.Post Inv μ
@@ -75,29 +63,11 @@ After-loop = λ Inv μ. Lts.After-loop (Reads.Asked, Reads.Learnt, Reads'5.Asked
 abbrev pub After-column : (Inv : InvT-loop) → (μ : MeasureT-loop) → Type 0
 After-column = λ Inv μ. Lts.After-column (Reads.Asked, Reads.Learnt, Reads'5.Asked, Reads'5.Learnt, Reads''.Asked, Reads''.Learnt, Reads'.Asked, Reads'.Learnt, Reads'4.Asked, Reads'4.Learnt) Reads'3.Pre Reads'3.Post Inv μ
 
-abbrev pub After-put-column-arg : (Inv : InvT-loop) → (μ : MeasureT-loop) → Type 0
-After-put-column-arg = λ Inv μ. Lts.After-put-column-arg (Reads.Asked, Reads.Learnt, Reads'5.Asked, Reads'5.Learnt, Reads''.Asked, Reads''.Learnt, Reads'.Asked, Reads'.Learnt, Reads'4.Asked, Reads'4.Learnt) Reads'3.Pre Reads'3.Post Inv μ
-
 abbrev pub After-put-column : (Inv : InvT-loop) → (μ : MeasureT-loop) → Type 0
 After-put-column = λ Inv μ. Lts.After-put-column (Reads.Asked, Reads.Learnt, Reads'5.Asked, Reads'5.Learnt, Reads''.Asked, Reads''.Learnt, Reads'.Asked, Reads'.Learnt, Reads'4.Asked, Reads'4.Learnt) Reads'3.Pre Reads'3.Post Inv μ
 
-abbrev pub After-out2 : (Inv : InvT-loop) → (μ : MeasureT-loop) → Type 0
-After-out2 = λ Inv μ. Lts.After-out2 (Reads.Asked, Reads.Learnt, Reads'5.Asked, Reads'5.Learnt, Reads''.Asked, Reads''.Learnt, Reads'.Asked, Reads'.Learnt, Reads'4.Asked, Reads'4.Learnt) Reads'3.Pre Reads'3.Post Inv μ
-
-abbrev pub After-slice-known3 : (Inv : InvT-loop) → (μ : MeasureT-loop) → Type 0
-After-slice-known3 = λ Inv μ. Lts.After-slice-known3 (Reads.Asked, Reads.Learnt, Reads'5.Asked, Reads'5.Learnt, Reads''.Asked, Reads''.Learnt, Reads'.Asked, Reads'.Learnt, Reads'4.Asked, Reads'4.Learnt) Reads'3.Pre Reads'3.Post Inv μ
-
-abbrev pub After-put-byte-arg : (Inv : InvT-loop) → (μ : MeasureT-loop) → Type 0
-After-put-byte-arg = λ Inv μ. Lts.After-put-byte-arg (Reads.Asked, Reads.Learnt, Reads'5.Asked, Reads'5.Learnt, Reads''.Asked, Reads''.Learnt, Reads'.Asked, Reads'.Learnt, Reads'4.Asked, Reads'4.Learnt) Reads'3.Pre Reads'3.Post Inv μ
-
 abbrev pub After-put-byte : (Inv : InvT-loop) → (μ : MeasureT-loop) → Type 0
 After-put-byte = λ Inv μ. Lts.After-put-byte (Reads.Asked, Reads.Learnt, Reads'5.Asked, Reads'5.Learnt, Reads''.Asked, Reads''.Learnt, Reads'.Asked, Reads'.Learnt, Reads'4.Asked, Reads'4.Learnt) Reads'3.Pre Reads'3.Post Inv μ
-
-abbrev pub After-out3 : (Inv : InvT-loop) → (μ : MeasureT-loop) → Type 0
-After-out3 = λ Inv μ. Lts.After-out3 (Reads.Asked, Reads.Learnt, Reads'5.Asked, Reads'5.Learnt, Reads''.Asked, Reads''.Learnt, Reads'.Asked, Reads'.Learnt, Reads'4.Asked, Reads'4.Learnt) Reads'3.Pre Reads'3.Post Inv μ
-
-abbrev pub After-slice-known4 : (Inv : InvT-loop) → (μ : MeasureT-loop) → Type 0
-After-slice-known4 = λ Inv μ. Lts.After-slice-known4 (Reads.Asked, Reads.Learnt, Reads'5.Asked, Reads'5.Learnt, Reads''.Asked, Reads''.Learnt, Reads'.Asked, Reads'.Learnt, Reads'4.Asked, Reads'4.Learnt) Reads'3.Pre Reads'3.Post Inv μ
 
 abbrev pub Need-blank-column-requires : (Inv : InvT-loop) → (μ : MeasureT-loop) → Type 0
 Need-blank-column-requires = λ Inv μ. Lts.Need-blank-column-requires (Reads.Asked, Reads.Learnt, Reads'5.Asked, Reads'5.Learnt, Reads''.Asked, Reads''.Learnt, Reads'.Asked, Reads'.Learnt, Reads'4.Asked, Reads'4.Learnt) Reads'3.Pre Reads'3.Post Inv μ
@@ -135,16 +105,13 @@ Need-loop-again = λ Inv μ. Lts.Need-loop-again (Reads.Asked, Reads.Learnt, Rea
 abbrev pub Need-put-byte-requires : (Inv : InvT-loop) → (μ : MeasureT-loop) → Type 0
 Need-put-byte-requires = λ Inv μ. Lts.Need-put-byte-requires (Reads.Asked, Reads.Learnt, Reads'5.Asked, Reads'5.Learnt, Reads''.Asked, Reads''.Learnt, Reads'.Asked, Reads'.Learnt, Reads'4.Asked, Reads'4.Learnt) Reads'3.Pre Reads'3.Post Inv μ
 
-abbrev pub Need-same-length : (Inv : InvT-loop) → (μ : MeasureT-loop) → Type 0
-Need-same-length = λ Inv μ. Lts.Need-same-length (Reads.Asked, Reads.Learnt, Reads'5.Asked, Reads'5.Learnt, Reads''.Asked, Reads''.Learnt, Reads'.Asked, Reads'.Learnt, Reads'4.Asked, Reads'4.Learnt) Reads'3.Pre Reads'3.Post Inv μ
-
 abbrev pub Need-returns : (Inv : InvT-loop) → (μ : MeasureT-loop) → Type 0
 Need-returns = λ Inv μ. Lts.Need-returns (Reads.Asked, Reads.Learnt, Reads'5.Asked, Reads'5.Learnt, Reads''.Asked, Reads''.Learnt, Reads'.Asked, Reads'.Learnt, Reads'4.Asked, Reads'4.Learnt) Reads'3.Pre Reads'3.Post Inv μ
 
 module _ {M : Type 1} where
-  pub spec : (Inv : InvT-loop) → (μ : MeasureT-loop) → (answer : Need-blank-column-requires Inv μ) → (answer : Need-slice-aggregate-parse-sqldard-data Inv μ) → (answer : Need-parse-sqldard-data-requires Inv μ) → (answer : Need-put-head-requires Inv μ) → (answer : Need-loop-holds Inv μ) → (answer : Need-mul-column Inv μ) → (answer : Need-array-copy-out-column Inv μ) → (answer : Need-put-column-requires Inv μ) → (answer : Need-add-i Inv μ) → (answer : Need-loop-less Inv μ) → (answer : Need-loop-again Inv μ) → (answer : Need-put-byte-requires Inv μ) → (answer : Need-same-length Inv μ) → (answer : Need-returns Inv μ) → Lts.Closed (Reads.Asked, Reads.Learnt, Reads'5.Asked, Reads'5.Learnt, Reads''.Asked, Reads''.Learnt, Reads'.Asked, Reads'.Learnt, Reads'4.Asked, Reads'4.Learnt) Reads'3.Pre Reads'3.Post M
-  spec = λ Inv μ answer answer' answer'' answer'3 answer'4 answer'5 answer'6 answer'7 answer'8 answer'9 answer'10 answer'11 answer'12 answer'13. Lts.spec (Reads.Asked, Reads.Learnt, Reads'5.Asked, Reads'5.Learnt, Reads''.Asked, Reads''.Learnt, Reads'.Asked, Reads'.Learnt, Reads'4.Asked, Reads'4.Learnt) Reads'3.Pre Reads'3.Post Inv μ answer answer' answer'' answer'3 answer'4 answer'5 answer'6 answer'7 answer'8 answer'9 answer'10 answer'11 answer'12 answer'13
+  pub spec : (Inv : InvT-loop) → (μ : MeasureT-loop) → (answer : Need-blank-column-requires Inv μ) → (answer : Need-slice-aggregate-parse-sqldard-data Inv μ) → (answer : Need-parse-sqldard-data-requires Inv μ) → (answer : Need-put-head-requires Inv μ) → (answer : Need-loop-holds Inv μ) → (answer : Need-mul-column Inv μ) → (answer : Need-array-copy-out-column Inv μ) → (answer : Need-put-column-requires Inv μ) → (answer : Need-add-i Inv μ) → (answer : Need-loop-less Inv μ) → (answer : Need-loop-again Inv μ) → (answer : Need-put-byte-requires Inv μ) → (answer : Need-returns Inv μ) → Lts.Closed (Reads.Asked, Reads.Learnt, Reads'5.Asked, Reads'5.Learnt, Reads''.Asked, Reads''.Learnt, Reads'.Asked, Reads'.Learnt, Reads'4.Asked, Reads'4.Learnt) Reads'3.Pre Reads'3.Post M
+  spec = λ Inv μ answer answer' answer'' answer'3 answer'4 answer'5 answer'6 answer'7 answer'8 answer'9 answer'10 answer'11 answer'12. Lts.spec (Reads.Asked, Reads.Learnt, Reads'5.Asked, Reads'5.Learnt, Reads''.Asked, Reads''.Learnt, Reads'.Asked, Reads'.Learnt, Reads'4.Asked, Reads'4.Learnt) Reads'3.Pre Reads'3.Post Inv μ answer answer' answer'' answer'3 answer'4 answer'5 answer'6 answer'7 answer'8 answer'9 answer'10 answer'11 answer'12
 
   pub close : Lts.Closed (Reads.Asked, Reads.Learnt, Reads'5.Asked, Reads'5.Learnt, Reads''.Asked, Reads''.Learnt, Reads'.Asked, Reads'.Learnt, Reads'4.Asked, Reads'4.Learnt) Reads'3.Pre Reads'3.Post M → Statement.statement M
   unfolding Code.routine Running.tablesOf
-  close = λ closed 𝓤 H 𝓜 𝓖 𝓡. Written.close 2 Kinds.ps Kinds.r Reads'3.Ghost Reads'3.requires Reads'3.ensures Reads'3.pre-read Reads'3.Pinned Reads'3.Owned Reads'3.post-read record { M = M; 𝓤 = 𝓤; H = H; 𝓜 = 𝓜; 𝓖 = 𝓖; 𝓡 = 𝓡 } Code.env Key.name Code.function (Code.unfolded 𝓤 H 𝓜 𝓡) (λ κs a g. tt) (λ κs. Reads'3.owns κs record { M = M; 𝓤 = 𝓤; H = H; 𝓜 = 𝓜; 𝓖 = 𝓖; 𝓡 = 𝓡 }) (Reads'3.passes record { M = M; 𝓤 = 𝓤; H = H; 𝓜 = 𝓜; 𝓖 = 𝓖; 𝓡 = 𝓡 }) λ g. closed 𝓤 H (𝓖 .A) (Running.givenOf 𝓤 H 𝓜 𝓖) (Run.Over 𝓤 H 𝓜 𝓖 𝓡 Code.env) (Reads.known record { M = M; 𝓤 = 𝓤; H = H; 𝓜 = 𝓜; 𝓖 = 𝓖; 𝓡 = 𝓡 } Code.env Symbol.name Symbol.routine Code.calls-column·blank-column (Met.met 𝓤 H 𝓜 𝓖 𝓡)) (Reads'5.known record { M = M; 𝓤 = 𝓤; H = H; 𝓜 = 𝓜; 𝓖 = 𝓖; 𝓡 = 𝓡 } Code.env Symbol'4.name Symbol'4.routine Code.calls-sqldard·parse-sqldard-data (Met'4.met 𝓤 H 𝓜 𝓖 𝓡)) (Reads''.known record { M = M; 𝓤 = 𝓤; H = H; 𝓜 = 𝓜; 𝓖 = 𝓖; 𝓡 = 𝓡 } Code.env Symbol''.name Symbol''.routine Code.calls-edges·put-head (Met''.met 𝓤 H 𝓜 𝓖 𝓡)) (Reads'.known record { M = M; 𝓤 = 𝓤; H = H; 𝓜 = 𝓜; 𝓖 = 𝓖; 𝓡 = 𝓡 } Code.env Symbol'.name Symbol'.routine Code.calls-edges·put-column (Met'.met 𝓤 H 𝓜 𝓖 𝓡)) (Reads'4.known record { M = M; 𝓤 = 𝓤; H = H; 𝓜 = 𝓜; 𝓖 = 𝓖; 𝓡 = 𝓡 } Code.env Symbol'3.name Symbol'3.routine Code.calls-output·put-byte (Met'3.met 𝓤 H 𝓜 𝓖 𝓡))
+  close = λ closed 𝓤 H 𝓜 𝓖 𝓡. Written.close 1 Kinds.ps Kinds.r Reads'3.Ghost Reads'3.requires Reads'3.ensures Reads'3.pre-read Reads'3.Pinned Reads'3.Owned Reads'3.post-read record { M = M; 𝓤 = 𝓤; H = H; 𝓜 = 𝓜; 𝓖 = 𝓖; 𝓡 = 𝓡 } Code.env Key.name Code.function (Code.unfolded 𝓤 H 𝓜 𝓡) (λ κs a g. tt) (λ κs. Reads'3.owns κs record { M = M; 𝓤 = 𝓤; H = H; 𝓜 = 𝓜; 𝓖 = 𝓖; 𝓡 = 𝓡 }) (Reads'3.passes record { M = M; 𝓤 = 𝓤; H = H; 𝓜 = 𝓜; 𝓖 = 𝓖; 𝓡 = 𝓡 }) λ g. closed 𝓤 H (𝓖 .A) (Running.givenOf 𝓤 H 𝓜 𝓖) (Run.Over 𝓤 H 𝓜 𝓖 𝓡 Code.env) (Reads.known record { M = M; 𝓤 = 𝓤; H = H; 𝓜 = 𝓜; 𝓖 = 𝓖; 𝓡 = 𝓡 } Code.env Symbol.name Symbol.routine Code.calls-column·blank-column (Met.met 𝓤 H 𝓜 𝓖 𝓡)) (Reads'5.known record { M = M; 𝓤 = 𝓤; H = H; 𝓜 = 𝓜; 𝓖 = 𝓖; 𝓡 = 𝓡 } Code.env Symbol'4.name Symbol'4.routine Code.calls-sqldard·parse-sqldard-data (Met'4.met 𝓤 H 𝓜 𝓖 𝓡)) (Reads''.known record { M = M; 𝓤 = 𝓤; H = H; 𝓜 = 𝓜; 𝓖 = 𝓖; 𝓡 = 𝓡 } Code.env Symbol''.name Symbol''.routine Code.calls-edges·put-head (Met''.met 𝓤 H 𝓜 𝓖 𝓡)) (Reads'.known record { M = M; 𝓤 = 𝓤; H = H; 𝓜 = 𝓜; 𝓖 = 𝓖; 𝓡 = 𝓡 } Code.env Symbol'.name Symbol'.routine Code.calls-edges·put-column (Met'.met 𝓤 H 𝓜 𝓖 𝓡)) (Reads'4.known record { M = M; 𝓤 = 𝓤; H = H; 𝓜 = 𝓜; 𝓖 = 𝓖; 𝓡 = 𝓡 } Code.env Symbol'3.name Symbol'3.routine Code.calls-output·put-byte (Met'3.met 𝓤 H 𝓜 𝓖 𝓡))
