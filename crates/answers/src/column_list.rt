@@ -1,4 +1,5 @@
-// Columns as lines have them: ` C NUMBER NAME TYPE CODE LENGTH NULLABLE PRECISION SCALE CCSID ORDER BASE SCHEMA LABEL`, or the places of their texts.
+// Columns as lines have them: ` C NUMBER NAME TYPE CODE LENGTH NULLABLE PRECISION SCALE CCSID ORDER BASE SCHEMA LABEL`,
+// or the places of their texts.
 use crate::lent;
 use crate::puts;
 use field::ByteOrder;

@@ -91,7 +91,8 @@ fn write_text(reply: &[u8], text: Text, number: u16, room: &mut [u8]) -> usize {
     }
 }
 
-// A blank and a text's characters in hex, `?` where it is not in the reply. `number` is its column's, for a generated name; `room` is for the text.
+// A blank and a text's characters in hex, `?` where it is not in the reply. `number` is
+// its column's, for a generated name; `room` is for the text.
 pub(crate) fn put_text(reply: &[u8], text: Text, number: u16, room: &mut [u8]) {
     output::put_byte(b' ');
     let count = write_text(reply, text, number, room);

@@ -1,4 +1,5 @@
-// Records in a payload, 50 bytes each, as docs/ANSWERS.md lays them out: their 22 fields are the 22 words of a column that no reply needs to hold.
+// Records in a payload, 50 bytes each, as docs/ANSWERS.md lays them out: their 22 fields are the 22 words of a column
+// that no reply needs to hold.
 use field::ByteOrder;
 
 // Where each field starts, and how many bytes it has.
