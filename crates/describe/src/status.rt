@@ -32,7 +32,7 @@ fn put_updated(rows: usize) {
 
 // The message's text, written to `room` first: it is at most as long as the reply.
 fn put_message(reply: &[u8], place: usize, length: usize, room: &mut [u8]) {
-    let count = message::message_text(reply, place, length, room).length;
+    let count = message_text::message_text(reply, place, length, room).length;
     if count == 0 {
         return;
     }

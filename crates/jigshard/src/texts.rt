@@ -4,7 +4,7 @@ ghost use lib.ListN.{take, drop};
 ghost use Rattle.codepage.specs.Page.{page037};
 ghost use Rattle.outcome.specs.Refusal.{inNumbers};
 ghost use Rattle.text.specs.Text.{textIs};
-ghost use Rattle.message.specs.Answer.{messageRefusal, messageLength, messageWritten};
+ghost use Rattle.message_text.specs.Answer.{messageRefusal, messageLength, messageWritten};
 ghost use Rattle.column_name.specs.Part.{partRefusal, partOf};
 ghost use Rattle.column_name.specs.Name.{nameRefusal, nameLength, nameWritten};
 ghost use Rattle.jigshard.specs.Named.{namedColumn};
@@ -88,7 +88,7 @@ pub extern "C" fn jigshard_message_text(
     ensures counts { λ r. ⌜ r .count ≡ messageLength page037 (now (reply .entry)) place length (lib.ListN.length (now (buffer .entry))) ⌝ }
     ensures leaves { λ _. ⌜ now (buffer .exit) ≡ messageWritten page037 (now (reply .entry)) place length (now (buffer .entry)) ⌝ }
 {
-    let message = message::message_text(reply, place, length, buffer);
+    let message = message_text::message_text(reply, place, length, buffer);
     let outcome = message.outcome;
     CountResult {
         refusal: outcome::refusal_of(outcome),

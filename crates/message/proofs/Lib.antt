@@ -3,5 +3,3 @@ pub mod Squeezed
 pub mod Blocks
 pub mod Words
 pub mod Text
-pub mod Answer
-pub mod Cases

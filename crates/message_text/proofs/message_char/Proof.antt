@@ -5,9 +5,9 @@ use borrow.Author.Needs.{needs}
 use Rattle.codepage.specs.Page.{table037}
 use Rattle.codepage.proofs.Rearranged.{long}
 use Rattle.codepage.proofs.Pages.{rearranged-037}
 use Rattle.message.specs.Message.{messageChar}
-use Rattle.message.proofs.message_char.Statement.{statement}
-use Rattle.message.proofs.message_char.Tie as tie
+use Rattle.message_text.proofs.message_char.Statement.{statement}
+use Rattle.message_text.proofs.message_char.Tie as tie
 
 returns : tie.Need-returns
 unfolding messageChar

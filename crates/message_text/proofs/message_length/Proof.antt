@@ -5,12 +5,12 @@ use native.Mathlib.Omega.{arith}
 use lib.ListN.{length, getD}
 use borrow.Author.Needs.{needs}
 use Rattle.codepage.specs.Page.{page037}
 use Rattle.message.specs.Message.{messageChar}
 use Rattle.message.specs.Squeezed.{after}
 use Rattle.message.proofs.Squeezed.{Reached, added-by, reached-none, reached-more, reached-room, reached-all}
 use Rattle.message.proofs.Text.{text-in-short}
-use Rattle.message.proofs.message_length.Statement.{statement}
-use Rattle.message.proofs.message_length.Tie as tie
+use Rattle.message_text.proofs.message_length.Statement.{statement}
+use Rattle.message_text.proofs.message_length.Tie as tie
 
 abbrev Inv-loop : tie.InvT-loop
 Inv-loop bytes ascii end₀ behind₀ i₀ end behind i = Reached (messageChar page037 ascii) bytes end behind i

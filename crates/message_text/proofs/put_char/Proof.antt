@@ -3,10 +3,10 @@ use mathlib.Core.Path.{sym, ap, _∙_}
 use native.Mathlib.Omega.{arith}
 use lib.ListN.{length, length-set}
 use borrow.Author.Needs.{needs}
 use Rattle.message.specs.Squeezed.{added}
 use Rattle.message.proofs.Squeezed.{added-none, added-two, added-one, put-none, put-one, put-two}
-use Rattle.message.proofs.put_char.Statement.{statement}
-use Rattle.message.proofs.put_char.Tie as tie
+use Rattle.message_text.proofs.put_char.Statement.{statement}
+use Rattle.message_text.proofs.put_char.Tie as tie
 
 returns : tie.Need-returns
 returns c =

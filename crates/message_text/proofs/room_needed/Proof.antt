@@ -2,9 +2,9 @@
 use native.Mathlib.Omega.{arith}
 use borrow.Author.Needs.{needs}
 use Rattle.codepage.specs.Page.{page037}
 use Rattle.message.proofs.Text.{text-in-short}
-use Rattle.message.proofs.room_needed.Statement.{statement}
-use Rattle.message.proofs.room_needed.Tie as tie
+use Rattle.message_text.proofs.room_needed.Statement.{statement}
+use Rattle.message_text.proofs.room_needed.Tie as tie
 
 returns : tie.Need-returns
 returns c =

@@ -5,9 +5,9 @@ use mathlib.Core.List.{List, [], _∷_}
 use Prim.Native.Nat.{ℕ}
 use lib.ListN.{length}
 use Rattle.codepage.specs.Page.{page037, table037}
 use Rattle.message.specs.Message.{isAsciiMessage, messageChar, messageText, hasText}
 use Rattle.message.specs.Squeezed.{added}
-use Rattle.message.specs.Answer.{messageRefusal, messageLength, messageWritten}
+use Rattle.message_text.specs.Answer.{messageRefusal, messageLength, messageWritten}
 
 -- 00 and FF are blanks: A B
 pub case-ascii : messageText page037 (0x00 ∷ 0x20 ∷ 0x41 ∷ 0xFF ∷ 0xFF ∷ 0x42 ∷ 0x20 ∷ []) ≡ 0x41 ∷ 0x20 ∷ 0x42 ∷ []

@@ -5,11 +5,11 @@ use mathlib.Core.Path.{ap, _∙_}
 use lib.ListN.{length}
 use borrow.Author.Needs.{needs}
 use Rattle.codepage.specs.Page.{page037}
 use Rattle.message.specs.Squeezed.{after}
 use Rattle.message.specs.Message.{messageChar}
 use Rattle.message.proofs.Squeezed.{Written, written-none, written-room, written-more, written-length, written-all}
-use Rattle.message.proofs.write_message.Statement.{statement}
-use Rattle.message.proofs.write_message.Tie as tie
+use Rattle.message_text.proofs.write_message.Statement.{statement}
+use Rattle.message_text.proofs.write_message.Tie as tie
 
 abbrev Inv-loop : tie.InvT-loop
 Inv-loop bytes ascii buffer₀ table at₀ behind₀ i₀ buffer at behind i = Written (messageChar page037 ascii) bytes buffer₀ buffer at behind i

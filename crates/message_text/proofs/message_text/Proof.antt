@@ -4,9 +4,9 @@ use native.Mathlib.Omega.{arith}
 use borrow.Author.Needs.{needs}
 use Rattle.codepage.specs.Page.{page037}
 use Rattle.outcome.specs.declared.Outcome.the-variants.{Accepted}
-use Rattle.message.proofs.Answer.{answer-long, answer-outside, answer-room, answer-text, lent-text}
-use Rattle.message.proofs.message_text.Statement.{statement}
-use Rattle.message.proofs.message_text.Tie as tie
+use Rattle.message_text.proofs.Answer.{answer-long, answer-outside, answer-room, answer-text, lent-text}
+use Rattle.message_text.proofs.message_text.Statement.{statement}
+use Rattle.message_text.proofs.message_text.Tie as tie
 
 returns : tie.Need-returns
 returns c =

@@ -11,10 +11,10 @@ use Rattle.codepage.specs.Page.{Page}
 use Rattle.outcome.specs.Refusal.{refusalOf, isRefused}
 use Rattle.outcome.specs.declared.Outcome.{Outcome}
 use Rattle.outcome.specs.declared.Outcome.the-variants.{Accepted, ReplyTooLong, RoomTooShort, OutsideReply}
 use Rattle.message.specs.Message.{isAsciiMessage, textIn, messageText}
 use Rattle.search.specs.Search.{over}
-use Rattle.message.specs.Answer.{textAt, messageRefusal, messageLength, messageWritten}
-use Rattle.message.specs.declared.MessageText.{MessageText}
+use Rattle.message_text.specs.Answer.{textAt, messageRefusal, messageLength, messageWritten}
+use Rattle.message_text.specs.declared.MessageText.{MessageText}
 
 -- the text of bytes s[p .. p + n], as the code lends them, by what the code found of their alphabet
 pub lent-text : (page : Page) (s : List ℕ) (p n : ℕ) (ascii : Bool) → ascii ≡ isAsciiMessage (take (p + n - p) (drop p s))
