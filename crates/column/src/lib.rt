@@ -44,7 +44,7 @@ pub fn is_named(reply: &[u8], name: StringRead) -> bool
     if name.length == 0 {
         return false;
     }
-    !text::is_generated_at(reply, name.place, name.length)
+    !generated::is_generated_at(reply, name.place, name.length)
 }
 
 // 1 for such a name, else 0: runs of descriptors count with it.

@@ -18,7 +18,7 @@ use Rattle.text.specs.Generated.{isGenerated}
 use Rattle.text.proofs.Decode.{lent}
 use Rattle.text.proofs.Generated.{SpellsColAsIn037, charOf-other, each-map}
 use Rattle.text.proofs.Bytes.{blank-same}
-use Rattle.text.proofs.Quick.{ascii-chars, page-chars}
+use Rattle.generated.proofs.Quick.{ascii-chars, page-chars}
 use Rattle.text.proofs.Trim.{kept-le}
 use Rattle.identifier.specs.Identifier.{isIdentifier, isIdentifierAt}
 use Rattle.identifier.proofs.Trims.{trimmed-map, trimmed-twice}

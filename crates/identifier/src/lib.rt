@@ -23,7 +23,7 @@ fn is_identifier_in(bytes: &[u8], alphabet: u8) -> bool
     if !text::all_name_chars(bytes, alphabet) {
         return false;
     }
-    !text::is_generated(bytes, alphabet)
+    !generated::is_generated(bytes, alphabet)
 }
 
 // Of characters that stand for themselves.

@@ -2,4 +2,3 @@ pub mod Trim
 pub mod Decode
 pub mod Generated
 pub mod Bytes
-pub mod Quick

@@ -4,9 +4,9 @@ use native.Mathlib.Omega.{arith}
 use borrow.Author.Needs.{needs}
 use borrow.Author.Tests.{not-true, not-false}
 use Rattle.codepage.specs.Page.{page037}
 use Rattle.text.proofs.Generated.{generated-short, generated-other, generated-digits}
-use Rattle.text.proofs.is_generated.Statement.{statement}
-use Rattle.text.proofs.is_generated.Tie as tie
+use Rattle.generated.proofs.is_generated.Statement.{statement}
+use Rattle.generated.proofs.is_generated.Tie as tie
 
 returns : tie.Need-returns
 returns c =

@@ -3,11 +3,11 @@ use native.Mathlib.Omega.{arith}
 use borrow.Author.Needs.{needs}
 use Rattle.codepage.specs.Page.{page037}
 use Rattle.codepage.proofs.Pages.{rearranged-037, blanks-037}
 use Rattle.text.proofs.Generated.{spells-037}
 use Rattle.text.proofs.Bytes.{leading-same, kept-same}
-use Rattle.text.proofs.Quick.{leading-inside, trimmed-short, trimmed-other, trimmed-bounds, trimmed-text}
-use Rattle.text.proofs.is_generated_trimmed.Statement.{statement}
-use Rattle.text.proofs.is_generated_trimmed.Tie as tie
+use Rattle.generated.proofs.Quick.{leading-inside, trimmed-short, trimmed-other, trimmed-bounds, trimmed-text}
+use Rattle.generated.proofs.is_generated_trimmed.Statement.{statement}
+use Rattle.generated.proofs.is_generated_trimmed.Tie as tie
 
 sub-if1 : tie.Need-sub-if1
 sub-if1 c =

@@ -2,9 +2,9 @@
 use native.Mathlib.Omega.{arith}
 use borrow.Author.Needs.{needs}
 use Rattle.codepage.specs.Page.{page037}
 use Rattle.text.proofs.Generated.{spells-037, col-page, col-other}
-use Rattle.text.proofs.starts_col.Statement.{statement}
-use Rattle.text.proofs.starts_col.Tie as tie
+use Rattle.generated.proofs.starts_col.Statement.{statement}
+use Rattle.generated.proofs.starts_col.Tie as tie
 
 returns : tie.Need-returns
 returns c =

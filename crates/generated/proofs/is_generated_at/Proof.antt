@@ -3,10 +3,10 @@ use borrow.Author.Needs.{needs}
 use native.Mathlib.Omega.{arith}
 use Rattle.codepage.specs.Page.{page037}
 use Rattle.codepage.proofs.Pages.{rearranged-037, blanks-037}
 use Rattle.text.proofs.Generated.{spells-037}
-use Rattle.text.proofs.Quick.{generated-at}
-use Rattle.text.proofs.is_generated_at.Statement.{statement}
-use Rattle.text.proofs.is_generated_at.Tie as tie
+use Rattle.generated.proofs.Quick.{generated-at}
+use Rattle.generated.proofs.is_generated_at.Statement.{statement}
+use Rattle.generated.proofs.is_generated_at.Tie as tie
 
 returns : tie.Need-returns
 returns c =

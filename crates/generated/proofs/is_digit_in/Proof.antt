@@ -1,9 +1,9 @@
 -- A digit by page 037's test, or as it stands.
 use borrow.Author.Needs.{needs}
 use Rattle.codepage.specs.Page.{page037}
 use Rattle.text.proofs.Generated.{spells-037, digit-page, digit-other}
-use Rattle.text.proofs.is_digit_in.Statement.{statement}
-use Rattle.text.proofs.is_digit_in.Tie as tie
+use Rattle.generated.proofs.is_digit_in.Statement.{statement}
+use Rattle.generated.proofs.is_digit_in.Tie as tie
 
 returns : tie.Need-returns
 returns c = digit-page page037 spells-037 (c .before .args .alphabet) (c .if1 .taken) (c .before .args .byte) (search needs)

@@ -8,9 +8,9 @@ use borrow.Author.Tests.{not-true, not-false}
 use Rattle.search.specs.Search.{each}
 use Rattle.search.proofs.Each.{each-more, each-fails, each-done}
 use Rattle.codepage.specs.Page.{page037}
 use Rattle.text.specs.Chars.{isDigitOf}
-use Rattle.text.proofs.all_digits.Statement.{statement}
-use Rattle.text.proofs.all_digits.Tie as tie
+use Rattle.generated.proofs.all_digits.Statement.{statement}
+use Rattle.generated.proofs.all_digits.Tie as tie
 
 abbrev Inv-loop : tie.InvT-loop
 Inv-loop bytes alphabet i₀ i = (i ≤ length bytes) × (each (isDigitOf page037 alphabet) bytes ≡ each (isDigitOf page037 alphabet) (drop i bytes))
