@@ -3,7 +3,7 @@ use Rattle.search.specs.Walks.{firstOf, first, keep, bestOf, best, chain}
 use Rattle.codepage.specs.Page.{table037}
 use Rattle.codepage.specs.Blank.{isBlankIn}
 use Rattle.field.specs.Numbers.{number, signed}
-use Rattle.field.specs.Strings.{stringEnd, stringsEnd, stringAt, chosen, pairAt}
+use Rattle.strings.specs.Strings.{stringEnd, stringsEnd, stringAt, chosen, pairAt}
 use Rattle.text.specs.Chars.{isAscii, charOf}
 use Rattle.text.specs.Text.{placed, leading, kept, textOn}
 use Rattle.text.specs.Generated.{isGenerated, isGeneratedText}

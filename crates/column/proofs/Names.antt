@@ -6,7 +6,7 @@ use Prim.Native.Nat.{ℕ, _<_}
 use lib.ListN.{take, drop}
 use borrow.Author.Tests.{eq-eqb, ne-eqb}
 use Rattle.codepage.specs.Page.{Page}
-use Rattle.field.specs.declared.StringRead.{StringRead}
+use Rattle.strings.specs.declared.StringRead.{StringRead}
 use Rattle.text.specs.Text.{textOf}
 use Rattle.text.specs.Generated.{isGenerated, textChars, isGeneratedText}
 use Rattle.text.proofs.Decode.{alphabet-some}

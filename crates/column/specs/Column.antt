@@ -6,7 +6,7 @@ use lib.Dec.{eqb, leb}
 use Rattle.search.specs.Search.{pick, count}
 use Rattle.codepage.specs.Page.{Page}
 use Rattle.field.specs.declared.ByteOrder.the-variants.{BigEndian}
-use Rattle.field.specs.declared.StringRead.{StringRead}
+use Rattle.strings.specs.declared.StringRead.{StringRead}
 use Rattle.text.specs.declared.Text.{Text}
 use Rattle.text.specs.Text.{textIs, emptyText, textOf}
 use Rattle.text.specs.Generated.{isGeneratedText}

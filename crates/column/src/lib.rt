@@ -1,6 +1,6 @@
 // A column as its descriptor gives it, in numbers, and the record that these numbers stand for.
 use field::ByteOrder;
-use field::StringRead;
+use strings::StringRead;
 use text::Text;
 use types::ColumnMetadata;
 use types::Db2Type;

@@ -10,7 +10,7 @@ use borrow.Author.Tests.{eq-eqb, ne-eqb, lt-ltb, le-ltb, le-leb, lt-leb, ltb-tru
 use Rattle.search.specs.Search.{pick, each}
 use Rattle.search.specs.Walks.{first}
 use Rattle.search.proofs.Index.{first-done}
-use Rattle.field.specs.Strings.{noString}
+use Rattle.strings.specs.Strings.{noString}
 use Rattle.text.specs.Chars.{isNameChar}
 use Rattle.compact_table.specs.Table.{isFF, ffAt, nextHere, nextCompact}
 use Rattle.compact_table.proofs.Skips.{skip-to}

@@ -9,8 +9,8 @@ use lib.ListN.{length, getD, take, drop}
 use borrow.Author.Tests.{ltb-true, leb-true}
 use Rattle.search.specs.Search.{pick, each}
 use Rattle.search.proofs.Index.{Found, first-is}
-use Rattle.field.specs.declared.StringRead.{StringRead}
-use Rattle.field.specs.Strings.{noString}
+use Rattle.strings.specs.declared.StringRead.{StringRead}
+use Rattle.strings.specs.Strings.{noString}
 use Rattle.text.specs.Chars.{isNameChar}
 use Rattle.compact.specs.Compact.{nameHere, nameAt, compactName}
 

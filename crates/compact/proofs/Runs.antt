@@ -9,7 +9,7 @@ use Rattle.search.specs.Search.{pick, count}
 use Rattle.search.specs.Walks.{chain}
 use Rattle.search.proofs.Walks.{Walking, walking-more, walking-stop, walking-done}
 use Rattle.codepage.specs.Page.{Page}
-use Rattle.field.specs.declared.StringRead.{StringRead}
+use Rattle.strings.specs.declared.StringRead.{StringRead}
 use Rattle.text.specs.Generated.{isGeneratedText}
 use Rattle.column.specs.Column.{nameText, columnWith, isNamed}
 use Rattle.compact.specs.declared.Ends.{Ends}

@@ -11,9 +11,9 @@ use Rattle.search.specs.Walks.{first, Walk, chain}
 use Rattle.codepage.specs.Page.{Page}
 use Rattle.text.specs.Chars.{isNameChar}
 use Rattle.field.specs.declared.ByteOrder.the-variants.{BigEndian, LittleEndian}
-use Rattle.field.specs.declared.StringRead.{StringRead}
+use Rattle.strings.specs.declared.StringRead.{StringRead}
 use Rattle.field.specs.Numbers.{number}
-use Rattle.field.specs.Strings.{noString}
+use Rattle.strings.specs.Strings.{noString}
 use Rattle.types.specs.declared.ColumnMetadata.{ColumnMetadata}
 use Rattle.column.specs.declared.Described.{Described}
 use Rattle.column.specs.declared.Run.{Run}

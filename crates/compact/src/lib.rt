@@ -12,7 +12,7 @@ ghost use Rattle.compact.specs.Compact.{ccsidOf, nameHere, isOther, stop
 use column::Described;
 use column::Run;
 use field::ByteOrder;
-use field::StringRead;
+use strings::StringRead;
 
 // Where a descriptor ends: before the next compact one, or past FF FF FF as for the last reader.
 pub enum Ends {
@@ -146,7 +146,7 @@ fn extract_column_name(reply: &[u8], offset: usize, end: usize) -> StringRead
         stop = test.stop;
         i += 1;
     }
-    field::no_string(end)
+    strings::no_string(end)
 }
 
 // The descriptor from `offset` to `end`. Its strings lie in the reply, as those who decode them ask.
@@ -161,7 +161,7 @@ pub fn read_compact(reply: &[u8], offset: usize, end: usize) -> Described
     let scale = field::u16_at(reply, offset + 2, ByteOrder::LittleEndian);
     let ccsid = decode_ccsid(reply, offset + 14);
     let name = extract_column_name(reply, offset, end);
-    let none = field::no_string(0);
+    let none = strings::no_string(0);
     Described {
         sql_type,
         raw_length,

@@ -11,8 +11,8 @@ use borrow.Author.Tests.{ltb-false}
 use Rattle.search.specs.Search.{pick}
 use Rattle.field.specs.declared.ByteOrder.{ByteOrder}
 use Rattle.field.specs.Numbers.{number}
-use Rattle.field.specs.Strings.{stringsEnd}
-use Rattle.field.proofs.Windows.{stringsEnd-grows}
+use Rattle.strings.specs.Strings.{stringsEnd}
+use Rattle.strings.proofs.Windows.{stringsEnd-grows}
 use Rattle.types.specs.Types.{isKnown}
 use Rattle.descriptor.specs.Nullable.{Flags, lenient, strict, missing, nullableEnd}
 use Rattle.descriptor.specs.Descriptor.{udtEnd, dxEnd, dxStart, optEnd, descriptorEnd}

@@ -4,9 +4,9 @@ use mathlib.Core.Path.{_≡_, refl, sym, ap, _∙_}
 use Prim.Native.Nat.{ℕ, _+_, _≤_, _<_}
 use native.Mathlib.Omega.{arith}
 use lib.ListN.{length, getD}
-use Rattle.field.specs.declared.StringRead.{StringRead}
-use Rattle.field.specs.Strings.{stringsEnd, noString, chosen, pairAt}
-use Rattle.field.proofs.Strings.{pair-next, pair-inside, chosen-inside}
+use Rattle.strings.specs.declared.StringRead.{StringRead}
+use Rattle.strings.specs.Strings.{stringsEnd, noString, chosen, pairAt}
+use Rattle.strings.proofs.Strings.{pair-next, pair-inside, chosen-inside}
 use Rattle.descriptor.specs.declared.Sqldxgrp.{Sqldxgrp}
 use Rattle.descriptor.specs.declared.Names.{Names}
 use Rattle.descriptor.specs.declared.Sqldoptgrp.{Sqldoptgrp}

@@ -12,11 +12,11 @@ use Rattle.search.specs.Search.{pick}
 use Rattle.codepage.specs.Page.{Page}
 use Rattle.field.specs.declared.ByteOrder.{ByteOrder}
 use Rattle.field.specs.declared.ByteOrder.the-variants.{BigEndian}
-use Rattle.field.specs.declared.StringRead.{StringRead}
+use Rattle.strings.specs.declared.StringRead.{StringRead}
 use Rattle.field.specs.Numbers.{number}
-use Rattle.field.specs.Strings.{stringEnd, stringsEnd, stringAt, noString, pairAt}
-use Rattle.field.proofs.Strings.{end-inside}
-use Rattle.field.proofs.Windows.{Same, stringEnd-grows, stringsEnd-grows, stringsEnd-within}
+use Rattle.strings.specs.Strings.{stringEnd, stringsEnd, stringAt, noString, pairAt}
+use Rattle.strings.proofs.Strings.{end-inside}
+use Rattle.strings.proofs.Windows.{Same, stringEnd-grows, stringsEnd-grows, stringsEnd-within}
 use Rattle.column.specs.Moved.{columnBytes, LiesAll}
 use Rattle.column.proofs.Lies.{StringLies, string-wider, string-none, string-chosen, StringsLie, all-wider, column-lies, column-bytes}
 use Rattle.descriptor.specs.Nullable.{Flags, lenient, nullableEnd, inNullable}

@@ -8,10 +8,10 @@ use native.Mathlib.Omega.{arith}
 use lib.ListN.{length, getD}
 use Rattle.codepage.specs.Page.{Page}
 use Rattle.field.specs.declared.ByteOrder.{ByteOrder}
-use Rattle.field.specs.declared.StringRead.{StringRead}
+use Rattle.strings.specs.declared.StringRead.{StringRead}
 use Rattle.field.specs.Numbers.{number}
-use Rattle.field.specs.Strings.{stringsEnd, noString, pairAt}
-use Rattle.field.proofs.Windows.{Same, Window, same-plus, stringsEnd-grows, stringsEnd-within, stringsEnd-local, pairAt-same, number-same}
+use Rattle.strings.specs.Strings.{stringsEnd, noString, pairAt}
+use Rattle.strings.proofs.Windows.{Same, Window, same-plus, stringsEnd-grows, stringsEnd-within, stringsEnd-local, pairAt-same, number-same}
 use Rattle.types.specs.Types.{isKnown, sqldaType}
 use Rattle.column.specs.Column.{columnWith}
 use Rattle.column.specs.Moved.{moveColumn}

@@ -5,11 +5,11 @@ use Prim.Native.Nat.{ℕ, zero, suc, _+_, _-_, _≤_, _<_}
 use native.Mathlib.Omega.{arith}
 use lib.ListN.{length}
 use Rattle.field.specs.declared.ByteOrder.the-variants.{BigEndian}
-use Rattle.field.specs.declared.StringRead.{StringRead}
+use Rattle.strings.specs.declared.StringRead.{StringRead}
 use Rattle.field.specs.Numbers.{number}
-use Rattle.field.specs.Strings.{stringEnd, stringsEnd, stringAt, chosen, pairAt}
-use Rattle.field.proofs.Strings.{chosen-first, chosen-second, pair-is}
-use Rattle.field.proofs.Empty.{emptyAt, empty-end, empty-string}
+use Rattle.strings.specs.Strings.{stringEnd, stringsEnd, stringAt, chosen, pairAt}
+use Rattle.strings.proofs.Strings.{chosen-first, chosen-second, pair-is}
+use Rattle.strings.proofs.Empty.{emptyAt, empty-end, empty-string}
 use Rattle.descriptor.specs.declared.Label.{Label}
 use Rattle.descriptor.specs.declared.Names.{Names}
 use Rattle.descriptor.specs.Groups.{AllEmpty, LabelAt, NamesAt}

@@ -10,7 +10,7 @@ use borrow.Author.Tests.{lt-ltb, le-ltb, lt-leb, le-leb}
 use Rattle.search.specs.Search.{pick}
 use Rattle.field.specs.declared.ByteOrder.{ByteOrder}
 use Rattle.field.specs.Numbers.{number}
-use Rattle.field.specs.Strings.{noString}
+use Rattle.strings.specs.Strings.{noString}
 use Rattle.types.specs.Types.{isKnown}
 use Rattle.column.specs.declared.Described.{Described}
 use Rattle.column.specs.Column.{StringsInside}

@@ -8,9 +8,9 @@ use lib.ListN.{length}
 use Rattle.search.specs.Search.{pick}
 use Rattle.codepage.specs.Page.{Page}
 use Rattle.field.specs.declared.ByteOrder.{ByteOrder}
-use Rattle.field.specs.declared.StringRead.{StringRead}
+use Rattle.strings.specs.declared.StringRead.{StringRead}
 use Rattle.field.specs.Numbers.{number}
-use Rattle.field.specs.Strings.{stringsEnd, noString, chosen, pairAt}
+use Rattle.strings.specs.Strings.{stringsEnd, noString, chosen, pairAt}
 use Rattle.types.specs.declared.ColumnMetadata.{ColumnMetadata}
 use Rattle.types.specs.Types.{isKnown}
 use Rattle.column.specs.declared.Described.{Described}

@@ -8,7 +8,7 @@ use Rattle.search.specs.Search.{pick}
 use Rattle.field.specs.declared.ByteOrder.{ByteOrder}
 use Rattle.field.specs.declared.ByteOrder.the-variants.{BigEndian}
 use Rattle.field.specs.Numbers.{number}
-use Rattle.field.specs.Strings.{stringsEnd, noString, pairAt}
+use Rattle.strings.specs.Strings.{stringsEnd, noString, pairAt}
 use Rattle.descriptor.specs.declared.Sqldagrp.{Sqldagrp}
 use Rattle.descriptor.specs.declared.Sqldxgrp.{Sqldxgrp}
 use Rattle.descriptor.specs.declared.Label.{Label}

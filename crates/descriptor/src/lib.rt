@@ -10,7 +10,7 @@ ghost use Rattle.descriptor.specs.Descriptor.{udtEnd, descriptorEnd, des
 ghost use Rattle.descriptor.specs.Groups.{sqldagrpAt, noSqldxgrp, sqldxgrpAt, noSqldoptgrp, sqldoptgrpAt, noStep, sqldxgrpStepAt, sqldoptgrpStepAt, stepAt, AllEmpty, LabelAt, NamesAt};
 use column::Described;
 use field::ByteOrder;
-use field::StringRead;
+use strings::StringRead;
 
 // Past SQLUDTGRP: nothing of it is kept.
 pub fn skip_sqludtgrp(reply: &[u8], offset: usize) -> usize
@@ -23,7 +23,7 @@ pub fn skip_sqludtgrp(reply: &[u8], offset: usize) -> usize
     if reply[offset] == 0xFF {
         return start;
     }
-    field::skip_strings(reply, start + 4, 5)
+    strings::skip_strings(reply, start + 4, 5)
 }
 
 // The names in SQLDXGRP, the extension.
@@ -37,7 +37,7 @@ pub struct Sqldxgrp {
 fn no_sqldxgrp(next: usize) -> Sqldxgrp
     ensures { λ r. ⌜ r ≡ noSqldxgrp next ⌝ }
 {
-    let none = field::no_string(0);
+    let none = strings::no_string(0);
     Sqldxgrp {
         base_table_name: none,
         schema_name: none,
@@ -56,10 +56,10 @@ pub fn read_sqldxgrp(reply: &[u8], offset: usize) -> Sqldxgrp
     if reply[offset] == 0xFF {
         return no_sqldxgrp(start);
     }
-    let names = field::skip_strings(reply, start + 8, 3);
-    let base_table_name = field::read_pair(reply, names);
-    let schema_name = field::read_pair(reply, base_table_name.next);
-    let name = field::read_pair(reply, schema_name.next);
+    let names = strings::skip_strings(reply, start + 8, 3);
+    let base_table_name = strings::read_pair(reply, names);
+    let schema_name = strings::read_pair(reply, base_table_name.next);
+    let name = strings::read_pair(reply, schema_name.next);
     Sqldxgrp {
         base_table_name,
         schema_name,
@@ -80,7 +80,7 @@ pub struct Sqldoptgrp {
 fn no_sqldoptgrp(next: usize) -> Sqldoptgrp
     ensures { λ r. ⌜ r ≡ noSqldoptgrp next ⌝ }
 {
-    let none = field::no_string(0);
+    let none = strings::no_string(0);
     Sqldoptgrp {
         name: none,
         label: none,
@@ -133,7 +133,7 @@ pub struct Label {
 fn read_label(reply: &[u8], offset: usize) -> Label
     ensures { λ r. ⌜ LabelAt (now (reply .entry)) offset r ⌝ }
 {
-    let m = field::read_string(reply, offset);
+    let m = strings::read_string(reply, offset);
     if is_alone(reply, m, 3) {
         let label = StringRead {
             place: m.place,
@@ -145,10 +145,10 @@ fn read_label(reply: &[u8], offset: usize) -> Label
             next: m.next + 6,
         };
     }
-    let label = field::choose(m, field::read_string(reply, m.next));
+    let label = strings::choose(m, strings::read_string(reply, m.next));
     Label {
         label,
-        next: field::skip_strings(reply, label.next, 2),
+        next: strings::skip_strings(reply, label.next, 2),
     }
 }
 
@@ -163,7 +163,7 @@ pub struct Names {
 fn read_names(reply: &[u8], offset: usize) -> Names
     ensures { λ r. ⌜ NamesAt (now (reply .entry)) offset r ⌝ }
 {
-    let m = field::read_string(reply, offset);
+    let m = strings::read_string(reply, offset);
     if is_alone(reply, m, 5) {
         let end = m.next;
         let name = StringRead {
@@ -182,7 +182,7 @@ fn read_names(reply: &[u8], offset: usize) -> Names
             next: end + 10,
         };
     }
-    let name = field::choose(m, field::read_string(reply, m.next));
+    let name = strings::choose(m, strings::read_string(reply, m.next));
     let read = read_label(reply, name.next);
     let label = read.label;
     Names {
@@ -209,7 +209,7 @@ fn read_sqldoptgrp(reply: &[u8], offset: usize) -> Sqldoptgrp
     let base_table_name = extension.base_table_name;
     let schema_name = extension.schema_name;
     // The extension's name counts last.
-    let chosen_name = field::choose(name, extension.name);
+    let chosen_name = strings::choose(name, extension.name);
     Sqldoptgrp {
         name: chosen_name,
         label,
@@ -228,7 +228,7 @@ pub struct Step {
 fn no_step(next: usize) -> Step
     ensures { λ r. ⌜ r ≡ noStep next ⌝ }
 {
-    let name = field::no_string(0);
+    let name = strings::no_string(0);
     Step { name, next }
 }
 
@@ -243,7 +243,7 @@ pub fn sqldxgrp_step(reply: &[u8], offset: usize) -> Step
     if reply[offset] == 0xFF {
         return no_step(start);
     }
-    let name = field::read_pair(reply, field::skip_strings(reply, start + 8, 7));
+    let name = strings::read_pair(reply, strings::skip_strings(reply, start + 8, 7));
     Step {
         name,
         next: name.next,
@@ -265,7 +265,7 @@ fn sqldoptgrp_step(reply: &[u8], offset: usize) -> Step
     let name = names.name;
     let extension = sqldxgrp_step(reply, skip_sqludtgrp(reply, names.next));
     Step {
-        name: field::choose(name, extension.name),
+        name: strings::choose(name, extension.name),
         next: extension.next,
     }
 }

@@ -10,7 +10,7 @@ use Rattle.text.specs.Chars.{isAscii, charOf}
 use Rattle.text.specs.Text.{textIs, placed, leading, kept, textOn}
 use Rattle.text.specs.Generated.{isGenerated}
 use Rattle.field.specs.Numbers.{number}
-use Rattle.field.specs.Strings.{stringEnd, stringsEnd, stringAt, chosen, pairAt}
+use Rattle.strings.specs.Strings.{stringEnd, stringsEnd, stringAt, chosen, pairAt}
 use Rattle.column.specs.Column.{stringText}
 use Rattle.descriptor.specs.Nullable.{nullableEnd, inNullable}
 use Rattle.descriptor.specs.Descriptor.{udtEnd, dxEnd, dxStart, optEnd, dxPair}

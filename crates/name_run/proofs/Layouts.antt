@@ -10,12 +10,12 @@ use borrow.Author.Tests.{lt-ltb, le-ltb, ltb-true, le-leb, lt-leb, leb-true, eq-
 use Rattle.search.specs.Search.{pick, firstIn}
 use Rattle.search.proofs.Alternatives.{each-none, each-more, firstIn-all}
 use Rattle.codepage.specs.Page.{Page}
-use Rattle.field.specs.declared.StringRead.{StringRead}
+use Rattle.strings.specs.declared.StringRead.{StringRead}
 use Rattle.field.specs.declared.ByteOrder.the-variants.{BigEndian}
 use Rattle.field.specs.Numbers.{number}
-use Rattle.field.specs.Strings.{stringEnd, stringsEnd, noString, stringAt}
-use Rattle.field.proofs.Strings.{end-known, string-next, string-inside}
-use Rattle.field.proofs.Windows.{stringsEnd-grows}
+use Rattle.strings.specs.Strings.{stringEnd, stringsEnd, noString, stringAt}
+use Rattle.strings.proofs.Strings.{end-known, string-next, string-inside}
+use Rattle.strings.proofs.Windows.{stringsEnd-grows}
 use Rattle.text.specs.declared.Text.{Text}
 use Rattle.text.specs.Text.{textOf}
 use Rattle.column.specs.Column.{stringText}

@@ -6,8 +6,8 @@ use lib.Dec.{ltb, leb, eqb}
 use lib.ListN.{length, getD}
 use Rattle.search.specs.Search.{pick, firstIn}
 use Rattle.codepage.specs.Page.{Page}
-use Rattle.field.specs.declared.StringRead.{StringRead}
-use Rattle.field.specs.Strings.{stringEnd, noString, stringAt}
+use Rattle.strings.specs.declared.StringRead.{StringRead}
+use Rattle.strings.specs.Strings.{stringEnd, noString, stringAt}
 use Rattle.identifier.specs.Identifier.{isIdentifierAt}
 use Rattle.descriptor.specs.Nullable.{lenient}
 use Rattle.descriptor.specs.Descriptor.{dxStart, optEnd, dxPair}

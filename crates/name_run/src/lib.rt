@@ -7,12 +7,12 @@ ghost use lib.ListN.{length};
 ghost use Rattle.search.specs.Search.{firstIn};
 ghost use Rattle.search.specs.Walks.{keep};
 ghost use Rattle.codepage.specs.Page.{page037};
-ghost use Rattle.field.specs.Strings.{noString};
+ghost use Rattle.strings.specs.Strings.{noString};
 ghost use Rattle.column.specs.Column.{stringText};
 ghost use Rattle.name_run.specs.Layout.{isNameString, nameIn, isNamedLayout, layoutEnd, noName, scannedNameAt};
 ghost use Rattle.name_run.specs.Run.{nameRunFrom, longer, longestNameRun};
 use field::ByteOrder;
-use field::StringRead;
+use strings::StringRead;
 use text::Text;
 
 // The name in a layout, no bytes where it has none, and what is past it.
@@ -24,7 +24,7 @@ pub struct ScannedName {
 fn no_name() -> ScannedName
     ensures { λ r. ⌜ r ≡ noName ⌝ }
 {
-    let name = field::no_string(0);
+    let name = strings::no_string(0);
     ScannedName { name, next: 0 }
 }
 
@@ -50,7 +50,7 @@ fn first_name(reply: &[u8], m: StringRead, s: StringRead, extension: StringRead)
     if is_name_string(reply, extension) {
         return extension;
     }
-    field::no_string(0)
+    strings::no_string(0)
 }
 
 // The scan asks at every byte of a reply: names are tested only where the whole layout can be read.
@@ -65,9 +65,9 @@ pub fn scan_descriptor_name(reply: &[u8], offset: usize) -> ScannedName
     if reply[offset + 16] == 0xFF {
         return no_name();
     }
-    let m = field::read_string(reply, offset + 19);
-    let s = field::read_string(reply, m.next);
-    let comments_end = field::skip_strings(reply, s.next, 4);
+    let m = strings::read_string(reply, offset + 19);
+    let s = strings::read_string(reply, m.next);
+    let comments_end = strings::skip_strings(reply, s.next, 4);
     let extension = descriptor::read_sqldxgrp(
         reply,
         descriptor::skip_sqludtgrp(reply, comments_end),

@@ -6,7 +6,7 @@ use Rattle.search.specs.Walks.{keep, bestOf, best, chain}
 use Rattle.codepage.specs.Page.{page037, table037}
 use Rattle.codepage.specs.Blank.{isBlankIn}
 use Rattle.field.specs.Numbers.{number}
-use Rattle.field.specs.Strings.{stringEnd, stringsEnd, stringAt, chosen, pairAt}
+use Rattle.strings.specs.Strings.{stringEnd, stringsEnd, stringAt, chosen, pairAt}
 use Rattle.text.specs.Chars.{isAscii, charOf}
 use Rattle.text.specs.Text.{textIs, leading, kept, placed, textOn}
 use Rattle.text.specs.Generated.{isGenerated}

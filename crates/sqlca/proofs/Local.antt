@@ -12,10 +12,10 @@ use Rattle.codepage.specs.Page.{Page}
 use Rattle.text.specs.Chars.{isAscii}
 use Rattle.field.specs.declared.ByteOrder.{ByteOrder}
 use Rattle.field.specs.declared.ByteOrder.the-variants.{BigEndian, LittleEndian}
-use Rattle.field.specs.declared.StringRead.{StringRead}
+use Rattle.strings.specs.declared.StringRead.{StringRead}
 use Rattle.field.specs.Numbers.{number, signed}
-use Rattle.field.specs.Strings.{stringEnd, stringsEnd, stringAt, noString}
-use Rattle.field.proofs.Windows.{Window, same-here, number-same, part-same, stringsEnd-local, stringAt-same, string-still, stringEnd-grows}
+use Rattle.strings.specs.Strings.{stringEnd, stringsEnd, stringAt, noString}
+use Rattle.strings.proofs.Windows.{Window, same-here, number-same, part-same, stringsEnd-local, stringAt-same, string-still, stringEnd-grows}
 use Rattle.message.specs.Message.{hasText}
 use Rattle.sqlca.specs.Code.{isNear, codeBits, codeOrder, codeOf, stateBytes, procBytes, numbersOrder}
 use Rattle.sqlca.specs.Extension.{isExtended, numbersFrom, rowsOf, warningsOf, extensionOf}

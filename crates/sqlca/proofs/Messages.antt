@@ -6,9 +6,9 @@ use Prim.Native.Nat.{ℕ, _+_, _≤_}
 use lib.ListN.{length}
 use Rattle.search.specs.Search.{pick}
 use Rattle.codepage.specs.Page.{Page}
-use Rattle.field.specs.declared.StringRead.{StringRead}
-use Rattle.field.specs.Strings.{stringEnd, stringsEnd, stringAt, noString}
-use Rattle.field.proofs.Strings.{string-next, string-inside}
+use Rattle.strings.specs.declared.StringRead.{StringRead}
+use Rattle.strings.specs.Strings.{stringEnd, stringsEnd, stringAt, noString}
+use Rattle.strings.proofs.Strings.{string-next, string-inside}
 use Rattle.message.specs.Message.{hasText}
 use Rattle.sqlca.specs.Message.{bytesOf, firstText, messageAt}
 

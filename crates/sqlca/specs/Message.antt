@@ -4,8 +4,8 @@ use Prim.Native.Nat.{ℕ}
 use lib.ListN.{take, drop}
 use Rattle.search.specs.Search.{pick}
 use Rattle.codepage.specs.Page.{Page}
-use Rattle.field.specs.declared.StringRead.{StringRead}
-use Rattle.field.specs.Strings.{stringEnd, stringsEnd, stringAt, noString}
+use Rattle.strings.specs.declared.StringRead.{StringRead}
+use Rattle.strings.specs.Strings.{stringEnd, stringsEnd, stringAt, noString}
 use Rattle.message.specs.Message.{hasText}
 
 -- the bytes of a string (01, Answers: the raw string)

@@ -10,7 +10,7 @@ ghost use Rattle.sqlca.specs.Code.{isNear, codeOrder, codeOf, numbersOrd
 ghost use Rattle.sqlca.specs.Extension.{isExtended, numbersFrom, rowsOf, warningsOf, extensionOf};
 ghost use Rattle.sqlca.specs.Message.{bytesOf, messageAt};
 use field::ByteOrder;
-use field::StringRead;
+use strings::StringRead;
 
 // Within 100,000 of 0 as a signed number.
 fn is_near(bits: u32) -> bool
@@ -168,9 +168,9 @@ pub fn message_at(reply: &[u8], offset: usize) -> StringRead
     requires { ⌜ length (now reply) ≤ 65536 ⌝ }
     ensures { λ r. ⌜ r ≡ messageAt page037 (now (reply .entry)) offset ⌝ }
 {
-    let rdb = field::read_string(reply, offset);
-    let m = field::read_string(reply, rdb.next);
-    let s = field::read_string(reply, m.next);
+    let rdb = strings::read_string(reply, offset);
+    let m = strings::read_string(reply, rdb.next);
+    let s = strings::read_string(reply, m.next);
     if string_has_text(reply, m) {
         return StringRead {
             place: m.place,
@@ -181,5 +181,5 @@ pub fn message_at(reply: &[u8], offset: usize) -> StringRead
     if string_has_text(reply, s) {
         return s;
     }
-    field::no_string(s.next)
+    strings::no_string(s.next)
 }

@@ -9,8 +9,8 @@ use lib.ListN.{length}
 use borrow.Author.Tests.{lt-ltb, le-ltb, le-leb, lt-leb}
 use Rattle.search.specs.Search.{pick}
 use Rattle.codepage.specs.Page.{Page}
-use Rattle.field.specs.declared.StringRead.{StringRead}
-use Rattle.field.specs.Strings.{stringsEnd, noString}
+use Rattle.strings.specs.declared.StringRead.{StringRead}
+use Rattle.strings.specs.Strings.{stringsEnd, noString}
 use Rattle.outcome.specs.Refusal.{isRefused}
 use Rattle.sqlca.specs.Extension.{isExtended}
 use Rattle.sqlca.specs.Message.{messageAt}

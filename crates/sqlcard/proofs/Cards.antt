@@ -5,7 +5,7 @@ use mathlib.Core.List.{List}
 use Prim.Native.Nat.{ℕ}
 use lib.IntN.{ℤ}
 use Rattle.codepage.specs.Page.{Page}
-use Rattle.field.specs.declared.StringRead.{StringRead}
+use Rattle.strings.specs.declared.StringRead.{StringRead}
 use Rattle.sqlca.specs.declared.Extension.{Extension}
 use Rattle.sqlca.specs.Code.{codeOf, stateBytes, procBytes, fixedChars}
 use Rattle.sqlca.specs.Extension.{extensionOf}

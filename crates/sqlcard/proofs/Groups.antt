@@ -11,10 +11,10 @@ use lib.Seq.{length-take-le, getD-take}
 use borrow.Author.Tests.{lt-ltb, le-ltb, ne-eqb, eqb-true, eqb-false, ltb-true, ltb-false}
 use Rattle.search.specs.Search.{pick}
 use Rattle.codepage.specs.Page.{Page}
-use Rattle.field.specs.declared.StringRead.{StringRead}
-use Rattle.field.specs.Strings.{stringEnd, stringsEnd, noString}
-use Rattle.field.proofs.Strings.{end-inside}
-use Rattle.field.proofs.Windows.{Window, window-self, window-take, stringsEnd-grows, part-same, same-here}
+use Rattle.strings.specs.declared.StringRead.{StringRead}
+use Rattle.strings.specs.Strings.{stringEnd, stringsEnd, noString}
+use Rattle.strings.proofs.Strings.{end-inside}
+use Rattle.strings.proofs.Windows.{Window, window-self, window-take, stringsEnd-grows, part-same, same-here}
 use Rattle.outcome.specs.Refusal.{isRefused}
 use Rattle.sqlca.specs.Message.{messageAt}
 use Rattle.sqlca.specs.Code.{fixedChars}

@@ -5,7 +5,7 @@ use Prim.Native.Nat.{ℕ}
 use lib.IntN.{pos}
 use lib.ListN.{replicate}
 use Rattle.codepage.specs.Page.{Page}
-use Rattle.field.specs.declared.StringRead.{StringRead}
+use Rattle.strings.specs.declared.StringRead.{StringRead}
 use Rattle.sqlca.specs.Code.{codeOf, stateBytes, procBytes, fixedChars}
 use Rattle.sqlca.specs.Extension.{extensionOf}
 use Rattle.sqlcard.specs.declared.SqlCard.{SqlCard}

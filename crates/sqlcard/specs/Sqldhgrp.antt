@@ -4,7 +4,7 @@ use Prim.Native.Nat.{ℕ, _+_}
 use lib.Dec.{eqb}
 use lib.ListN.{getD}
 use Rattle.search.specs.Search.{pick}
-use Rattle.field.specs.Strings.{stringsEnd}
+use Rattle.strings.specs.Strings.{stringsEnd}
 
 -- past the group whose flag stands at p: 1 byte if that is FF, else 1 and 12 bytes and three strings (DRDA V1: SQLDHGRP; 01, Layouts)
 unfoldable pub sqldhgrpEnd : List ℕ → ℕ → ℕ

@@ -8,8 +8,8 @@ ghost use Rattle.sqlcard.specs.Card.{successCard, cardWith};
 ghost use Rattle.sqlcard.specs.Alone.{startsNull, aloneMessage, aloneRefusal, aloneCard};
 ghost use Rattle.sqlcard.specs.Group.{groupEnd, groupMessage, groupRefusal, groupCard, groupLength};
 ghost use Rattle.sqlcard.specs.Sqldhgrp.{sqldhgrpEnd};
-use field::StringRead;
 use outcome::Outcome;
+use strings::StringRead;
 
 // A message is its raw string's place and length in the reply, 0 and 0 where there is none.
 #[repr(C)]
@@ -91,7 +91,7 @@ fn alone_message(reply: &[u8]) -> StringRead
     ensures { λ r. ⌜ r ≡ aloneMessage page037 (now (reply .entry)) ⌝ }
 {
     if !sqlca::is_extended(reply) {
-        return field::no_string(19);
+        return strings::no_string(19);
     }
     if reply.len() >= 54 {
         sqlca::message_at(reply, 54)
@@ -107,10 +107,10 @@ fn group_message(reply: &[u8]) -> StringRead
     ensures { λ r. ⌜ r ≡ groupMessage page037 (now (reply .entry)) ⌝ }
 {
     if reply[18] == 0xFF {
-        return field::no_string(19);
+        return strings::no_string(19);
     }
     if reply.len() < 56 {
-        return field::no_string(56);
+        return strings::no_string(56);
     }
     sqlca::message_at(reply, 54)
 }
@@ -218,7 +218,7 @@ pub fn sqlca_end(reply: &[u8]) -> usize
     if size < 56 {
         return 56;
     }
-    field::skip_strings(reply, 54, 3)
+    strings::skip_strings(reply, 54, 3)
 }
 
 // Past the group between the SQLCA and the columns, whose flag stands at `offset`.
@@ -230,5 +230,5 @@ pub fn skip_sqldhgrp(reply: &[u8], offset: usize) -> usize
     if reply[offset] == 0xFF {
         return offset + 1;
     }
-    field::skip_strings(reply, offset + 13, 3)
+    strings::skip_strings(reply, offset + 13, 3)
 }

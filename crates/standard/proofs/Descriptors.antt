@@ -6,7 +6,7 @@ use native.Mathlib.Nat.{le-refl, le-trans}
 use native.Mathlib.Omega.{arith}
 use lib.ListN.{length}
 use Rattle.field.specs.declared.ByteOrder.{ByteOrder}
-use Rattle.field.proofs.Windows.{Same, same-here}
+use Rattle.strings.proofs.Windows.{Same, same-here}
 use Rattle.descriptor.specs.Nullable.{Flags, lenient}
 use Rattle.descriptor.specs.Descriptor.{descriptorEnd}
 use Rattle.descriptor.proofs.Ends.{descriptorEnd-grows}

@@ -11,7 +11,7 @@ use borrow.Author.Tests.{leb-true, le-leb}
 use Rattle.search.specs.Search.{pick}
 use Rattle.codepage.specs.Page.{Page}
 use Rattle.field.specs.declared.ByteOrder.{ByteOrder}
-use Rattle.field.proofs.Windows.{Window}
+use Rattle.strings.proofs.Windows.{Window}
 use Rattle.column.specs.Moved.{moveColumn}
 use Rattle.column.proofs.Moved.{move-none}
 use Rattle.descriptor.specs.Nullable.{lenient, strict}

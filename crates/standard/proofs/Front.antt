@@ -10,8 +10,8 @@ use lib.ListN.{length, getD}
 use borrow.Author.Tests.{le-leb, lt-leb}
 use Rattle.search.specs.Search.{pick}
 use Rattle.field.specs.declared.ByteOrder.{ByteOrder}
-use Rattle.field.specs.Strings.{stringsEnd}
-use Rattle.field.proofs.Windows.{Window, same-here, stringsEnd-grows, stringsEnd-local, number-same}
+use Rattle.strings.specs.Strings.{stringsEnd}
+use Rattle.strings.proofs.Windows.{Window, same-here, stringsEnd-grows, stringsEnd-local, number-same}
 use Rattle.sqlcard.specs.Group.{groupEnd}
 use Rattle.sqlcard.specs.Sqldhgrp.{sqldhgrpEnd}
 use Rattle.sqlcard.proofs.Groups.{group-end-same}

@@ -12,7 +12,7 @@ use Rattle.search.specs.Walks.{chain}
 use Rattle.search.proofs.Walks.{Walking, walking-more, walking-stop, walking-done}
 use Rattle.codepage.specs.Page.{Page}
 use Rattle.field.specs.declared.ByteOrder.{ByteOrder}
-use Rattle.field.specs.declared.StringRead.{StringRead}
+use Rattle.strings.specs.declared.StringRead.{StringRead}
 use Rattle.text.specs.Generated.{isGeneratedText}
 use Rattle.column.specs.Column.{nameText, columnWith, isNamed}
 use Rattle.descriptor.specs.declared.Step.{Step}

@@ -8,10 +8,10 @@ use lib.Dec.{ltb, leb, eqb}
 use lib.ListN.{length}
 use borrow.Author.Tests.{lt-ltb, le-ltb, le-leb, lt-leb, eq-eqb, ne-eqb, ltb-true, ltb-false, leb-true}
 use Rattle.search.specs.Search.{pick}
 use Rattle.field.specs.declared.ByteOrder.the-variants.{BigEndian}
-use Rattle.field.specs.declared.StringRead.{StringRead}
+use Rattle.strings.specs.declared.StringRead.{StringRead}
 use Rattle.field.specs.Numbers.{number}
-use Rattle.field.specs.Strings.{stringEnd, stringsEnd, noString, stringAt, chosen, pairAt}
+use Rattle.strings.specs.Strings.{stringEnd, stringsEnd, noString, stringAt, chosen, pairAt}
 
 -- ---- one string
 

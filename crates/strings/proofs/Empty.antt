@@ -4,11 +4,11 @@ use native.Mathlib.Omega.{arith}
 use mathlib.Core.Path.{_≡_, sym, _∙_}
 use mathlib.Core.List.{List}
 use lib.ListN.{length}
 use Rattle.field.specs.declared.ByteOrder.the-variants.{BigEndian}
-use Rattle.field.specs.declared.StringRead.{StringRead}
+use Rattle.strings.specs.declared.StringRead.{StringRead}
 use Rattle.field.specs.Numbers.{number}
-use Rattle.field.specs.Strings.{stringEnd, stringAt}
-use Rattle.field.proofs.Strings.{end-known, string-full}
+use Rattle.strings.specs.Strings.{stringEnd, stringAt}
+use Rattle.strings.proofs.Strings.{end-known, string-full}
 
 -- an empty string that is read at p
 abbrev pub emptyAt : ℕ → StringRead

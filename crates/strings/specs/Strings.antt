@@ -5,9 +5,9 @@ use Prim.Native.Nat.{ℕ, zero, suc, _+_}
 use lib.Dec.{ltb, leb, eqb}
 use lib.ListN.{length}
 use Rattle.search.specs.Search.{pick}
 use Rattle.field.specs.declared.ByteOrder.the-variants.{BigEndian}
-use Rattle.field.specs.declared.StringRead.{StringRead}
+use Rattle.strings.specs.declared.StringRead.{StringRead}
 use Rattle.field.specs.Numbers.{number}
 
 -- past the string at p (01, Layouts: strings have a 16-bit BE length; 01, Numbers of refusal: 2, the expected length)
 unfoldable pub stringEnd : List ℕ → ℕ → ℕ

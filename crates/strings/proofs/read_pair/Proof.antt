@@ -1,9 +1,9 @@
 -- The pair is chosen of the string at the position and the one past it.
 use mathlib.Core.Path.{_∙_}
 use borrow.Author.Needs.{needs}
-use Rattle.field.proofs.Strings.{pair-is}
-use Rattle.field.proofs.read_pair.Statement.{statement}
-use Rattle.field.proofs.read_pair.Tie as tie
+use Rattle.strings.proofs.Strings.{pair-is}
+use Rattle.strings.proofs.read_pair.Statement.{statement}
+use Rattle.strings.proofs.read_pair.Tie as tie
 
 returns : tie.Need-returns
 returns c =

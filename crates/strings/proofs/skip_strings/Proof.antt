@@ -2,10 +2,10 @@
 use mathlib.Core.Path.{_≡_, refl}
 use native.Mathlib.Omega.{arith}
 use borrow.Author.Needs.{needs}
-use Rattle.field.specs.Strings.{stringsEnd}
-use Rattle.field.proofs.Strings.{strings-more, strings-done}
-use Rattle.field.proofs.skip_strings.Statement.{statement}
-use Rattle.field.proofs.skip_strings.Tie as tie
+use Rattle.strings.specs.Strings.{stringsEnd}
+use Rattle.strings.proofs.Strings.{strings-more, strings-done}
+use Rattle.strings.proofs.skip_strings.Statement.{statement}
+use Rattle.strings.proofs.skip_strings.Tie as tie
 
 abbrev Inv-loop : tie.InvT-loop
 Inv-loop reply offset count next₀ left₀ next left = stringsEnd count reply offset ≡ stringsEnd left reply next

@@ -41,21 +41,21 @@ use denote.Triple.Table.{entered, cited}
 use denote.Triple.Walked.{says, Stays, stay-none, walkOf, goes-none, Walks, ends-at, walked, walk-meets}
 use denote.Exit.{yes}
 use denote.Triple.Clauses.{ensured, lasts}
-use Rattle.field.specs.Strings.{stringAt}
-use Rattle.field.specs.declared.Walker.{Walker}
-use Rattle.field.specs.declared.StringRead.{StringRead}
-use Rattle.field.proofs.Walker as T
-use Rattle.field.proofs.Walker.Laws as T′
-use Rattle.field.proofs.StringRead as S
-use Rattle.field.proofs.StringRead.Laws as S′
-use Rattle.field.proofs.string_at as callee
-use Rattle.field.proofs.string_at.Symbol as callee-def
-use Rattle.field.proofs.string_at.Symbol.{name as #field·string-at}
-use Rattle.field.proofs.string_at.Met as callee-thm
-use Rattle.field.proofs.string.Key.{name as #field·string}
-use Rattle.field.proofs.string as string
-use Rattle.field.proofs.string.Statement as stated
-use Rattle.field.proofs.string.Code as code
+use Rattle.strings.specs.Strings.{stringAt}
+use Rattle.strings.specs.declared.Walker.{Walker}
+use Rattle.strings.specs.declared.StringRead.{StringRead}
+use Rattle.strings.proofs.Walker as T
+use Rattle.strings.proofs.Walker.Laws as T′
+use Rattle.strings.proofs.StringRead as S
+use Rattle.strings.proofs.StringRead.Laws as S′
+use Rattle.strings.proofs.string_at as callee
+use Rattle.strings.proofs.string_at.Symbol as callee-def
+use Rattle.strings.proofs.string_at.Symbol.{name as #field·string-at}
+use Rattle.strings.proofs.string_at.Met as callee-thm
+use Rattle.strings.proofs.string.Key.{name as #field·string}
+use Rattle.strings.proofs.string as string
+use Rattle.strings.proofs.string.Statement as stated
+use Rattle.strings.proofs.string.Code as code
 
 -- the struct's type, over the signature's lifetimes
 abbrev B : Lfts 1 → RattleType
@@ -161,4 +161,4 @@ string-spec 𝓤 H 𝓜 𝓖 𝓡 =
     entered 𝓤 H (tripleOf 𝓤 H (𝓖 .A) string.signature (string.spec 𝓤 H (𝓖 .A) (𝓜 .mem) (𝓡 .run)))
     (tables 𝓤 H 𝓜 𝓡 code.env .C) (tables 𝓤 H 𝓜 𝓡 code.env .Λ) #field·string code.function (code.unfolded 𝓤 H 𝓜 𝓡)
     (string-meets 𝓤 H (𝓖 .A) (givenOf 𝓤 H 𝓜 𝓖) (𝓜 .mem) (𝓡 .run) (tablesOf 𝓤 H 𝓜 (tables 𝓤 H 𝓜 𝓡 code.env))
-    (cited 𝓤 H (StringAt 𝓤 H (𝓖 .A) (𝓜 .mem) (𝓡 .run)) 𝓜 𝓡 code.env #field·string-at callee-def.routine code.calls-field·string-at (callee-thm.met 𝓤 H 𝓜 𝓖 𝓡)))
+    (cited 𝓤 H (StringAt 𝓤 H (𝓖 .A) (𝓜 .mem) (𝓡 .run)) 𝓜 𝓡 code.env #field·string-at callee-def.routine code.calls-strings·string-at (callee-thm.met 𝓤 H 𝓜 𝓖 𝓡)))

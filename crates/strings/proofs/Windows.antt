@@ -10,12 +10,12 @@ use lib.ListN.{length, getD, take, drop, length-take, length-drop}
 use lib.Seq.{getD-take, getD-drop, ext-getD, take-take, length-take-le}
 use lib.Dec.{ltb, eqb}
 use Rattle.search.specs.Search.{pick}
 use Rattle.field.specs.declared.ByteOrder.{ByteOrder}
 use Rattle.field.specs.declared.ByteOrder.the-variants.{BigEndian, LittleEndian}
-use Rattle.field.specs.declared.StringRead.{StringRead}
+use Rattle.strings.specs.declared.StringRead.{StringRead}
 use Rattle.field.specs.Numbers.{number}
-use Rattle.field.specs.Strings.{stringEnd, stringsEnd, stringAt, chosen, pairAt}
-use Rattle.field.proofs.Strings.{end-known, end-inside, string-full}
+use Rattle.strings.specs.Strings.{stringEnd, stringsEnd, stringAt, chosen, pairAt}
+use Rattle.strings.proofs.Strings.{end-known, end-inside, string-full}
 
 -- ---- positions do not go back
 

@@ -36,25 +36,25 @@ use denote.Triple.Table.{entered, cited}
 use denote.Triple.Walked.{says, Stays, stay-none, stay-none-slice, walkOf, goes-none, goes-none-slice, Walks, ends-at, walked, walk-meets}
 use denote.Exit.{yes}
 use denote.Triple.Clauses.{ensured, lasts}
-use Rattle.field.specs.Strings.{stringAt}
-use Rattle.field.specs.declared.Walker.{Walker}
-use Rattle.field.specs.declared.StringRead.{StringRead}
-use Rattle.field.proofs.Walker as T
-use Rattle.field.proofs.Walker.Laws as T′
-use Rattle.field.proofs.StringRead as S
-use Rattle.field.proofs.StringRead.Laws as S′
-use Rattle.field.proofs.walker_at as made
-use Rattle.field.proofs.walker_at.Symbol as made-def
-use Rattle.field.proofs.walker_at.Symbol.{name as #field·walker-at}
-use Rattle.field.proofs.walker_at.Met as made-thm
-use Rattle.field.proofs.string as string
-use Rattle.field.proofs.string.Symbol as string-def
-use Rattle.field.proofs.string.Symbol.{name as #field·string}
-use Rattle.field.proofs.string.Met as string-thm
-use Rattle.field.proofs.read_string.Key.{name as #field·read-string}
-use Rattle.field.proofs.read_string as read
-use Rattle.field.proofs.read_string.Statement as stated
-use Rattle.field.proofs.read_string.Code as code
+use Rattle.strings.specs.Strings.{stringAt}
+use Rattle.strings.specs.declared.Walker.{Walker}
+use Rattle.strings.specs.declared.StringRead.{StringRead}
+use Rattle.strings.proofs.Walker as T
+use Rattle.strings.proofs.Walker.Laws as T′
+use Rattle.strings.proofs.StringRead as S
+use Rattle.strings.proofs.StringRead.Laws as S′
+use Rattle.strings.proofs.walker_at as made
+use Rattle.strings.proofs.walker_at.Symbol as made-def
+use Rattle.strings.proofs.walker_at.Symbol.{name as #field·walker-at}
+use Rattle.strings.proofs.walker_at.Met as made-thm
+use Rattle.strings.proofs.string as string
+use Rattle.strings.proofs.string.Symbol as string-def
+use Rattle.strings.proofs.string.Symbol.{name as #field·string}
+use Rattle.strings.proofs.string.Met as string-thm
+use Rattle.strings.proofs.read_string.Key.{name as #field·read-string}
+use Rattle.strings.proofs.read_string as read
+use Rattle.strings.proofs.read_string.Statement as stated
+use Rattle.strings.proofs.read_string.Code as code
 
 -- the struct's type, over the signature's lifetimes
 abbrev B : Lfts 1 → RattleType
@@ -161,5 +161,5 @@ read-string-spec 𝓤 H 𝓜 𝓖 𝓡 =
     entered 𝓤 H (tripleOf 𝓤 H (𝓖 .A) read.signature (read.spec 𝓤 H (𝓖 .A) (𝓜 .mem) (𝓡 .run)))
     (tables 𝓤 H 𝓜 𝓡 code.env .C) (tables 𝓤 H 𝓜 𝓡 code.env .Λ) #field·read-string code.function (code.unfolded 𝓤 H 𝓜 𝓡)
     (read-string-meets 𝓤 H (𝓖 .A) (givenOf 𝓤 H 𝓜 𝓖) (𝓜 .mem) (𝓡 .run) (tablesOf 𝓤 H 𝓜 (tables 𝓤 H 𝓜 𝓡 code.env))
-    (cited 𝓤 H (New 𝓤 H (𝓖 .A) (𝓜 .mem) (𝓡 .run)) 𝓜 𝓡 code.env #field·walker-at made-def.routine code.calls-field·walker-at (made-thm.met 𝓤 H 𝓜 𝓖 𝓡))
-    (cited 𝓤 H (Next 𝓤 H (𝓖 .A) (𝓜 .mem) (𝓡 .run)) 𝓜 𝓡 code.env #field·string string-def.routine code.calls-field·string (string-thm.met 𝓤 H 𝓜 𝓖 𝓡)))
+    (cited 𝓤 H (New 𝓤 H (𝓖 .A) (𝓜 .mem) (𝓡 .run)) 𝓜 𝓡 code.env #field·walker-at made-def.routine code.calls-strings·walker-at (made-thm.met 𝓤 H 𝓜 𝓖 𝓡))
+    (cited 𝓤 H (Next 𝓤 H (𝓖 .A) (𝓜 .mem) (𝓡 .run)) 𝓜 𝓡 code.env #field·string string-def.routine code.calls-strings·string (string-thm.met 𝓤 H 𝓜 𝓖 𝓡)))

@@ -2,9 +2,9 @@
 use mathlib.Core.Path.{_∙_}
 use native.Mathlib.Omega.{arith}
 use borrow.Author.Needs.{needs}
-use Rattle.field.proofs.Strings.{string-past, string-short, string-cut, string-full}
-use Rattle.field.proofs.string_at.Statement.{statement}
-use Rattle.field.proofs.string_at.Tie as tie
+use Rattle.strings.proofs.Strings.{string-past, string-short, string-cut, string-full}
+use Rattle.strings.proofs.string_at.Statement.{statement}
+use Rattle.strings.proofs.string_at.Tie as tie
 
 returns : tie.Need-returns
 returns c = c .no-string .ensures ∙ string-past _ _ (c .before .if1 .taken)

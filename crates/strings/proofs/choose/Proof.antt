@@ -1,7 +1,7 @@
 -- The second string where the first has no bytes, else the first, past both.
-use Rattle.field.proofs.Strings.{chosen-first, chosen-second}
-use Rattle.field.proofs.choose.Statement.{statement}
-use Rattle.field.proofs.choose.Tie as tie
+use Rattle.strings.proofs.Strings.{chosen-first, chosen-second}
+use Rattle.strings.proofs.choose.Statement.{statement}
+use Rattle.strings.proofs.choose.Tie as tie
 
 returns : tie.Need-returns
 returns c = chosen-second _ _ (c .if1 .taken)
