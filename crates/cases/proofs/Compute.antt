@@ -8,7 +8,7 @@ use Rattle.text.specs.Chars.{isAscii, charOf}
 use Rattle.text.specs.Text.{placed, leading, kept, textOn}
 use Rattle.text.specs.Generated.{isGenerated, isGeneratedText}
 use Rattle.types.specs.Rows.{typeRows, lookup}
-use Rattle.types.specs.Types.{searchedBase, rowFor, capOf, sqldaType}
+use Rattle.sqlda.specs.Types.{searchedBase, rowFor, capOf, sqldaType}
 use Rattle.column.specs.Column.{stringText, nameText, columnWith, isNamed, hasNames}
 use Rattle.column.specs.Moved.{moveText, moveColumn}
 use Rattle.descriptor.specs.Nullable.{nullableEnd, inNullable}

@@ -8,7 +8,7 @@ use Rattle.text.specs.declared.Text.{Text}
 use Rattle.text.specs.Text.{textOf}
 use Rattle.text.specs.Generated.{textChars}
 use Rattle.types.specs.declared.ColumnMetadata.{ColumnMetadata}
-use Rattle.types.specs.Types.{sqldaType}
+use Rattle.sqlda.specs.Types.{sqldaType}
 use Rattle.sqlca.specs.Code.{codeOf}
 use Rattle.compact.specs.Compact.{compactAt}
 use Rattle.sqldard.specs.Description.{Description, description}

@@ -7,7 +7,7 @@ use Rattle.search.specs.Search.{pick}
 use Rattle.decimal.specs.Decimal.{decimalOf}
 use Rattle.types.specs.declared.ColumnMetadata.{ColumnMetadata}
 use Rattle.types.specs.declared.Db2Type.{Db2Type}
-use Rattle.types.specs.Types.{codeOf}
+use Rattle.sqlda.specs.Types.{codeOf}
 use Rattle.column_words.specs.Words.{valueOf}
 use Rattle.line.specs.Line.{padded}
 

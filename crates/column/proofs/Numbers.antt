@@ -8,7 +8,7 @@ use Rattle.field.specs.declared.ByteOrder.{ByteOrder}
 use Rattle.field.specs.declared.ByteOrder.the-variants.{BigEndian, LittleEndian}
 use Rattle.text.specs.declared.Text.{Text}
 use Rattle.types.specs.declared.ColumnMetadata.{ColumnMetadata}
-use Rattle.types.specs.declared.SqldaType.{SqldaType}
+use Rattle.sqlda.specs.declared.SqldaType.{SqldaType}
 use Rattle.column.specs.declared.Described.{Described}
 use Rattle.column.specs.Column.{nameText, stringText, columnWith}
 use Rattle.column.specs.Numbers.{orderNumber, orderOf, textNumbers, numbersOf, textFrom, typeFrom, Fits, columnOf}

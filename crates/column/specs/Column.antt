@@ -12,8 +12,8 @@ use Rattle.text.specs.Text.{textIs, emptyText, textOf}
 use Rattle.text.specs.Generated.{isGeneratedText}
 use Rattle.types.specs.declared.ColumnMetadata.{ColumnMetadata}
 use Rattle.types.specs.declared.Db2Type.{Db2Type}
-use Rattle.types.specs.declared.SqldaType.{SqldaType}
-use Rattle.types.specs.Types.{sqldaType}
+use Rattle.sqlda.specs.declared.SqldaType.{SqldaType}
+use Rattle.sqlda.specs.Types.{sqldaType}
 use Rattle.column.specs.declared.Described.{Described}
 use Rattle.column.specs.declared.Run.{Run}
 

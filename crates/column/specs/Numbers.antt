@@ -10,8 +10,8 @@ use Rattle.field.specs.declared.ByteOrder.the-variants.{BigEndian, LittleEndian
 use Rattle.text.specs.declared.Text.{Text}
 use Rattle.text.specs.Text.{textIs}
 use Rattle.types.specs.declared.ColumnMetadata.{ColumnMetadata}
-use Rattle.types.specs.declared.SqldaType.{SqldaType}
-use Rattle.types.specs.Types.{sqldaType}
+use Rattle.sqlda.specs.declared.SqldaType.{SqldaType}
+use Rattle.sqlda.specs.Types.{sqldaType}
 use Rattle.column.specs.declared.Described.{Described}
 use Rattle.column.specs.Column.{stringText, nameText}
 

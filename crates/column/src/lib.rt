@@ -167,7 +167,7 @@ pub fn column_of(numbers: &[u64]) -> ColumnMetadata
     let precision = numbers[3] as u8;
     let scale = numbers[4] as u8;
     let ccsid = numbers[5] as u16;
-    let described = types::sqlda_type(sql_type, numbers[2], precision, scale, ccsid);
+    let described = sqlda::sqlda_type(sql_type, numbers[2], precision, scale, ccsid);
     let db2_type = described.db2_type;
     ColumnMetadata {
         number: numbers[0] as u16,

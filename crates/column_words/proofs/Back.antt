@@ -13,7 +13,7 @@ use Rattle.field.specs.declared.ByteOrder.{ByteOrder}
 use Rattle.field.specs.declared.ByteOrder.the-variants.{BigEndian, LittleEndian}
 use Rattle.types.specs.declared.ColumnMetadata.{ColumnMetadata}
 use Rattle.types.specs.declared.Db2Type.{Db2Type}
-use Rattle.types.specs.Types.{codeOf}
+use Rattle.sqlda.specs.Types.{codeOf}
 use Rattle.column.specs.Numbers.{orderNumber}
 use Rattle.column.proofs.Numbers.{order-back}
 use Rattle.column_words.specs.Words.{valueOf, wordsOf, allWords}

@@ -8,7 +8,7 @@ use lib.Seq.{drop-drop, take-all}
 use Rattle.search.specs.Search.{pick}
 use Rattle.search.proofs.Writing.{blocks-length}
 use Rattle.types.specs.declared.ColumnMetadata.{ColumnMetadata}
-use Rattle.types.specs.Types.{codeOf}
+use Rattle.sqlda.specs.Types.{codeOf}
 use Rattle.column.specs.Numbers.{orderNumber, textNumbers}
 use Rattle.column_words.specs.Words.{valueOf, wordsOf, allWords}
 

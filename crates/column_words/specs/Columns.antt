@@ -8,7 +8,7 @@ use Rattle.search.specs.Search.{firstIn}
 use Rattle.text.specs.declared.Text.{Text}
 use Rattle.types.specs.declared.ColumnMetadata.{ColumnMetadata}
 use Rattle.types.specs.declared.Db2Type.{Db2Type}
-use Rattle.types.specs.Types.{codeOf}
+use Rattle.sqlda.specs.Types.{codeOf}
 use Rattle.column.specs.Numbers.{orderOf, textFrom}
 use Rattle.column_words.specs.Words.{valueOf}
 

@@ -4,7 +4,7 @@ use Prim.Native.Nat.{ℕ, _+_, _*_}
 use Rattle.search.specs.Search.{pick}
 use Rattle.types.specs.declared.ColumnMetadata.{ColumnMetadata}
 use Rattle.types.specs.declared.Db2Type.{Db2Type}
-use Rattle.types.specs.Types.{codeOf}
+use Rattle.sqlda.specs.Types.{codeOf}
 use Rattle.column.specs.Numbers.{orderNumber, textNumbers}
 
 -- what a type says besides its code: its length, its digits, or precision × 256 + scale; 0 where it says nothing (01, Types and lengths)

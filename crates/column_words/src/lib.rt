@@ -7,7 +7,7 @@ ghost use mathlib.Core.List.{_++_};
 ghost use Prim.Native.Nat.{_+_, _<_, _≤_};
 ghost use lib.ListN.{length, getD, take, drop};
 ghost use Rattle.search.specs.Search.{pick};
-ghost use Rattle.types.specs.Types.{codeOf};
+ghost use Rattle.sqlda.specs.Types.{codeOf};
 ghost use Rattle.column_words.specs.Words.{valueOf, wordsOf};
 ghost use Rattle.column_words.specs.Place.{columnAtPlace};
 ghost use Rattle.column_words.specs.Columns.{typeWith, isType, numbersFit, alphabetsFit, isColumn, columnIn, areColumns};

@@ -10,7 +10,7 @@ use Rattle.search.proofs.Tests.{and-left, and-right, agree, agree-same}
 use Rattle.search.proofs.Alike.{alike-length}
 use Rattle.types.specs.declared.ColumnMetadata.{ColumnMetadata}
 use Rattle.types.specs.declared.Db2Type.{Db2Type}
-use Rattle.types.specs.Types.{codeOf}
+use Rattle.sqlda.specs.Types.{codeOf}
 use Rattle.columns.specs.Cut.{sameColumn, sameCut}
 use Rattle.columns.specs.Row.{isLarge, isVarying, columnWidth, rowWidth, largeRefusal, rowRefusal, rowAnswer}
 use Rattle.columns.specs.Consistent.{ConsistentColumn, ConsistentFrom, Consistent}

@@ -4,7 +4,7 @@ use mathlib.Core.List.{List, [], _∷_}
 use Prim.Native.Nat.{ℕ, suc, _+_}
 use Rattle.search.specs.Search.{pick}
 use Rattle.types.specs.declared.ColumnMetadata.{ColumnMetadata}
-use Rattle.types.specs.Types.{codeOf}
+use Rattle.sqlda.specs.Types.{codeOf}
 
 -- column i: it has this number, and its type's code, 1 more where it is nullable (01, Answers: number; Types and lengths: code)
 pub record ConsistentColumn (i : ℕ) (c : ColumnMetadata) : Type 0 where

@@ -11,8 +11,8 @@ use Rattle.search.specs.Walks.{first}
 use Rattle.search.proofs.Index.{first-none}
 use Rattle.field.specs.declared.ByteOrder.the-variants.{LittleEndian}
 use Rattle.field.specs.Numbers.{number}
-use Rattle.types.specs.Types.{isKnown}
-use Rattle.types.proofs.Laws.{outside-unknown}
+use Rattle.sqlda.specs.Types.{isKnown}
+use Rattle.sqlda.proofs.Laws.{outside-unknown}
 use Rattle.compact_table.specs.Table.{inBounds, looksCompact, nextHere, nextCompact, isCount, tableHere, tableAt, noTable, tableOf, Ended}
 
 -- ---- 16 bytes at p

@@ -9,7 +9,7 @@ use Rattle.search.specs.Search.{pick}
 use Rattle.search.specs.Walks.{first}
 use Rattle.field.specs.declared.ByteOrder.the-variants.{LittleEndian}
 use Rattle.field.specs.Numbers.{number}
-use Rattle.types.specs.Types.{baseOf, isKnown}
+use Rattle.sqlda.specs.Types.{baseOf, isKnown}
 use Rattle.compact_table.specs.declared.Table.{Table}
 
 -- the types that may be longer than 65,536 (01, Layouts: Compact, 404, 408, 412, 988)

@@ -40,7 +40,7 @@ pub fn looks_like_compact_descriptor_start(reply: &[u8], offset: usize) -> bool
     if !in_bounds(sql_type, precision, scale, raw_length) {
         return false;
     }
-    types::is_known_sql_type(sql_type)
+    sqlda::is_known_sql_type(sql_type)
 }
 
 // Eight bytes are read at once: one loop turn passes over them where none is FF.

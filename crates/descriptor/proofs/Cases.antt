@@ -8,7 +8,7 @@ use lib.ListN.{length, getD}
 use borrow.Author.Tests.{leb-true, leb-false, eqb-true, eqb-false}
 use Rattle.field.specs.declared.ByteOrder.{ByteOrder}
 use Rattle.field.specs.Numbers.{number}
-use Rattle.types.specs.Types.{isKnown}
+use Rattle.sqlda.specs.Types.{isKnown}
 use Rattle.descriptor.specs.Nullable.{Flags, missing, nullableEnd}
 use Rattle.descriptor.specs.Descriptor.{optEnd, descriptorEnd}
 use Rattle.descriptor.proofs.Flags.{nullableEnd-missing, nullableEnd-null, nullableEnd-held}

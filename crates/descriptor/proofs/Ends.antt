@@ -13,7 +13,7 @@ use Rattle.field.specs.declared.ByteOrder.{ByteOrder}
 use Rattle.field.specs.Numbers.{number}
 use Rattle.strings.specs.Strings.{stringsEnd}
 use Rattle.strings.proofs.Windows.{stringsEnd-grows}
-use Rattle.types.specs.Types.{isKnown}
+use Rattle.sqlda.specs.Types.{isKnown}
 use Rattle.descriptor.specs.Nullable.{Flags, lenient, strict, missing, nullableEnd}
 use Rattle.descriptor.specs.Descriptor.{udtEnd, dxEnd, dxStart, optEnd, descriptorEnd}
 

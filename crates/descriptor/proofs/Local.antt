@@ -12,7 +12,7 @@ use Rattle.strings.specs.declared.StringRead.{StringRead}
 use Rattle.field.specs.Numbers.{number}
 use Rattle.strings.specs.Strings.{stringsEnd, noString, pairAt}
 use Rattle.strings.proofs.Windows.{Same, Window, same-plus, stringsEnd-grows, stringsEnd-within, stringsEnd-local, pairAt-same, number-same}
-use Rattle.types.specs.Types.{isKnown, sqldaType}
+use Rattle.sqlda.specs.Types.{isKnown, sqldaType}
 use Rattle.column.specs.Column.{columnWith}
 use Rattle.column.specs.Moved.{moveColumn}
 use Rattle.column.proofs.Moved.{Alike, alike-none, alike-moved, alike-chosen, alike-name}

@@ -11,7 +11,7 @@ use Rattle.search.specs.Search.{pick}
 use Rattle.field.specs.declared.ByteOrder.{ByteOrder}
 use Rattle.field.specs.Numbers.{number}
 use Rattle.strings.specs.Strings.{noString}
-use Rattle.types.specs.Types.{isKnown}
+use Rattle.sqlda.specs.Types.{isKnown}
 use Rattle.column.specs.declared.Described.{Described}
 use Rattle.column.specs.Column.{StringsInside}
 use Rattle.descriptor.specs.declared.Sqldagrp.{Sqldagrp}

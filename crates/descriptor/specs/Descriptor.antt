@@ -12,7 +12,7 @@ use Rattle.strings.specs.declared.StringRead.{StringRead}
 use Rattle.field.specs.Numbers.{number}
 use Rattle.strings.specs.Strings.{stringsEnd, noString, chosen, pairAt}
 use Rattle.types.specs.declared.ColumnMetadata.{ColumnMetadata}
-use Rattle.types.specs.Types.{isKnown}
+use Rattle.sqlda.specs.Types.{isKnown}
 use Rattle.column.specs.declared.Described.{Described}
 use Rattle.column.specs.Column.{columnWith}
 use Rattle.descriptor.specs.Nullable.{Flags, lenient, strict, nullableEnd, inNullable}

@@ -280,7 +280,7 @@ pub fn descriptor_step(reply: &[u8], offset: usize, order: ByteOrder) -> Step
     if end - offset < 16 {
         return no_step(offset + 16);
     }
-    if !types::is_known_sql_type(field::u16_at(reply, offset + 12, order)) {
+    if !sqlda::is_known_sql_type(field::u16_at(reply, offset + 12, order)) {
         return no_step(end + 1);
     }
     let step = sqldoptgrp_step(reply, offset + 16);

@@ -8,7 +8,7 @@ use Rattle.search.specs.Walks.{Walk, chain}
 use Rattle.codepage.specs.Page.{Page}
 use Rattle.field.specs.declared.ByteOrder.{ByteOrder}
 use Rattle.types.specs.declared.ColumnMetadata.{ColumnMetadata}
-use Rattle.types.proofs.Laws.{code-of-type}
+use Rattle.sqlda.proofs.Laws.{code-of-type}
 use Rattle.column.specs.declared.Described.{Described}
 use Rattle.column.specs.Column.{columnWith}
 use Rattle.descriptor.specs.Descriptor.{describedAt, columnAt}

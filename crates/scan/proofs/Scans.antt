@@ -17,7 +17,7 @@ use Rattle.column.specs.Column.{runIs}
 use Rattle.standard.specs.Run.{standardWalk, standardRun}
 use Rattle.scan.specs.declared.Best.{Best}
 use Rattle.field.specs.Numbers.{number}
-use Rattle.types.specs.Types.{isKnown}
+use Rattle.sqlda.specs.Types.{isKnown}
 use Rattle.descriptor.specs.Nullable.{lenient}
 use Rattle.descriptor.proofs.Steps.{descriptorEnd-unknown}
 use Rattle.scan.specs.Scan.{score, better, runFrom, scanOrder, Few, InHand}

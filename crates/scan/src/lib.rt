@@ -79,7 +79,7 @@ fn best_with_start(reply: &[u8], order: ByteOrder, best: Best, start: usize) -> 
     requires { ⌜ InHand best ⌝ }
     ensures { λ r. ⌜ (r ≡ keep better best (runFrom page037 order (now (reply .entry)) start)) × (InHand r) ⌝ }
 {
-    if !types::is_known_sql_type(field::u16_at(reply, start + 12, order)) {
+    if !sqlda::is_known_sql_type(field::u16_at(reply, start + 12, order)) {
         return best;
     }
     better_of(best, run_from(reply, order, start))

@@ -1,4 +1,4 @@
-// SQLTYPE's base types, and the type, length and code of a column.
+// Columns and their types, and the table of SQLTYPE's base types.
 mod table;
 
 use field::ByteOrder;
@@ -6,7 +6,6 @@ use table::TYPES;
 use text::Text;
 ghost use mathlib.Core.Path.{_≡_};
 ghost use Rattle.types.specs.Rows.{lookup};
-ghost use Rattle.types.specs.Types.{isKnown, searchedBase, rowFor, capOf, typeOf, lengthOf, sqldaType};
 
 pub enum Db2Type {
     SmallInt,
@@ -130,14 +129,6 @@ pub struct TypeRow {
     pub code: u8,
 }
 
-// What SQLTYPE and its length, precision, scale and CCSID say of a column.
-pub struct SqldaType {
-    pub db2_type: Db2Type,
-    pub drda_type: u8,
-    pub length: u16,
-    pub nullable: bool,
-}
-
 // The row of a base type. Naming a constant array copies it, so the loop searches one copy.
 pub fn find_type(base: u16) -> TypeRow
     ensures { λ r. ⌜ r ≡ lookup base ⌝ }
@@ -155,134 +146,5 @@ pub fn find_type(base: u16) -> TypeRow
         base: 0,
         kind: Kind::VarChar,
         code: ColumnMetadata::DRDA_TYPE_VARCHAR,
-    }
-}
-
-// Whether the base type has a row. Scans ask at every byte of a reply, so what the table cannot have is not searched for.
-pub fn is_known_sql_type(sql_type: u16) -> bool
-    ensures { λ r. ⌜ r ≡ isKnown «sql_type» ⌝ }
-{
-    if (sql_type < 384) | (2437 < sql_type) {
-        return false;
-    }
-    let row = find_type(sql_type - sql_type % 2);
-    0 < row.base
-}
-
-// The base type to look up: CCSID 0 says that the characters are bytes, so the character types are the binary ones.
-fn searched_base(base: u16, ccsid: u16) -> u16
-    ensures { λ r. ⌜ r ≡ searchedBase base ccsid ⌝ }
-{
-    let binary = ccsid == 0;
-    if binary & ((base == 448) | (base == 456)) {
-        return 908;
-    }
-    if binary & (base == 452) {
-        return 912;
-    }
-    base
-}
-
-// The row that describes the column: 480 below raw length 8 is Real, which has no row of its own.
-fn row_for(sql_type: u16, raw: u64, ccsid: u16) -> TypeRow
-    ensures { λ r. ⌜ r ≡ rowFor «sql_type» raw ccsid ⌝ }
-{
-    let base = sql_type - sql_type % 2;
-    if (base == 480) & (raw < 8) {
-        return TypeRow {
-            base: 480,
-            kind: Kind::Real,
-            code: ColumnMetadata::DRDA_TYPE_FLOAT4,
-        };
-    }
-    find_type(searched_base(base, ccsid))
-}
-
-// A length has 16 bits: a longer raw one counts as 65,535.
-fn capped(raw: u64) -> u16
-    ensures { λ r. ⌜ r ≡ capOf raw ⌝ }
-{
-    if raw < 65535 { raw as u16 } else { 65535 }
-}
-
-fn db2_type_for(kind: Kind, raw: u64, precision: u8, scale: u8) -> Db2Type
-    ensures { λ r. ⌜ r ≡ typeOf kind raw precision scale ⌝ }
-{
-    let n = capped(raw);
-    match kind {
-        Kind::SmallInt => Db2Type::SmallInt,
-        Kind::Integer => Db2Type::Integer,
-        Kind::BigInt => Db2Type::BigInt,
-        Kind::Real => Db2Type::Real,
-        Kind::Double => Db2Type::Double,
-        Kind::Decimal => Db2Type::Decimal { precision, scale },
-        Kind::DecFloat => if 8 < raw {
-            Db2Type::DecFloat(34)
-        } else {
-            Db2Type::DecFloat(16)
-        },
-        Kind::Char => Db2Type::Char(n),
-        Kind::VarChar => Db2Type::VarChar(n),
-        Kind::Clob => Db2Type::Clob,
-        Kind::Binary => Db2Type::Binary(n),
-        Kind::VarBinary => Db2Type::VarBinary(n),
-        Kind::Blob => Db2Type::Blob,
-        Kind::Date => Db2Type::Date,
-        Kind::Time => Db2Type::Time,
-        Kind::Timestamp => Db2Type::Timestamp,
-        Kind::Graphic => Db2Type::Graphic(n),
-        Kind::VarGraphic => Db2Type::VarGraphic(n),
-        Kind::DbClob => Db2Type::DbClob,
-        Kind::RowId => Db2Type::RowId(n),
-        Kind::Boolean => Db2Type::Boolean,
-        Kind::Xml => Db2Type::Xml,
-    }
-}
-
-fn length_for(kind: Kind, raw: u64, precision: u8) -> u16
-    ensures { λ r. ⌜ r ≡ lengthOf kind raw precision ⌝ }
-{
-    let n = capped(raw);
-    match kind {
-        Kind::SmallInt => 2,
-        Kind::Integer => 4,
-        Kind::BigInt => 8,
-        Kind::Real => 4,
-        Kind::Double => 8,
-        Kind::Decimal => (precision as u16 + 2) / 2,
-        Kind::DecFloat => n,
-        Kind::Char => n,
-        Kind::VarChar => n,
-        Kind::Clob => n,
-        Kind::Binary => n,
-        Kind::VarBinary => n,
-        Kind::Blob => n,
-        Kind::Date => 10,
-        Kind::Time => 8,
-        Kind::Timestamp => if raw == 0 { 26 } else { n },
-        Kind::Graphic => n,
-        Kind::VarGraphic => n,
-        Kind::DbClob => n,
-        Kind::RowId => n,
-        Kind::Boolean => 2,
-        Kind::Xml => n,
-    }
-}
-
-// One search of the table says all: nullable, SQLTYPE's low bit, adds 1 to the code.
-pub fn sqlda_type(sql_type: u16, raw: u64, precision: u8, scale: u8, ccsid: u16) -> SqldaType
-    ensures { λ r. ⌜ r ≡ sqldaType «sql_type» raw precision scale ccsid ⌝ }
-{
-    let row = row_for(sql_type, raw, ccsid);
-    let kind = row.kind;
-    let low = sql_type % 2;
-    let db2_type = db2_type_for(kind, raw, precision, scale);
-    let drda_type = row.code + low as u8;
-    let length = length_for(kind, raw, precision);
-    SqldaType {
-        db2_type,
-        drda_type,
-        length,
-        nullable: low == 1,
     }
 }

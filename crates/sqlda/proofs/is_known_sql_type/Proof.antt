@@ -2,9 +2,9 @@
 use mathlib.Core.Path.{sym}
 use native.Mathlib.Omega.{arith}
 use borrow.Author.Needs.{needs}
-use Rattle.types.proofs.Laws.{outside-unknown}
-use Rattle.types.proofs.is_known_sql_type.Statement.{statement}
-use Rattle.types.proofs.is_known_sql_type.Tie as tie
+use Rattle.sqlda.proofs.Laws.{outside-unknown}
+use Rattle.sqlda.proofs.is_known_sql_type.Statement.{statement}
+use Rattle.sqlda.proofs.is_known_sql_type.Tie as tie
 
 returns : tie.Need-returns
 returns c = sym (outside-unknown _ (c .if1 .taken))
