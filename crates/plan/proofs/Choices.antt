@@ -17,11 +17,12 @@ use Rattle.outcome.specs.declared.Outcome.{Outcome}
 use Rattle.outcome.specs.declared.Outcome.the-variants.{Accepted, EmptyReply, BufferTooShort}
 use Rattle.column.specs.Column.{hasNames, namedIn}
 use Rattle.standard.specs.Reading.{standard, countAt}
-use Rattle.plan.specs.declared.Plan.{Plan}
-use Rattle.plan.specs.declared.Layout.the-variants.{Last}
+use Rattle.planned.specs.declared.Plan.{Plan}
+use Rattle.planned.specs.declared.Layout.the-variants.{Last}
 use Rattle.plan.specs.Choice.{Reading, reads, refuses, compactColumns, lastColumns, lastReading, lastCountAt, hasSome, four, choice}
 use Rattle.scan.specs.Scan.{scanColumns}
-use Rattle.plan.specs.Plan.{walkOf, columnsOf, readingOf, planned, emptyPlan, counted, Counted, standardPlan, compactPlan, scanPlan, lastPlan, plans, planOf}
+use Rattle.planned.specs.Planned.{walkOf, columnsOf}
+use Rattle.plan.specs.Plan.{readingOf, planned, emptyPlan, counted, Counted, standardPlan, compactPlan, scanPlan, lastPlan, plans, planOf}
 use Rattle.plan.proofs.Standards.{standard-walk}
 
 -- ---- a plan says what it stands for

@@ -30,11 +30,12 @@ use Rattle.compact.specs.declared.Ends.the-variants as ends
 use Rattle.compact.specs.Compact.{compactRun}
 use Rattle.scan.specs.declared.Best.{Best}
 use Rattle.scan.specs.Scan.{better, noRun, runFrom, scanOrder, scanBest, limitOf}
-use Rattle.plan.specs.declared.Plan.{Plan}
-use Rattle.plan.specs.declared.Layout.{Layout}
-use Rattle.plan.specs.declared.Layout.the-variants.{Standard, Compact, Last}
+use Rattle.planned.specs.declared.Plan.{Plan}
+use Rattle.planned.specs.declared.Layout.{Layout}
+use Rattle.planned.specs.declared.Layout.the-variants.{Standard, Compact, Last}
 use Rattle.plan.specs.Choice.{lastCountAt}
-use Rattle.plan.specs.Plan.{walkOf, columnsOf, planned, planWith, noColumns, emptyPlan, counted, standardPlan, compactPlan, scanPlan, lastPlan}
+use Rattle.planned.specs.Planned.{walkOf, columnsOf}
+use Rattle.plan.specs.Plan.{planned, planWith, noColumns, emptyPlan, counted, standardPlan, compactPlan, scanPlan, lastPlan}
 use Rattle.plan.proofs.Standards.{chain-views, chain-full, gives-not}
 
 -- the limit of a plan is the one that it was made with

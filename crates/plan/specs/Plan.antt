@@ -6,7 +6,6 @@ use Prim.Native.Nat.{ℕ, _+_}
 use lib.Dec.{ltb, eqb}
 use lib.ListN.{length}
 use Rattle.search.specs.Search.{pick, firstIn}
-use Rattle.search.specs.Walks.{Walk, chain}
 use Rattle.codepage.specs.Page.{Page}
 use Rattle.field.specs.declared.ByteOrder.{ByteOrder}
 use Rattle.field.specs.declared.ByteOrder.the-variants.{BigEndian, LittleEndian}
@@ -14,33 +13,16 @@ use Rattle.field.specs.Numbers.{number}
 use Rattle.outcome.specs.declared.Outcome.{Outcome}
 use Rattle.outcome.specs.declared.Outcome.the-variants.{Accepted, EmptyReply, BufferTooShort}
 use Rattle.outcome.specs.Refusal.{refusalOf}
-use Rattle.types.specs.declared.ColumnMetadata.{ColumnMetadata}
 use Rattle.column.specs.declared.Run.{Run}
 use Rattle.column.specs.Column.{hasNames, namedIn, runIs}
 use Rattle.standard.specs.Reading.{countAt, countIn, gives}
-use Rattle.standard.specs.Run.{standardWalk}
 use Rattle.compact_table.specs.Table.{tableOf}
-use Rattle.compact.specs.declared.Ends.the-variants as ends
-use Rattle.compact.specs.Compact.{compactWalk}
 use Rattle.scan.specs.Scan.{scanBest, limitOf}
-use Rattle.plan.specs.declared.Layout.{Layout}
-use Rattle.plan.specs.declared.Layout.the-variants.{Standard, Compact, Last}
-use Rattle.plan.specs.declared.Plan.{Plan}
+use Rattle.planned.specs.declared.Layout.{Layout}
+use Rattle.planned.specs.declared.Layout.the-variants.{Standard, Compact, Last}
+use Rattle.planned.specs.declared.Plan.{Plan}
+use Rattle.planned.specs.Planned.{columnsOf}
 use Rattle.plan.specs.Choice.{Reading, hasSome, lastCountAt}
-
--- from descriptor to descriptor, by layout and byte order (01, Layouts)
-abbrev pub walkBy : Page → List ℕ → Layout → ByteOrder → Walk ColumnMetadata
-walkBy page s Standard order = standardWalk page order s
-walkBy page s Compact order = compactWalk page ends.Compact s
-walkBy page s Last order = compactWalk page ends.Last s
-
--- the walk of a plan (01, Layouts)
-unfoldable pub walkOf : Page → List ℕ → Plan → Walk ColumnMetadata
-walkOf page s p = walkBy page s (p .layout) (p .order)
-
--- the columns that a plan stands for: what the filler writes (01, Answers)
-unfoldable pub columnsOf : Page → List ℕ → Plan → List ColumnMetadata
-columnsOf page s p = chain (walkOf page s p) (p .limit) 0 (p .start)
 
 -- the reading that a plan stands for (01, Choice)
 unfoldable pub readingOf : Page → List ℕ → Plan → Reading

@@ -13,27 +13,9 @@ use column::Run;
 use compact::Ends;
 use field::ByteOrder;
 use outcome::Outcome;
+use planned::Layout;
+use planned::Plan;
 use scan::Best;
-
-// How the descriptors lie.
-pub enum Layout {
-    Standard,
-    Compact,
-    Last,
-}
-
-// The descriptors start at `start`; at most `limit` are read, `count` of them can be, and `named` of those have names that are not
-// generated. `alone`: the status is read alone on the whole reply.
-pub struct Plan {
-    pub layout: Layout,
-    pub order: ByteOrder,
-    pub alone: bool,
-    pub start: usize,
-    pub limit: usize,
-    pub count: usize,
-    pub named: usize,
-    pub outcome: Outcome,
-}
 
 fn plan_with(
     layout: Layout,

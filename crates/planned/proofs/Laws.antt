@@ -19,11 +19,10 @@ use Rattle.compact.specs.declared.Ends.{Ends}
 use Rattle.compact.specs.declared.Ends.the-variants as ends
 use Rattle.compact.specs.Compact.{endBy, compactAt, compactColumn}
 use Rattle.compact.proofs.Laws.{end-room}
-use Rattle.plan.specs.declared.Layout.{Layout}
-use Rattle.plan.specs.declared.Layout.the-variants.{Standard, Compact, Last}
-use Rattle.plan.specs.declared.Plan.{Plan}
-use Rattle.plan.specs.Plan.{walkBy, walkOf}
-use Rattle.planned.specs.Planned.{describedBy, Reads}
+use Rattle.planned.specs.declared.Layout.{Layout}
+use Rattle.planned.specs.declared.Layout.the-variants.{Standard, Compact, Last}
+use Rattle.planned.specs.declared.Plan.{Plan}
+use Rattle.planned.specs.Planned.{walkBy, walkOf, describedBy, Reads}
 
 -- ---- a step that can be made
 

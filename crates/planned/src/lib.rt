@@ -1,4 +1,4 @@
-// One column of a plan: what its descriptor says, the numbers that it is written in, and its record.
+// A plan, made before anything is written, and its columns one by one: what a descriptor says, the numbers that it is written in, and the record.
 ghost use mathlib.Core.List.{_++_};
 ghost use mathlib.Core.Path.{_≡_};
 ghost use mathlib.Core.Bool.{true};
@@ -8,13 +8,32 @@ ghost use Rattle.codepage.specs.Page.{page037};
 ghost use Rattle.column.specs.Column.{StringsInside};
 ghost use Rattle.column.specs.Numbers.{numbersOf, Fits};
 ghost use Rattle.compact.specs.Compact.{compactAt, endBy};
-ghost use Rattle.plan.specs.Plan.{walkOf};
-ghost use Rattle.planned.specs.Planned.{describedBy, Reads};
+ghost use Rattle.planned.specs.Planned.{walkOf, describedBy, Reads};
 use column::Described;
 use compact::Ends;
-use plan::Layout;
-use plan::Plan;
+use field::ByteOrder;
+use outcome::Outcome;
 use types::ColumnMetadata;
+
+// How the descriptors lie.
+pub enum Layout {
+    Standard,
+    Compact,
+    Last,
+}
+
+// The descriptors start at `start`; at most `limit` are read, `count` of them can be, and `named` of those have names that are not
+// generated. `alone`: the status is read alone on the whole reply.
+pub struct Plan {
+    pub layout: Layout,
+    pub order: ByteOrder,
+    pub alone: bool,
+    pub start: usize,
+    pub limit: usize,
+    pub count: usize,
+    pub named: usize,
+    pub outcome: Outcome,
+}
 
 fn read_by_ends(reply: &[u8], ends: Ends, left: usize, offset: usize) -> Described
     requires { ⌜ (offset + 16 ≤ endBy ends left (now reply) offset) × (offset + 16 ≤ length (now reply)) ⌝ }

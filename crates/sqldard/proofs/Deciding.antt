@@ -12,9 +12,10 @@ use Rattle.search.specs.Walks.{chain}
 use Rattle.codepage.specs.Page.{Page}
 use Rattle.outcome.specs.Refusal.{refusalOf, isRefused}
 use Rattle.types.specs.declared.ColumnMetadata.{ColumnMetadata}
-use Rattle.plan.specs.declared.Plan.{Plan}
+use Rattle.planned.specs.declared.Plan.{Plan}
 use Rattle.plan.specs.Choice.{Reading, choice}
-use Rattle.plan.specs.Plan.{planOf, columnsOf, walkOf, readingOf}
+use Rattle.planned.specs.Planned.{columnsOf, walkOf}
+use Rattle.plan.specs.Plan.{planOf, readingOf}
 use Rattle.plan.proofs.Choices.{plan-reads}
 use Rattle.sqldard.specs.Description.{Description, refusedWith, statusOf, answerBy, description, withCodePoint}
 use Rattle.sqldard.specs.declared.Decision.{Decision}

@@ -5,7 +5,7 @@ use Prim.Native.Nat.{ℕ, _≤_}
 use lib.ListN.{length}
 use Rattle.codepage.specs.Page.{Page}
 use Rattle.outcome.specs.Refusal.{refusalOf}
-use Rattle.plan.specs.Plan.{columnsOf}
+use Rattle.planned.specs.Planned.{columnsOf}
 use Rattle.sqldard.specs.declared.Decision.{Decision}
 use Rattle.sqldard.specs.Description.{Description}
 

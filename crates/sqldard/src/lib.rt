@@ -6,13 +6,13 @@ ghost use lib.ListN.{length, drop};
 ghost use Rattle.search.specs.Search.{over};
 ghost use Rattle.codepage.specs.Page.{page037};
 ghost use Rattle.outcome.specs.Refusal.{refusalOf};
-ghost use Rattle.plan.specs.Plan.{columnsOf};
+ghost use Rattle.planned.specs.Planned.{columnsOf};
 ghost use Rattle.sqldard.specs.Decision.{Decides};
 ghost use Rattle.sqldard.specs.Description.{refusedWith, statusOf, description, withCodePoint};
 use field::ByteOrder;
 use outcome::Outcome;
-use plan::Layout;
-use plan::Plan;
+use planned::Layout;
+use planned::Plan;
 use sqlcard::SqlCard;
 use types::ColumnMetadata;
 

@@ -9,7 +9,7 @@ use Rattle.codepage.specs.Page.{Page}
 use Rattle.outcome.specs.declared.Refusal.{Refusal}
 use Rattle.outcome.specs.Refusal.{refusalOf, inNumbers}
 use Rattle.types.specs.declared.ColumnMetadata.{ColumnMetadata}
-use Rattle.plan.specs.Plan.{columnsOf}
+use Rattle.planned.specs.Planned.{columnsOf}
 use Rattle.sqldard.specs.declared.Decision.{Decision}
 use Rattle.sqldard.specs.Decision.{Decides}
 use Rattle.sqldard.specs.Description.{Description}

@@ -5,11 +5,11 @@ ghost use lib.ListN.{length};
 ghost use Rattle.search.specs.Search.{over};
 ghost use Rattle.codepage.specs.Page.{page037};
 ghost use Rattle.outcome.specs.Refusal.{refusalOf, inNumbers};
-ghost use Rattle.plan.specs.Plan.{columnsOf};
+ghost use Rattle.planned.specs.Planned.{columnsOf};
 ghost use Rattle.column_words.specs.Words.{allWords};
 ghost use Rattle.sqldard.specs.Description.{description, withCodePoint};
 use outcome::Refusal;
-use plan::Plan;
+use planned::Plan;
 use sqlcard::SqlCard;
 use sqldard::SqldardAnswer;
 

@@ -8,7 +8,7 @@ use native.Mathlib.Omega.{arith}
 use borrow.Author.Needs.{needs}
 use Rattle.search.proofs.Filling.{Filling, filling-none, filling-reads, filling-more, filling-done}
 use Rattle.codepage.specs.Page.{page037}
-use Rattle.plan.specs.Plan.{walkOf, columnsOf}
+use Rattle.planned.specs.Planned.{walkOf, columnsOf}
 use Rattle.sqldard.proofs.fill_columns.Statement.{statement}
 use Rattle.sqldard.proofs.fill_columns.Proof.Tie as tie
 

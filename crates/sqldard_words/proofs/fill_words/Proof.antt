@@ -9,7 +9,7 @@ use Rattle.search.proofs.Filling.{FillingBy, filling-by-none, filling-by-reads,
 use Rattle.codepage.specs.Page.{page037}
 use Rattle.column_words.specs.Words.{wordsOf, allWords}
 use Rattle.column_words.proofs.Words.{words-length, all-length}
-use Rattle.plan.specs.Plan.{walkOf, columnsOf}
+use Rattle.planned.specs.Planned.{walkOf, columnsOf}
 use Rattle.sqldard_words.proofs.fill_words.Statement.{statement}
 use Rattle.sqldard_words.proofs.fill_words.Tie as tie
 

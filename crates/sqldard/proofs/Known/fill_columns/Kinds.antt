@@ -1,7 +1,7 @@
 -- Made by tools/lists.py from the source of `sqldard::fill_columns`: do not edit.
 use Rattle.sqldard.proofs.ColumnMetadataRow as ColumnMetadataRow
-use Rattle.plan.proofs.Plan
-use Rattle.plan.proofs.Plan.Laws
+use Rattle.planned.proofs.Plan
+use Rattle.planned.proofs.Plan.Laws
 use borrow.Fn.Kinds
 use borrow.Kind.MutSlice
 use borrow.Kind.ShrSlice

@@ -1,10 +1,10 @@
 -- Made by tools/lists.py from the source of `sqldard::fill_columns`: do not edit.
 use Rattle.sqldard.proofs.ColumnMetadataRow as ColumnMetadataRow
 use Prim.Native.Nat
-use Rattle.plan.proofs.Plan
-use Rattle.plan.proofs.Plan.Laws
 use Rattle.planned.proofs.ColumnRead
-use Rattle.planned.proofs.ColumnRead.Laws as Laws'
+use Rattle.planned.proofs.ColumnRead.Laws
+use Rattle.planned.proofs.Plan
+use Rattle.planned.proofs.Plan.Laws as Laws'
 use borrow.Author.Called
 use borrow.Author.Tests
 use borrow.Fn.Any
@@ -57,7 +57,7 @@ use prog.Wp
 use types.Kit
 
 abbrev pub ps : List.List (Kinds.PK 2)
-ps = List._∷_ (ShrSlice.pShrS (Referent.rtF (Referent.fInt Syntax.w8)) 0 tt) (List._∷_ (Value.pVal record { ty = Declared.row Plan.the-type; one = Path'.refl; val = Laws''.val Plan.the-type Laws.the-laws; tells = Laws''.tells Plan.the-type Laws.the-laws; still = Laws''.still Plan.the-type Laws.the-copy Exit.yes; row = Rows'.whole (Declared.row Plan.the-type); rd = λ x. x; mk = λ x. x } λ M 𝓤 H A W. record { copies = Laws''.copy Plan.the-type Laws.the-copy 𝓤 H A W; lawful = Laws''.lawful Plan.the-type Laws.the-laws 𝓤 H A W; makes = Laws''.makes Plan.the-type Laws.the-plain 𝓤 H A; in-mem = Local.mem-whole 𝓤 H A W (Declared.row Plan.the-type); of-mem = Local.whole-mem 𝓤 H A W (Declared.row Plan.the-type) }) (List._∷_ (MutSlice.pMutS (ColumnMetadataRow.RT) 1 tt) List.[]))
+ps = List._∷_ (ShrSlice.pShrS (Referent.rtF (Referent.fInt Syntax.w8)) 0 tt) (List._∷_ (Value.pVal record { ty = Declared.row Plan.the-type; one = Path'.refl; val = Laws''.val Plan.the-type Laws'.the-laws; tells = Laws''.tells Plan.the-type Laws'.the-laws; still = Laws''.still Plan.the-type Laws'.the-copy Exit.yes; row = Rows'.whole (Declared.row Plan.the-type); rd = λ x. x; mk = λ x. x } λ M 𝓤 H A W. record { copies = Laws''.copy Plan.the-type Laws'.the-copy 𝓤 H A W; lawful = Laws''.lawful Plan.the-type Laws'.the-laws 𝓤 H A W; makes = Laws''.makes Plan.the-type Laws'.the-plain 𝓤 H A; in-mem = Local.mem-whole 𝓤 H A W (Declared.row Plan.the-type); of-mem = Local.whole-mem 𝓤 H A W (Declared.row Plan.the-type) }) (List._∷_ (MutSlice.pMutS (ColumnMetadataRow.RT) 1 tt) List.[]))
 
 abbrev pub r : Kinds.RK 2
 r = Unit'.rUnit
@@ -69,19 +69,19 @@ abbrev pub m : Nat.ℕ
 m = 0
 
 abbrev pub ps·0 : List.List (Kinds.PK 1)
-ps·0 = List._∷_ (ShrSlice.pShrS (Referent.rtF (Referent.fInt Syntax.w8)) 0 tt) (List._∷_ (Value.pVal record { ty = Declared.row Plan.the-type; one = Path'.refl; val = Laws''.val Plan.the-type Laws.the-laws; tells = Laws''.tells Plan.the-type Laws.the-laws; still = Laws''.still Plan.the-type Laws.the-copy Exit.yes; row = Rows'.whole (Declared.row Plan.the-type); rd = λ x. x; mk = λ x. x } λ M 𝓤 H A W. record { copies = Laws''.copy Plan.the-type Laws.the-copy 𝓤 H A W; lawful = Laws''.lawful Plan.the-type Laws.the-laws 𝓤 H A W; makes = Laws''.makes Plan.the-type Laws.the-plain 𝓤 H A; in-mem = Local.mem-whole 𝓤 H A W (Declared.row Plan.the-type); of-mem = Local.whole-mem 𝓤 H A W (Declared.row Plan.the-type) }) (List._∷_ (Num.pNum Syntax.w64) (List._∷_ (Num.pNum Syntax.w64) List.[])))
+ps·0 = List._∷_ (ShrSlice.pShrS (Referent.rtF (Referent.fInt Syntax.w8)) 0 tt) (List._∷_ (Value.pVal record { ty = Declared.row Plan.the-type; one = Path'.refl; val = Laws''.val Plan.the-type Laws'.the-laws; tells = Laws''.tells Plan.the-type Laws'.the-laws; still = Laws''.still Plan.the-type Laws'.the-copy Exit.yes; row = Rows'.whole (Declared.row Plan.the-type); rd = λ x. x; mk = λ x. x } λ M 𝓤 H A W. record { copies = Laws''.copy Plan.the-type Laws'.the-copy 𝓤 H A W; lawful = Laws''.lawful Plan.the-type Laws'.the-laws 𝓤 H A W; makes = Laws''.makes Plan.the-type Laws'.the-plain 𝓤 H A; in-mem = Local.mem-whole 𝓤 H A W (Declared.row Plan.the-type); of-mem = Local.whole-mem 𝓤 H A W (Declared.row Plan.the-type) }) (List._∷_ (Num.pNum Syntax.w64) (List._∷_ (Num.pNum Syntax.w64) List.[])))
 
 abbrev pub r·0 : Kinds.RK 1
-r·0 = Value.rVal record { ty = Declared.row ColumnRead.the-type; one = Path'.refl; val = Laws''.val ColumnRead.the-type Laws'.the-laws; tells = Laws''.tells ColumnRead.the-type Laws'.the-laws; still = Laws''.still ColumnRead.the-type Laws'.the-copy Exit.yes; row = Rows'.whole (Declared.row ColumnRead.the-type); rd = λ x. x; mk = λ x. x } λ M 𝓤 H A W. record { copies = Laws''.copy ColumnRead.the-type Laws'.the-copy 𝓤 H A W; lawful = Laws''.lawful ColumnRead.the-type Laws'.the-laws 𝓤 H A W; makes = Laws''.makes ColumnRead.the-type Laws'.the-plain 𝓤 H A; in-mem = Local.mem-whole 𝓤 H A W (Declared.row ColumnRead.the-type); of-mem = Local.whole-mem 𝓤 H A W (Declared.row ColumnRead.the-type) }
+r·0 = Value.rVal record { ty = Declared.row ColumnRead.the-type; one = Path'.refl; val = Laws''.val ColumnRead.the-type Laws.the-laws; tells = Laws''.tells ColumnRead.the-type Laws.the-laws; still = Laws''.still ColumnRead.the-type Laws.the-copy Exit.yes; row = Rows'.whole (Declared.row ColumnRead.the-type); rd = λ x. x; mk = λ x. x } λ M 𝓤 H A W. record { copies = Laws''.copy ColumnRead.the-type Laws.the-copy 𝓤 H A W; lawful = Laws''.lawful ColumnRead.the-type Laws.the-laws 𝓤 H A W; makes = Laws''.makes ColumnRead.the-type Laws.the-plain 𝓤 H A; in-mem = Local.mem-whole 𝓤 H A W (Declared.row ColumnRead.the-type); of-mem = Local.whole-mem 𝓤 H A W (Declared.row ColumnRead.the-type) }
 
 abbrev pub ps·1 : List.List (Kinds.PK 0)
-ps·1 = List._∷_ (Value.pVal record { ty = Declared.row ColumnRead.the-type; one = Path'.refl; val = Laws''.val ColumnRead.the-type Laws'.the-laws; tells = Laws''.tells ColumnRead.the-type Laws'.the-laws; still = Laws''.still ColumnRead.the-type Laws'.the-copy Exit.yes; row = Rows'.whole (Declared.row ColumnRead.the-type); rd = λ x. x; mk = λ x. x } λ M 𝓤 H A W. record { copies = Laws''.copy ColumnRead.the-type Laws'.the-copy 𝓤 H A W; lawful = Laws''.lawful ColumnRead.the-type Laws'.the-laws 𝓤 H A W; makes = Laws''.makes ColumnRead.the-type Laws'.the-plain 𝓤 H A; in-mem = Local.mem-whole 𝓤 H A W (Declared.row ColumnRead.the-type); of-mem = Local.whole-mem 𝓤 H A W (Declared.row ColumnRead.the-type) }) List.[]
+ps·1 = List._∷_ (Value.pVal record { ty = Declared.row ColumnRead.the-type; one = Path'.refl; val = Laws''.val ColumnRead.the-type Laws.the-laws; tells = Laws''.tells ColumnRead.the-type Laws.the-laws; still = Laws''.still ColumnRead.the-type Laws.the-copy Exit.yes; row = Rows'.whole (Declared.row ColumnRead.the-type); rd = λ x. x; mk = λ x. x } λ M 𝓤 H A W. record { copies = Laws''.copy ColumnRead.the-type Laws.the-copy 𝓤 H A W; lawful = Laws''.lawful ColumnRead.the-type Laws.the-laws 𝓤 H A W; makes = Laws''.makes ColumnRead.the-type Laws.the-plain 𝓤 H A; in-mem = Local.mem-whole 𝓤 H A W (Declared.row ColumnRead.the-type); of-mem = Local.whole-mem 𝓤 H A W (Declared.row ColumnRead.the-type) }) List.[]
 
 abbrev pub r·1 : Kinds.RK 0
 r·1 = ColumnMetadataRow.result
 
 abbrev pub ps·2 : List.List (Kinds.PK 0)
-ps·2 = List._∷_ (Value.pVal record { ty = Declared.row ColumnRead.the-type; one = Path'.refl; val = Laws''.val ColumnRead.the-type Laws'.the-laws; tells = Laws''.tells ColumnRead.the-type Laws'.the-laws; still = Laws''.still ColumnRead.the-type Laws'.the-copy Exit.yes; row = Rows'.whole (Declared.row ColumnRead.the-type); rd = λ x. x; mk = λ x. x } λ M 𝓤 H A W. record { copies = Laws''.copy ColumnRead.the-type Laws'.the-copy 𝓤 H A W; lawful = Laws''.lawful ColumnRead.the-type Laws'.the-laws 𝓤 H A W; makes = Laws''.makes ColumnRead.the-type Laws'.the-plain 𝓤 H A; in-mem = Local.mem-whole 𝓤 H A W (Declared.row ColumnRead.the-type); of-mem = Local.whole-mem 𝓤 H A W (Declared.row ColumnRead.the-type) }) List.[]
+ps·2 = List._∷_ (Value.pVal record { ty = Declared.row ColumnRead.the-type; one = Path'.refl; val = Laws''.val ColumnRead.the-type Laws.the-laws; tells = Laws''.tells ColumnRead.the-type Laws.the-laws; still = Laws''.still ColumnRead.the-type Laws.the-copy Exit.yes; row = Rows'.whole (Declared.row ColumnRead.the-type); rd = λ x. x; mk = λ x. x } λ M 𝓤 H A W. record { copies = Laws''.copy ColumnRead.the-type Laws.the-copy 𝓤 H A W; lawful = Laws''.lawful ColumnRead.the-type Laws.the-laws 𝓤 H A W; makes = Laws''.makes ColumnRead.the-type Laws.the-plain 𝓤 H A; in-mem = Local.mem-whole 𝓤 H A W (Declared.row ColumnRead.the-type); of-mem = Local.whole-mem 𝓤 H A W (Declared.row ColumnRead.the-type) }) List.[]
 
 abbrev pub r·2 : Kinds.RK 0
 r·2 = Num.rNum Syntax.w64
@@ -192,7 +192,7 @@ abbrev pub t0 : List.List Row.Entry
 t0 = List._∷_ (0, Rows'.any-gone Syntax.tyUnit) (List._∷_ (1, Rows'.sslice (Referent.rtF (Referent.fInt Syntax.w8)) (Syntax.tyRef (Syntax.named 0) Syntax.imm (Syntax.tyInt Syntax.w8)) 0) (List._∷_ (2, Rows'.whole (Declared.row Plan.the-type)) (List._∷_ (3, Mut.mslice (ColumnMetadataRow.RT) (Syntax.tyRef (Syntax.named 1) Syntax.mut ColumnMetadataRow.named) 1) (List._∷_ (4, Rows'.any-gone (Syntax.tyInt Syntax.w64)) (List._∷_ (5, Rows'.any-gone (Syntax.tyInt Syntax.w64)) (List._∷_ (6, Rows'.any-gone (Syntax.tyInt Syntax.w64)) (List._∷_ (7, Rows'.any-gone (Syntax.tyStruct (List._∷_ 112 (List._∷_ 108 (List._∷_ 97 (List._∷_ 110 (List._∷_ 110 (List._∷_ 101 (List._∷_ 100 (List._∷_ 58 (List._∷_ 58 (List._∷_ 67 (List._∷_ 111 (List._∷_ 108 (List._∷_ 117 (List._∷_ 109 (List._∷_ 110 (List._∷_ 82 (List._∷_ 101 (List._∷_ 97 (List._∷_ 100 List.[]))))))))))))))))))) (Syntax.tcons (ColumnMetadataRow.ty) (Syntax.tcons (Syntax.tyInt Syntax.w64) Syntax.tnil)))) (List._∷_ (8, Rows'.any-gone (ColumnMetadataRow.ty)) (List._∷_ (9, Rows'.any-gone Syntax.tyBool) (List._∷_ (10, Rows'.any-gone (Syntax.tyInt Syntax.w64)) (List._∷_ (11, Rows'.any-gone Syntax.tyPtr) List.[])))))))))))
 
 abbrev pub t1 : List.List Row.Entry
-t1 = List._∷_ (0, Rows'.sc-here Row.sUnit) (List._∷_ (1, Rows'.sslice (Referent.rtF (Referent.fInt Syntax.w8)) (Syntax.tyRef (Syntax.named 0) Syntax.imm (Syntax.tyInt Syntax.w8)) 0) (List._∷_ (2, Rows'.any-gone (Syntax.tyStruct (List._∷_ 112 (List._∷_ 108 (List._∷_ 97 (List._∷_ 110 (List._∷_ 58 (List._∷_ 58 (List._∷_ 80 (List._∷_ 108 (List._∷_ 97 (List._∷_ 110 List.[])))))))))) (Syntax.tcons (Syntax.tyEnum (List._∷_ 112 (List._∷_ 108 (List._∷_ 97 (List._∷_ 110 (List._∷_ 58 (List._∷_ 58 (List._∷_ 76 (List._∷_ 97 (List._∷_ 121 (List._∷_ 111 (List._∷_ 117 (List._∷_ 116 List.[])))))))))))) (Syntax.ttcons Syntax.tnil (Syntax.ttcons Syntax.tnil (Syntax.ttcons Syntax.tnil Syntax.ttnil)))) (Syntax.tcons (Syntax.tyEnum (List._∷_ 102 (List._∷_ 105 (List._∷_ 101 (List._∷_ 108 (List._∷_ 100 (List._∷_ 58 (List._∷_ 58 (List._∷_ 66 (List._∷_ 121 (List._∷_ 116 (List._∷_ 101 (List._∷_ 79 (List._∷_ 114 (List._∷_ 100 (List._∷_ 101 (List._∷_ 114 List.[])))))))))))))))) (Syntax.ttcons Syntax.tnil (Syntax.ttcons Syntax.tnil Syntax.ttnil))) (Syntax.tcons Syntax.tyBool (Syntax.tcons (Syntax.tyInt Syntax.w64) (Syntax.tcons (Syntax.tyInt Syntax.w64) (Syntax.tcons (Syntax.tyInt Syntax.w64) (Syntax.tcons (Syntax.tyInt Syntax.w64) (Syntax.tcons (Syntax.tyEnum (List._∷_ 111 (List._∷_ 117 (List._∷_ 116 (List._∷_ 99 (List._∷_ 111 (List._∷_ 109 (List._∷_ 101 (List._∷_ 58 (List._∷_ 58 (List._∷_ 79 (List._∷_ 117 (List._∷_ 116 (List._∷_ 99 (List._∷_ 111 (List._∷_ 109 (List._∷_ 101 List.[])))))))))))))))) (Syntax.ttcons Syntax.tnil (Syntax.ttcons Syntax.tnil (Syntax.ttcons (Syntax.tcons (Syntax.tyInt Syntax.w64) (Syntax.tcons (Syntax.tyInt Syntax.w64) Syntax.tnil)) (Syntax.ttcons Syntax.tnil (Syntax.ttcons (Syntax.tcons (Syntax.tyInt Syntax.w16) Syntax.tnil) (Syntax.ttcons Syntax.tnil (Syntax.ttcons (Syntax.tcons (Syntax.tyInt Syntax.w64) Syntax.tnil) (Syntax.ttcons Syntax.tnil (Syntax.ttcons (Syntax.tcons (Syntax.tyInt Syntax.w16) Syntax.tnil) Syntax.ttnil)))))))))) Syntax.tnil)))))))))) (List._∷_ (3, Mut.mslice (ColumnMetadataRow.RT) (Syntax.tyRef (Syntax.named 1) Syntax.mut ColumnMetadataRow.named) 1) (List._∷_ (4, Rows'.any-gone (Syntax.tyInt Syntax.w64)) (List._∷_ (5, Rows'.any-gone (Syntax.tyInt Syntax.w64)) (List._∷_ (6, Rows'.any-gone (Syntax.tyInt Syntax.w64)) (List._∷_ (7, Rows'.any-gone (Syntax.tyStruct (List._∷_ 112 (List._∷_ 108 (List._∷_ 97 (List._∷_ 110 (List._∷_ 110 (List._∷_ 101 (List._∷_ 100 (List._∷_ 58 (List._∷_ 58 (List._∷_ 67 (List._∷_ 111 (List._∷_ 108 (List._∷_ 117 (List._∷_ 109 (List._∷_ 110 (List._∷_ 82 (List._∷_ 101 (List._∷_ 97 (List._∷_ 100 List.[]))))))))))))))))))) (Syntax.tcons (ColumnMetadataRow.ty) (Syntax.tcons (Syntax.tyInt Syntax.w64) Syntax.tnil)))) (List._∷_ (8, Rows'.any-gone (ColumnMetadataRow.ty)) (List._∷_ (9, Rows'.any-gone Syntax.tyBool) (List._∷_ (10, Rows'.any-gone (Syntax.tyInt Syntax.w64)) (List._∷_ (11, Rows'.any-gone Syntax.tyPtr) List.[])))))))))))
+t1 = List._∷_ (0, Rows'.sc-here Row.sUnit) (List._∷_ (1, Rows'.sslice (Referent.rtF (Referent.fInt Syntax.w8)) (Syntax.tyRef (Syntax.named 0) Syntax.imm (Syntax.tyInt Syntax.w8)) 0) (List._∷_ (2, Rows'.any-gone (Syntax.tyStruct (List._∷_ 112 (List._∷_ 108 (List._∷_ 97 (List._∷_ 110 (List._∷_ 110 (List._∷_ 101 (List._∷_ 100 (List._∷_ 58 (List._∷_ 58 (List._∷_ 80 (List._∷_ 108 (List._∷_ 97 (List._∷_ 110 List.[]))))))))))))) (Syntax.tcons (Syntax.tyEnum (List._∷_ 112 (List._∷_ 108 (List._∷_ 97 (List._∷_ 110 (List._∷_ 110 (List._∷_ 101 (List._∷_ 100 (List._∷_ 58 (List._∷_ 58 (List._∷_ 76 (List._∷_ 97 (List._∷_ 121 (List._∷_ 111 (List._∷_ 117 (List._∷_ 116 List.[]))))))))))))))) (Syntax.ttcons Syntax.tnil (Syntax.ttcons Syntax.tnil (Syntax.ttcons Syntax.tnil Syntax.ttnil)))) (Syntax.tcons (Syntax.tyEnum (List._∷_ 102 (List._∷_ 105 (List._∷_ 101 (List._∷_ 108 (List._∷_ 100 (List._∷_ 58 (List._∷_ 58 (List._∷_ 66 (List._∷_ 121 (List._∷_ 116 (List._∷_ 101 (List._∷_ 79 (List._∷_ 114 (List._∷_ 100 (List._∷_ 101 (List._∷_ 114 List.[])))))))))))))))) (Syntax.ttcons Syntax.tnil (Syntax.ttcons Syntax.tnil Syntax.ttnil))) (Syntax.tcons Syntax.tyBool (Syntax.tcons (Syntax.tyInt Syntax.w64) (Syntax.tcons (Syntax.tyInt Syntax.w64) (Syntax.tcons (Syntax.tyInt Syntax.w64) (Syntax.tcons (Syntax.tyInt Syntax.w64) (Syntax.tcons (Syntax.tyEnum (List._∷_ 111 (List._∷_ 117 (List._∷_ 116 (List._∷_ 99 (List._∷_ 111 (List._∷_ 109 (List._∷_ 101 (List._∷_ 58 (List._∷_ 58 (List._∷_ 79 (List._∷_ 117 (List._∷_ 116 (List._∷_ 99 (List._∷_ 111 (List._∷_ 109 (List._∷_ 101 List.[])))))))))))))))) (Syntax.ttcons Syntax.tnil (Syntax.ttcons Syntax.tnil (Syntax.ttcons (Syntax.tcons (Syntax.tyInt Syntax.w64) (Syntax.tcons (Syntax.tyInt Syntax.w64) Syntax.tnil)) (Syntax.ttcons Syntax.tnil (Syntax.ttcons (Syntax.tcons (Syntax.tyInt Syntax.w16) Syntax.tnil) (Syntax.ttcons Syntax.tnil (Syntax.ttcons (Syntax.tcons (Syntax.tyInt Syntax.w64) Syntax.tnil) (Syntax.ttcons Syntax.tnil (Syntax.ttcons (Syntax.tcons (Syntax.tyInt Syntax.w16) Syntax.tnil) Syntax.ttnil)))))))))) Syntax.tnil)))))))))) (List._∷_ (3, Mut.mslice (ColumnMetadataRow.RT) (Syntax.tyRef (Syntax.named 1) Syntax.mut ColumnMetadataRow.named) 1) (List._∷_ (4, Rows'.any-gone (Syntax.tyInt Syntax.w64)) (List._∷_ (5, Rows'.any-gone (Syntax.tyInt Syntax.w64)) (List._∷_ (6, Rows'.any-gone (Syntax.tyInt Syntax.w64)) (List._∷_ (7, Rows'.any-gone (Syntax.tyStruct (List._∷_ 112 (List._∷_ 108 (List._∷_ 97 (List._∷_ 110 (List._∷_ 110 (List._∷_ 101 (List._∷_ 100 (List._∷_ 58 (List._∷_ 58 (List._∷_ 67 (List._∷_ 111 (List._∷_ 108 (List._∷_ 117 (List._∷_ 109 (List._∷_ 110 (List._∷_ 82 (List._∷_ 101 (List._∷_ 97 (List._∷_ 100 List.[]))))))))))))))))))) (Syntax.tcons (ColumnMetadataRow.ty) (Syntax.tcons (Syntax.tyInt Syntax.w64) Syntax.tnil)))) (List._∷_ (8, Rows'.any-gone (ColumnMetadataRow.ty)) (List._∷_ (9, Rows'.any-gone Syntax.tyBool) (List._∷_ (10, Rows'.any-gone (Syntax.tyInt Syntax.w64)) (List._∷_ (11, Rows'.any-gone Syntax.tyPtr) List.[])))))))))))
 
 abbrev pub t2 : List.List Row.Entry
 t2 = List._∷_ (0, Rows'.any-gone Syntax.tyUnit) (List._∷_ (1, Rows'.sslice (Referent.rtF (Referent.fInt Syntax.w8)) (Syntax.tyRef (Syntax.named 0) Syntax.imm (Syntax.tyInt Syntax.w8)) 0) (List._∷_ (2, Rows'.whole (Declared.row Plan.the-type)) (List._∷_ (3, Mut.mslice (ColumnMetadataRow.RT) (Syntax.tyRef (Syntax.named 1) Syntax.mut ColumnMetadataRow.named) 1) (List._∷_ (4, Rows'.sc-here (Row.sInt Syntax.w64)) (List._∷_ (5, Rows'.any-gone (Syntax.tyInt Syntax.w64)) (List._∷_ (6, Rows'.any-gone (Syntax.tyInt Syntax.w64)) (List._∷_ (7, Rows'.any-gone (Syntax.tyStruct (List._∷_ 112 (List._∷_ 108 (List._∷_ 97 (List._∷_ 110 (List._∷_ 110 (List._∷_ 101 (List._∷_ 100 (List._∷_ 58 (List._∷_ 58 (List._∷_ 67 (List._∷_ 111 (List._∷_ 108 (List._∷_ 117 (List._∷_ 109 (List._∷_ 110 (List._∷_ 82 (List._∷_ 101 (List._∷_ 97 (List._∷_ 100 List.[]))))))))))))))))))) (Syntax.tcons (ColumnMetadataRow.ty) (Syntax.tcons (Syntax.tyInt Syntax.w64) Syntax.tnil)))) (List._∷_ (8, Rows'.any-gone (ColumnMetadataRow.ty)) (List._∷_ (9, Rows'.any-gone Syntax.tyBool) (List._∷_ (10, Rows'.any-gone (Syntax.tyInt Syntax.w64)) (List._∷_ (11, Rows'.any-gone Syntax.tyPtr) List.[])))))))))))
@@ -204,13 +204,13 @@ abbrev pub t4 : List.List Row.Entry
 t4 = List._∷_ (0, Rows'.any-gone Syntax.tyUnit) (List._∷_ (1, Rows'.sslice (Referent.rtF (Referent.fInt Syntax.w8)) (Syntax.tyRef (Syntax.named 0) Syntax.imm (Syntax.tyInt Syntax.w8)) 0) (List._∷_ (2, Rows'.whole (Declared.row Plan.the-type)) (List._∷_ (3, Mut.mslice (ColumnMetadataRow.RT) (Syntax.tyRef (Syntax.named 1) Syntax.mut ColumnMetadataRow.named) 1) (List._∷_ (4, Rows'.sc-here (Row.sInt Syntax.w64)) (List._∷_ (5, Rows'.sc-here (Row.sInt Syntax.w64)) (List._∷_ (6, Rows'.sc-here (Row.sInt Syntax.w64)) (List._∷_ (7, Rows'.any-gone (Syntax.tyStruct (List._∷_ 112 (List._∷_ 108 (List._∷_ 97 (List._∷_ 110 (List._∷_ 110 (List._∷_ 101 (List._∷_ 100 (List._∷_ 58 (List._∷_ 58 (List._∷_ 67 (List._∷_ 111 (List._∷_ 108 (List._∷_ 117 (List._∷_ 109 (List._∷_ 110 (List._∷_ 82 (List._∷_ 101 (List._∷_ 97 (List._∷_ 100 List.[]))))))))))))))))))) (Syntax.tcons (ColumnMetadataRow.ty) (Syntax.tcons (Syntax.tyInt Syntax.w64) Syntax.tnil)))) (List._∷_ (8, Rows'.any-gone (ColumnMetadataRow.ty)) (List._∷_ (9, Rows'.any-gone Syntax.tyBool) (List._∷_ (10, Rows'.any-gone (Syntax.tyInt Syntax.w64)) (List._∷_ (11, Rows'.any-gone Syntax.tyPtr) List.[])))))))))))
 
 abbrev pub t5 : List.List Row.Entry
-t5 = List._∷_ (0, Rows'.any-gone Syntax.tyUnit) (List._∷_ (1, Rows'.sslice (Referent.rtF (Referent.fInt Syntax.w8)) (Syntax.tyRef (Syntax.named 0) Syntax.imm (Syntax.tyInt Syntax.w8)) 0) (List._∷_ (2, Rows'.any-gone (Syntax.tyStruct (List._∷_ 112 (List._∷_ 108 (List._∷_ 97 (List._∷_ 110 (List._∷_ 58 (List._∷_ 58 (List._∷_ 80 (List._∷_ 108 (List._∷_ 97 (List._∷_ 110 List.[])))))))))) (Syntax.tcons (Syntax.tyEnum (List._∷_ 112 (List._∷_ 108 (List._∷_ 97 (List._∷_ 110 (List._∷_ 58 (List._∷_ 58 (List._∷_ 76 (List._∷_ 97 (List._∷_ 121 (List._∷_ 111 (List._∷_ 117 (List._∷_ 116 List.[])))))))))))) (Syntax.ttcons Syntax.tnil (Syntax.ttcons Syntax.tnil (Syntax.ttcons Syntax.tnil Syntax.ttnil)))) (Syntax.tcons (Syntax.tyEnum (List._∷_ 102 (List._∷_ 105 (List._∷_ 101 (List._∷_ 108 (List._∷_ 100 (List._∷_ 58 (List._∷_ 58 (List._∷_ 66 (List._∷_ 121 (List._∷_ 116 (List._∷_ 101 (List._∷_ 79 (List._∷_ 114 (List._∷_ 100 (List._∷_ 101 (List._∷_ 114 List.[])))))))))))))))) (Syntax.ttcons Syntax.tnil (Syntax.ttcons Syntax.tnil Syntax.ttnil))) (Syntax.tcons Syntax.tyBool (Syntax.tcons (Syntax.tyInt Syntax.w64) (Syntax.tcons (Syntax.tyInt Syntax.w64) (Syntax.tcons (Syntax.tyInt Syntax.w64) (Syntax.tcons (Syntax.tyInt Syntax.w64) (Syntax.tcons (Syntax.tyEnum (List._∷_ 111 (List._∷_ 117 (List._∷_ 116 (List._∷_ 99 (List._∷_ 111 (List._∷_ 109 (List._∷_ 101 (List._∷_ 58 (List._∷_ 58 (List._∷_ 79 (List._∷_ 117 (List._∷_ 116 (List._∷_ 99 (List._∷_ 111 (List._∷_ 109 (List._∷_ 101 List.[])))))))))))))))) (Syntax.ttcons Syntax.tnil (Syntax.ttcons Syntax.tnil (Syntax.ttcons (Syntax.tcons (Syntax.tyInt Syntax.w64) (Syntax.tcons (Syntax.tyInt Syntax.w64) Syntax.tnil)) (Syntax.ttcons Syntax.tnil (Syntax.ttcons (Syntax.tcons (Syntax.tyInt Syntax.w16) Syntax.tnil) (Syntax.ttcons Syntax.tnil (Syntax.ttcons (Syntax.tcons (Syntax.tyInt Syntax.w64) Syntax.tnil) (Syntax.ttcons Syntax.tnil (Syntax.ttcons (Syntax.tcons (Syntax.tyInt Syntax.w16) Syntax.tnil) Syntax.ttnil)))))))))) Syntax.tnil)))))))))) (List._∷_ (3, Mut.mslice (ColumnMetadataRow.RT) (Syntax.tyRef (Syntax.named 1) Syntax.mut ColumnMetadataRow.named) 1) (List._∷_ (4, Rows'.sc-here (Row.sInt Syntax.w64)) (List._∷_ (5, Rows'.sc-here (Row.sInt Syntax.w64)) (List._∷_ (6, Rows'.sc-here (Row.sInt Syntax.w64)) (List._∷_ (7, Rows'.any-gone (Syntax.tyStruct (List._∷_ 112 (List._∷_ 108 (List._∷_ 97 (List._∷_ 110 (List._∷_ 110 (List._∷_ 101 (List._∷_ 100 (List._∷_ 58 (List._∷_ 58 (List._∷_ 67 (List._∷_ 111 (List._∷_ 108 (List._∷_ 117 (List._∷_ 109 (List._∷_ 110 (List._∷_ 82 (List._∷_ 101 (List._∷_ 97 (List._∷_ 100 List.[]))))))))))))))))))) (Syntax.tcons (ColumnMetadataRow.ty) (Syntax.tcons (Syntax.tyInt Syntax.w64) Syntax.tnil)))) (List._∷_ (8, Rows'.any-gone (ColumnMetadataRow.ty)) (List._∷_ (9, Rows'.any-gone Syntax.tyBool) (List._∷_ (10, Rows'.any-gone (Syntax.tyInt Syntax.w64)) (List._∷_ (11, Rows'.any-gone Syntax.tyPtr) List.[])))))))))))
+t5 = List._∷_ (0, Rows'.any-gone Syntax.tyUnit) (List._∷_ (1, Rows'.sslice (Referent.rtF (Referent.fInt Syntax.w8)) (Syntax.tyRef (Syntax.named 0) Syntax.imm (Syntax.tyInt Syntax.w8)) 0) (List._∷_ (2, Rows'.any-gone (Syntax.tyStruct (List._∷_ 112 (List._∷_ 108 (List._∷_ 97 (List._∷_ 110 (List._∷_ 110 (List._∷_ 101 (List._∷_ 100 (List._∷_ 58 (List._∷_ 58 (List._∷_ 80 (List._∷_ 108 (List._∷_ 97 (List._∷_ 110 List.[]))))))))))))) (Syntax.tcons (Syntax.tyEnum (List._∷_ 112 (List._∷_ 108 (List._∷_ 97 (List._∷_ 110 (List._∷_ 110 (List._∷_ 101 (List._∷_ 100 (List._∷_ 58 (List._∷_ 58 (List._∷_ 76 (List._∷_ 97 (List._∷_ 121 (List._∷_ 111 (List._∷_ 117 (List._∷_ 116 List.[]))))))))))))))) (Syntax.ttcons Syntax.tnil (Syntax.ttcons Syntax.tnil (Syntax.ttcons Syntax.tnil Syntax.ttnil)))) (Syntax.tcons (Syntax.tyEnum (List._∷_ 102 (List._∷_ 105 (List._∷_ 101 (List._∷_ 108 (List._∷_ 100 (List._∷_ 58 (List._∷_ 58 (List._∷_ 66 (List._∷_ 121 (List._∷_ 116 (List._∷_ 101 (List._∷_ 79 (List._∷_ 114 (List._∷_ 100 (List._∷_ 101 (List._∷_ 114 List.[])))))))))))))))) (Syntax.ttcons Syntax.tnil (Syntax.ttcons Syntax.tnil Syntax.ttnil))) (Syntax.tcons Syntax.tyBool (Syntax.tcons (Syntax.tyInt Syntax.w64) (Syntax.tcons (Syntax.tyInt Syntax.w64) (Syntax.tcons (Syntax.tyInt Syntax.w64) (Syntax.tcons (Syntax.tyInt Syntax.w64) (Syntax.tcons (Syntax.tyEnum (List._∷_ 111 (List._∷_ 117 (List._∷_ 116 (List._∷_ 99 (List._∷_ 111 (List._∷_ 109 (List._∷_ 101 (List._∷_ 58 (List._∷_ 58 (List._∷_ 79 (List._∷_ 117 (List._∷_ 116 (List._∷_ 99 (List._∷_ 111 (List._∷_ 109 (List._∷_ 101 List.[])))))))))))))))) (Syntax.ttcons Syntax.tnil (Syntax.ttcons Syntax.tnil (Syntax.ttcons (Syntax.tcons (Syntax.tyInt Syntax.w64) (Syntax.tcons (Syntax.tyInt Syntax.w64) Syntax.tnil)) (Syntax.ttcons Syntax.tnil (Syntax.ttcons (Syntax.tcons (Syntax.tyInt Syntax.w16) Syntax.tnil) (Syntax.ttcons Syntax.tnil (Syntax.ttcons (Syntax.tcons (Syntax.tyInt Syntax.w64) Syntax.tnil) (Syntax.ttcons Syntax.tnil (Syntax.ttcons (Syntax.tcons (Syntax.tyInt Syntax.w16) Syntax.tnil) Syntax.ttnil)))))))))) Syntax.tnil)))))))))) (List._∷_ (3, Mut.mslice (ColumnMetadataRow.RT) (Syntax.tyRef (Syntax.named 1) Syntax.mut ColumnMetadataRow.named) 1) (List._∷_ (4, Rows'.sc-here (Row.sInt Syntax.w64)) (List._∷_ (5, Rows'.sc-here (Row.sInt Syntax.w64)) (List._∷_ (6, Rows'.sc-here (Row.sInt Syntax.w64)) (List._∷_ (7, Rows'.any-gone (Syntax.tyStruct (List._∷_ 112 (List._∷_ 108 (List._∷_ 97 (List._∷_ 110 (List._∷_ 110 (List._∷_ 101 (List._∷_ 100 (List._∷_ 58 (List._∷_ 58 (List._∷_ 67 (List._∷_ 111 (List._∷_ 108 (List._∷_ 117 (List._∷_ 109 (List._∷_ 110 (List._∷_ 82 (List._∷_ 101 (List._∷_ 97 (List._∷_ 100 List.[]))))))))))))))))))) (Syntax.tcons (ColumnMetadataRow.ty) (Syntax.tcons (Syntax.tyInt Syntax.w64) Syntax.tnil)))) (List._∷_ (8, Rows'.any-gone (ColumnMetadataRow.ty)) (List._∷_ (9, Rows'.any-gone Syntax.tyBool) (List._∷_ (10, Rows'.any-gone (Syntax.tyInt Syntax.w64)) (List._∷_ (11, Rows'.any-gone Syntax.tyPtr) List.[])))))))))))
 
 abbrev pub t6 : List.List Row.Entry
 t6 = List._∷_ (0, Rows'.any-gone Syntax.tyUnit) (List._∷_ (1, Rows'.sslice (Referent.rtF (Referent.fInt Syntax.w8)) (Syntax.tyRef (Syntax.named 0) Syntax.imm (Syntax.tyInt Syntax.w8)) 0) (List._∷_ (2, Rows'.whole (Declared.row Plan.the-type)) (List._∷_ (3, Mut.mslice (ColumnMetadataRow.RT) (Syntax.tyRef (Syntax.named 1) Syntax.mut ColumnMetadataRow.named) 1) (List._∷_ (4, Rows'.sc-here (Row.sInt Syntax.w64)) (List._∷_ (5, Rows'.sc-here (Row.sInt Syntax.w64)) (List._∷_ (6, Rows'.sc-here (Row.sInt Syntax.w64)) (List._∷_ (7, Rows'.any-gone (Syntax.tyStruct (List._∷_ 112 (List._∷_ 108 (List._∷_ 97 (List._∷_ 110 (List._∷_ 110 (List._∷_ 101 (List._∷_ 100 (List._∷_ 58 (List._∷_ 58 (List._∷_ 67 (List._∷_ 111 (List._∷_ 108 (List._∷_ 117 (List._∷_ 109 (List._∷_ 110 (List._∷_ 82 (List._∷_ 101 (List._∷_ 97 (List._∷_ 100 List.[]))))))))))))))))))) (Syntax.tcons (ColumnMetadataRow.ty) (Syntax.tcons (Syntax.tyInt Syntax.w64) Syntax.tnil)))) (List._∷_ (8, Rows'.any-gone (ColumnMetadataRow.ty)) (List._∷_ (9, Rows'.sc-here Row.sBool) (List._∷_ (10, Rows'.any-gone (Syntax.tyInt Syntax.w64)) (List._∷_ (11, Rows'.any-gone Syntax.tyPtr) List.[])))))))))))
 
 abbrev pub t7 : List.List Row.Entry
-t7 = List._∷_ (0, Rows'.any-gone Syntax.tyUnit) (List._∷_ (1, Rows'.sslice (Referent.rtF (Referent.fInt Syntax.w8)) (Syntax.tyRef (Syntax.named 0) Syntax.imm (Syntax.tyInt Syntax.w8)) 0) (List._∷_ (2, Rows'.any-gone (Syntax.tyStruct (List._∷_ 112 (List._∷_ 108 (List._∷_ 97 (List._∷_ 110 (List._∷_ 58 (List._∷_ 58 (List._∷_ 80 (List._∷_ 108 (List._∷_ 97 (List._∷_ 110 List.[])))))))))) (Syntax.tcons (Syntax.tyEnum (List._∷_ 112 (List._∷_ 108 (List._∷_ 97 (List._∷_ 110 (List._∷_ 58 (List._∷_ 58 (List._∷_ 76 (List._∷_ 97 (List._∷_ 121 (List._∷_ 111 (List._∷_ 117 (List._∷_ 116 List.[])))))))))))) (Syntax.ttcons Syntax.tnil (Syntax.ttcons Syntax.tnil (Syntax.ttcons Syntax.tnil Syntax.ttnil)))) (Syntax.tcons (Syntax.tyEnum (List._∷_ 102 (List._∷_ 105 (List._∷_ 101 (List._∷_ 108 (List._∷_ 100 (List._∷_ 58 (List._∷_ 58 (List._∷_ 66 (List._∷_ 121 (List._∷_ 116 (List._∷_ 101 (List._∷_ 79 (List._∷_ 114 (List._∷_ 100 (List._∷_ 101 (List._∷_ 114 List.[])))))))))))))))) (Syntax.ttcons Syntax.tnil (Syntax.ttcons Syntax.tnil Syntax.ttnil))) (Syntax.tcons Syntax.tyBool (Syntax.tcons (Syntax.tyInt Syntax.w64) (Syntax.tcons (Syntax.tyInt Syntax.w64) (Syntax.tcons (Syntax.tyInt Syntax.w64) (Syntax.tcons (Syntax.tyInt Syntax.w64) (Syntax.tcons (Syntax.tyEnum (List._∷_ 111 (List._∷_ 117 (List._∷_ 116 (List._∷_ 99 (List._∷_ 111 (List._∷_ 109 (List._∷_ 101 (List._∷_ 58 (List._∷_ 58 (List._∷_ 79 (List._∷_ 117 (List._∷_ 116 (List._∷_ 99 (List._∷_ 111 (List._∷_ 109 (List._∷_ 101 List.[])))))))))))))))) (Syntax.ttcons Syntax.tnil (Syntax.ttcons Syntax.tnil (Syntax.ttcons (Syntax.tcons (Syntax.tyInt Syntax.w64) (Syntax.tcons (Syntax.tyInt Syntax.w64) Syntax.tnil)) (Syntax.ttcons Syntax.tnil (Syntax.ttcons (Syntax.tcons (Syntax.tyInt Syntax.w16) Syntax.tnil) (Syntax.ttcons Syntax.tnil (Syntax.ttcons (Syntax.tcons (Syntax.tyInt Syntax.w64) Syntax.tnil) (Syntax.ttcons Syntax.tnil (Syntax.ttcons (Syntax.tcons (Syntax.tyInt Syntax.w16) Syntax.tnil) Syntax.ttnil)))))))))) Syntax.tnil)))))))))) (List._∷_ (3, Mut.mslice (ColumnMetadataRow.RT) (Syntax.tyRef (Syntax.named 1) Syntax.mut ColumnMetadataRow.named) 1) (List._∷_ (4, Rows'.sc-here (Row.sInt Syntax.w64)) (List._∷_ (5, Rows'.sc-here (Row.sInt Syntax.w64)) (List._∷_ (6, Rows'.sc-here (Row.sInt Syntax.w64)) (List._∷_ (7, Rows'.any-gone (Syntax.tyStruct (List._∷_ 112 (List._∷_ 108 (List._∷_ 97 (List._∷_ 110 (List._∷_ 110 (List._∷_ 101 (List._∷_ 100 (List._∷_ 58 (List._∷_ 58 (List._∷_ 67 (List._∷_ 111 (List._∷_ 108 (List._∷_ 117 (List._∷_ 109 (List._∷_ 110 (List._∷_ 82 (List._∷_ 101 (List._∷_ 97 (List._∷_ 100 List.[]))))))))))))))))))) (Syntax.tcons (ColumnMetadataRow.ty) (Syntax.tcons (Syntax.tyInt Syntax.w64) Syntax.tnil)))) (List._∷_ (8, Rows'.any-gone (ColumnMetadataRow.ty)) (List._∷_ (9, Rows'.sc-here Row.sBool) (List._∷_ (10, Rows'.any-gone (Syntax.tyInt Syntax.w64)) (List._∷_ (11, Rows'.any-gone Syntax.tyPtr) List.[])))))))))))
+t7 = List._∷_ (0, Rows'.any-gone Syntax.tyUnit) (List._∷_ (1, Rows'.sslice (Referent.rtF (Referent.fInt Syntax.w8)) (Syntax.tyRef (Syntax.named 0) Syntax.imm (Syntax.tyInt Syntax.w8)) 0) (List._∷_ (2, Rows'.any-gone (Syntax.tyStruct (List._∷_ 112 (List._∷_ 108 (List._∷_ 97 (List._∷_ 110 (List._∷_ 110 (List._∷_ 101 (List._∷_ 100 (List._∷_ 58 (List._∷_ 58 (List._∷_ 80 (List._∷_ 108 (List._∷_ 97 (List._∷_ 110 List.[]))))))))))))) (Syntax.tcons (Syntax.tyEnum (List._∷_ 112 (List._∷_ 108 (List._∷_ 97 (List._∷_ 110 (List._∷_ 110 (List._∷_ 101 (List._∷_ 100 (List._∷_ 58 (List._∷_ 58 (List._∷_ 76 (List._∷_ 97 (List._∷_ 121 (List._∷_ 111 (List._∷_ 117 (List._∷_ 116 List.[]))))))))))))))) (Syntax.ttcons Syntax.tnil (Syntax.ttcons Syntax.tnil (Syntax.ttcons Syntax.tnil Syntax.ttnil)))) (Syntax.tcons (Syntax.tyEnum (List._∷_ 102 (List._∷_ 105 (List._∷_ 101 (List._∷_ 108 (List._∷_ 100 (List._∷_ 58 (List._∷_ 58 (List._∷_ 66 (List._∷_ 121 (List._∷_ 116 (List._∷_ 101 (List._∷_ 79 (List._∷_ 114 (List._∷_ 100 (List._∷_ 101 (List._∷_ 114 List.[])))))))))))))))) (Syntax.ttcons Syntax.tnil (Syntax.ttcons Syntax.tnil Syntax.ttnil))) (Syntax.tcons Syntax.tyBool (Syntax.tcons (Syntax.tyInt Syntax.w64) (Syntax.tcons (Syntax.tyInt Syntax.w64) (Syntax.tcons (Syntax.tyInt Syntax.w64) (Syntax.tcons (Syntax.tyInt Syntax.w64) (Syntax.tcons (Syntax.tyEnum (List._∷_ 111 (List._∷_ 117 (List._∷_ 116 (List._∷_ 99 (List._∷_ 111 (List._∷_ 109 (List._∷_ 101 (List._∷_ 58 (List._∷_ 58 (List._∷_ 79 (List._∷_ 117 (List._∷_ 116 (List._∷_ 99 (List._∷_ 111 (List._∷_ 109 (List._∷_ 101 List.[])))))))))))))))) (Syntax.ttcons Syntax.tnil (Syntax.ttcons Syntax.tnil (Syntax.ttcons (Syntax.tcons (Syntax.tyInt Syntax.w64) (Syntax.tcons (Syntax.tyInt Syntax.w64) Syntax.tnil)) (Syntax.ttcons Syntax.tnil (Syntax.ttcons (Syntax.tcons (Syntax.tyInt Syntax.w16) Syntax.tnil) (Syntax.ttcons Syntax.tnil (Syntax.ttcons (Syntax.tcons (Syntax.tyInt Syntax.w64) Syntax.tnil) (Syntax.ttcons Syntax.tnil (Syntax.ttcons (Syntax.tcons (Syntax.tyInt Syntax.w16) Syntax.tnil) Syntax.ttnil)))))))))) Syntax.tnil)))))))))) (List._∷_ (3, Mut.mslice (ColumnMetadataRow.RT) (Syntax.tyRef (Syntax.named 1) Syntax.mut ColumnMetadataRow.named) 1) (List._∷_ (4, Rows'.sc-here (Row.sInt Syntax.w64)) (List._∷_ (5, Rows'.sc-here (Row.sInt Syntax.w64)) (List._∷_ (6, Rows'.sc-here (Row.sInt Syntax.w64)) (List._∷_ (7, Rows'.any-gone (Syntax.tyStruct (List._∷_ 112 (List._∷_ 108 (List._∷_ 97 (List._∷_ 110 (List._∷_ 110 (List._∷_ 101 (List._∷_ 100 (List._∷_ 58 (List._∷_ 58 (List._∷_ 67 (List._∷_ 111 (List._∷_ 108 (List._∷_ 117 (List._∷_ 109 (List._∷_ 110 (List._∷_ 82 (List._∷_ 101 (List._∷_ 97 (List._∷_ 100 List.[]))))))))))))))))))) (Syntax.tcons (ColumnMetadataRow.ty) (Syntax.tcons (Syntax.tyInt Syntax.w64) Syntax.tnil)))) (List._∷_ (8, Rows'.any-gone (ColumnMetadataRow.ty)) (List._∷_ (9, Rows'.sc-here Row.sBool) (List._∷_ (10, Rows'.any-gone (Syntax.tyInt Syntax.w64)) (List._∷_ (11, Rows'.any-gone Syntax.tyPtr) List.[])))))))))))
 
 abbrev pub t8 : List.List Row.Entry
 t8 = List._∷_ (0, Rows'.any-gone Syntax.tyUnit) (List._∷_ (1, Rows'.sslice (Referent.rtF (Referent.fInt Syntax.w8)) (Syntax.tyRef (Syntax.named 0) Syntax.imm (Syntax.tyInt Syntax.w8)) 0) (List._∷_ (2, Rows'.whole (Declared.row Plan.the-type)) (List._∷_ (3, Mut.mslice (ColumnMetadataRow.RT) (Syntax.tyRef (Syntax.named 1) Syntax.mut ColumnMetadataRow.named) 1) (List._∷_ (4, Rows'.sc-here (Row.sInt Syntax.w64)) (List._∷_ (5, Rows'.sc-here (Row.sInt Syntax.w64)) (List._∷_ (6, Rows'.sc-here (Row.sInt Syntax.w64)) (List._∷_ (7, Rows'.whole (Declared.row ColumnRead.the-type)) (List._∷_ (8, Rows'.any-gone (ColumnMetadataRow.ty)) (List._∷_ (9, Rows'.any-gone Syntax.tyBool) (List._∷_ (10, Rows'.any-gone (Syntax.tyInt Syntax.w64)) (List._∷_ (11, Rows'.any-gone Syntax.tyPtr) List.[])))))))))))
@@ -234,13 +234,13 @@ abbrev pub t14 : List.List Row.Entry
 t14 = List._∷_ (0, Rows'.any-gone Syntax.tyUnit) (List._∷_ (1, Rows'.sslice (Referent.rtF (Referent.fInt Syntax.w8)) (Syntax.tyRef (Syntax.named 0) Syntax.imm (Syntax.tyInt Syntax.w8)) 0) (List._∷_ (2, Rows'.whole (Declared.row Plan.the-type)) (List._∷_ (3, Mut.mslice (ColumnMetadataRow.RT) (Syntax.tyRef (Syntax.named 1) Syntax.mut ColumnMetadataRow.named) 1) (List._∷_ (4, Rows'.sc-here (Row.sInt Syntax.w64)) (List._∷_ (5, Rows'.any-gone (Syntax.tyInt Syntax.w64)) (List._∷_ (6, Rows'.sc-here (Row.sInt Syntax.w64)) (List._∷_ (7, Rows'.whole (Declared.row ColumnRead.the-type)) (List._∷_ (8, Rows'.any-gone (ColumnMetadataRow.ty)) (List._∷_ (9, Rows'.any-gone Syntax.tyBool) (List._∷_ (10, Rows'.any-gone (Syntax.tyInt Syntax.w64)) (List._∷_ (11, Rows'.sc-here Row.sPtr) List.[])))))))))))
 
 abbrev pub t15 : List.List Row.Entry
-t15 = List._∷_ (0, Rows'.sc-here Row.sUnit) (List._∷_ (1, Rows'.sslice (Referent.rtF (Referent.fInt Syntax.w8)) (Syntax.tyRef (Syntax.named 0) Syntax.imm (Syntax.tyInt Syntax.w8)) 0) (List._∷_ (2, Rows'.any-gone (Syntax.tyStruct (List._∷_ 112 (List._∷_ 108 (List._∷_ 97 (List._∷_ 110 (List._∷_ 58 (List._∷_ 58 (List._∷_ 80 (List._∷_ 108 (List._∷_ 97 (List._∷_ 110 List.[])))))))))) (Syntax.tcons (Syntax.tyEnum (List._∷_ 112 (List._∷_ 108 (List._∷_ 97 (List._∷_ 110 (List._∷_ 58 (List._∷_ 58 (List._∷_ 76 (List._∷_ 97 (List._∷_ 121 (List._∷_ 111 (List._∷_ 117 (List._∷_ 116 List.[])))))))))))) (Syntax.ttcons Syntax.tnil (Syntax.ttcons Syntax.tnil (Syntax.ttcons Syntax.tnil Syntax.ttnil)))) (Syntax.tcons (Syntax.tyEnum (List._∷_ 102 (List._∷_ 105 (List._∷_ 101 (List._∷_ 108 (List._∷_ 100 (List._∷_ 58 (List._∷_ 58 (List._∷_ 66 (List._∷_ 121 (List._∷_ 116 (List._∷_ 101 (List._∷_ 79 (List._∷_ 114 (List._∷_ 100 (List._∷_ 101 (List._∷_ 114 List.[])))))))))))))))) (Syntax.ttcons Syntax.tnil (Syntax.ttcons Syntax.tnil Syntax.ttnil))) (Syntax.tcons Syntax.tyBool (Syntax.tcons (Syntax.tyInt Syntax.w64) (Syntax.tcons (Syntax.tyInt Syntax.w64) (Syntax.tcons (Syntax.tyInt Syntax.w64) (Syntax.tcons (Syntax.tyInt Syntax.w64) (Syntax.tcons (Syntax.tyEnum (List._∷_ 111 (List._∷_ 117 (List._∷_ 116 (List._∷_ 99 (List._∷_ 111 (List._∷_ 109 (List._∷_ 101 (List._∷_ 58 (List._∷_ 58 (List._∷_ 79 (List._∷_ 117 (List._∷_ 116 (List._∷_ 99 (List._∷_ 111 (List._∷_ 109 (List._∷_ 101 List.[])))))))))))))))) (Syntax.ttcons Syntax.tnil (Syntax.ttcons Syntax.tnil (Syntax.ttcons (Syntax.tcons (Syntax.tyInt Syntax.w64) (Syntax.tcons (Syntax.tyInt Syntax.w64) Syntax.tnil)) (Syntax.ttcons Syntax.tnil (Syntax.ttcons (Syntax.tcons (Syntax.tyInt Syntax.w16) Syntax.tnil) (Syntax.ttcons Syntax.tnil (Syntax.ttcons (Syntax.tcons (Syntax.tyInt Syntax.w64) Syntax.tnil) (Syntax.ttcons Syntax.tnil (Syntax.ttcons (Syntax.tcons (Syntax.tyInt Syntax.w16) Syntax.tnil) Syntax.ttnil)))))))))) Syntax.tnil)))))))))) (List._∷_ (3, Mut.mslice (ColumnMetadataRow.RT) (Syntax.tyRef (Syntax.named 1) Syntax.mut ColumnMetadataRow.named) 1) (List._∷_ (4, Rows'.sc-here (Row.sInt Syntax.w64)) (List._∷_ (5, Rows'.sc-here (Row.sInt Syntax.w64)) (List._∷_ (6, Rows'.sc-here (Row.sInt Syntax.w64)) (List._∷_ (7, Rows'.any-gone (Syntax.tyStruct (List._∷_ 112 (List._∷_ 108 (List._∷_ 97 (List._∷_ 110 (List._∷_ 110 (List._∷_ 101 (List._∷_ 100 (List._∷_ 58 (List._∷_ 58 (List._∷_ 67 (List._∷_ 111 (List._∷_ 108 (List._∷_ 117 (List._∷_ 109 (List._∷_ 110 (List._∷_ 82 (List._∷_ 101 (List._∷_ 97 (List._∷_ 100 List.[]))))))))))))))))))) (Syntax.tcons (ColumnMetadataRow.ty) (Syntax.tcons (Syntax.tyInt Syntax.w64) Syntax.tnil)))) (List._∷_ (8, Rows'.any-gone (ColumnMetadataRow.ty)) (List._∷_ (9, Rows'.any-gone Syntax.tyBool) (List._∷_ (10, Rows'.any-gone (Syntax.tyInt Syntax.w64)) (List._∷_ (11, Rows'.any-gone Syntax.tyPtr) List.[])))))))))))
+t15 = List._∷_ (0, Rows'.sc-here Row.sUnit) (List._∷_ (1, Rows'.sslice (Referent.rtF (Referent.fInt Syntax.w8)) (Syntax.tyRef (Syntax.named 0) Syntax.imm (Syntax.tyInt Syntax.w8)) 0) (List._∷_ (2, Rows'.any-gone (Syntax.tyStruct (List._∷_ 112 (List._∷_ 108 (List._∷_ 97 (List._∷_ 110 (List._∷_ 110 (List._∷_ 101 (List._∷_ 100 (List._∷_ 58 (List._∷_ 58 (List._∷_ 80 (List._∷_ 108 (List._∷_ 97 (List._∷_ 110 List.[]))))))))))))) (Syntax.tcons (Syntax.tyEnum (List._∷_ 112 (List._∷_ 108 (List._∷_ 97 (List._∷_ 110 (List._∷_ 110 (List._∷_ 101 (List._∷_ 100 (List._∷_ 58 (List._∷_ 58 (List._∷_ 76 (List._∷_ 97 (List._∷_ 121 (List._∷_ 111 (List._∷_ 117 (List._∷_ 116 List.[]))))))))))))))) (Syntax.ttcons Syntax.tnil (Syntax.ttcons Syntax.tnil (Syntax.ttcons Syntax.tnil Syntax.ttnil)))) (Syntax.tcons (Syntax.tyEnum (List._∷_ 102 (List._∷_ 105 (List._∷_ 101 (List._∷_ 108 (List._∷_ 100 (List._∷_ 58 (List._∷_ 58 (List._∷_ 66 (List._∷_ 121 (List._∷_ 116 (List._∷_ 101 (List._∷_ 79 (List._∷_ 114 (List._∷_ 100 (List._∷_ 101 (List._∷_ 114 List.[])))))))))))))))) (Syntax.ttcons Syntax.tnil (Syntax.ttcons Syntax.tnil Syntax.ttnil))) (Syntax.tcons Syntax.tyBool (Syntax.tcons (Syntax.tyInt Syntax.w64) (Syntax.tcons (Syntax.tyInt Syntax.w64) (Syntax.tcons (Syntax.tyInt Syntax.w64) (Syntax.tcons (Syntax.tyInt Syntax.w64) (Syntax.tcons (Syntax.tyEnum (List._∷_ 111 (List._∷_ 117 (List._∷_ 116 (List._∷_ 99 (List._∷_ 111 (List._∷_ 109 (List._∷_ 101 (List._∷_ 58 (List._∷_ 58 (List._∷_ 79 (List._∷_ 117 (List._∷_ 116 (List._∷_ 99 (List._∷_ 111 (List._∷_ 109 (List._∷_ 101 List.[])))))))))))))))) (Syntax.ttcons Syntax.tnil (Syntax.ttcons Syntax.tnil (Syntax.ttcons (Syntax.tcons (Syntax.tyInt Syntax.w64) (Syntax.tcons (Syntax.tyInt Syntax.w64) Syntax.tnil)) (Syntax.ttcons Syntax.tnil (Syntax.ttcons (Syntax.tcons (Syntax.tyInt Syntax.w16) Syntax.tnil) (Syntax.ttcons Syntax.tnil (Syntax.ttcons (Syntax.tcons (Syntax.tyInt Syntax.w64) Syntax.tnil) (Syntax.ttcons Syntax.tnil (Syntax.ttcons (Syntax.tcons (Syntax.tyInt Syntax.w16) Syntax.tnil) Syntax.ttnil)))))))))) Syntax.tnil)))))))))) (List._∷_ (3, Mut.mslice (ColumnMetadataRow.RT) (Syntax.tyRef (Syntax.named 1) Syntax.mut ColumnMetadataRow.named) 1) (List._∷_ (4, Rows'.sc-here (Row.sInt Syntax.w64)) (List._∷_ (5, Rows'.sc-here (Row.sInt Syntax.w64)) (List._∷_ (6, Rows'.sc-here (Row.sInt Syntax.w64)) (List._∷_ (7, Rows'.any-gone (Syntax.tyStruct (List._∷_ 112 (List._∷_ 108 (List._∷_ 97 (List._∷_ 110 (List._∷_ 110 (List._∷_ 101 (List._∷_ 100 (List._∷_ 58 (List._∷_ 58 (List._∷_ 67 (List._∷_ 111 (List._∷_ 108 (List._∷_ 117 (List._∷_ 109 (List._∷_ 110 (List._∷_ 82 (List._∷_ 101 (List._∷_ 97 (List._∷_ 100 List.[]))))))))))))))))))) (Syntax.tcons (ColumnMetadataRow.ty) (Syntax.tcons (Syntax.tyInt Syntax.w64) Syntax.tnil)))) (List._∷_ (8, Rows'.any-gone (ColumnMetadataRow.ty)) (List._∷_ (9, Rows'.any-gone Syntax.tyBool) (List._∷_ (10, Rows'.any-gone (Syntax.tyInt Syntax.w64)) (List._∷_ (11, Rows'.any-gone Syntax.tyPtr) List.[])))))))))))
 
 abbrev pub t16 : List.List Row.Entry
-t16 = List._∷_ (0, Rows'.sc-here Row.sUnit) (List._∷_ (1, Rows'.sslice (Referent.rtF (Referent.fInt Syntax.w8)) (Syntax.tyRef (Syntax.named 0) Syntax.imm (Syntax.tyInt Syntax.w8)) 0) (List._∷_ (2, Rows'.any-gone (Syntax.tyStruct (List._∷_ 112 (List._∷_ 108 (List._∷_ 97 (List._∷_ 110 (List._∷_ 58 (List._∷_ 58 (List._∷_ 80 (List._∷_ 108 (List._∷_ 97 (List._∷_ 110 List.[])))))))))) (Syntax.tcons (Syntax.tyEnum (List._∷_ 112 (List._∷_ 108 (List._∷_ 97 (List._∷_ 110 (List._∷_ 58 (List._∷_ 58 (List._∷_ 76 (List._∷_ 97 (List._∷_ 121 (List._∷_ 111 (List._∷_ 117 (List._∷_ 116 List.[])))))))))))) (Syntax.ttcons Syntax.tnil (Syntax.ttcons Syntax.tnil (Syntax.ttcons Syntax.tnil Syntax.ttnil)))) (Syntax.tcons (Syntax.tyEnum (List._∷_ 102 (List._∷_ 105 (List._∷_ 101 (List._∷_ 108 (List._∷_ 100 (List._∷_ 58 (List._∷_ 58 (List._∷_ 66 (List._∷_ 121 (List._∷_ 116 (List._∷_ 101 (List._∷_ 79 (List._∷_ 114 (List._∷_ 100 (List._∷_ 101 (List._∷_ 114 List.[])))))))))))))))) (Syntax.ttcons Syntax.tnil (Syntax.ttcons Syntax.tnil Syntax.ttnil))) (Syntax.tcons Syntax.tyBool (Syntax.tcons (Syntax.tyInt Syntax.w64) (Syntax.tcons (Syntax.tyInt Syntax.w64) (Syntax.tcons (Syntax.tyInt Syntax.w64) (Syntax.tcons (Syntax.tyInt Syntax.w64) (Syntax.tcons (Syntax.tyEnum (List._∷_ 111 (List._∷_ 117 (List._∷_ 116 (List._∷_ 99 (List._∷_ 111 (List._∷_ 109 (List._∷_ 101 (List._∷_ 58 (List._∷_ 58 (List._∷_ 79 (List._∷_ 117 (List._∷_ 116 (List._∷_ 99 (List._∷_ 111 (List._∷_ 109 (List._∷_ 101 List.[])))))))))))))))) (Syntax.ttcons Syntax.tnil (Syntax.ttcons Syntax.tnil (Syntax.ttcons (Syntax.tcons (Syntax.tyInt Syntax.w64) (Syntax.tcons (Syntax.tyInt Syntax.w64) Syntax.tnil)) (Syntax.ttcons Syntax.tnil (Syntax.ttcons (Syntax.tcons (Syntax.tyInt Syntax.w16) Syntax.tnil) (Syntax.ttcons Syntax.tnil (Syntax.ttcons (Syntax.tcons (Syntax.tyInt Syntax.w64) Syntax.tnil) (Syntax.ttcons Syntax.tnil (Syntax.ttcons (Syntax.tcons (Syntax.tyInt Syntax.w16) Syntax.tnil) Syntax.ttnil)))))))))) Syntax.tnil)))))))))) (List._∷_ (3, Mut.mslice (ColumnMetadataRow.RT) (Syntax.tyRef (Syntax.named 1) Syntax.mut ColumnMetadataRow.named) 1) (List._∷_ (4, Rows'.any-gone (Syntax.tyInt Syntax.w64)) (List._∷_ (5, Rows'.sc-here (Row.sInt Syntax.w64)) (List._∷_ (6, Rows'.sc-here (Row.sInt Syntax.w64)) (List._∷_ (7, Rows'.any-gone (Syntax.tyStruct (List._∷_ 112 (List._∷_ 108 (List._∷_ 97 (List._∷_ 110 (List._∷_ 110 (List._∷_ 101 (List._∷_ 100 (List._∷_ 58 (List._∷_ 58 (List._∷_ 67 (List._∷_ 111 (List._∷_ 108 (List._∷_ 117 (List._∷_ 109 (List._∷_ 110 (List._∷_ 82 (List._∷_ 101 (List._∷_ 97 (List._∷_ 100 List.[]))))))))))))))))))) (Syntax.tcons (ColumnMetadataRow.ty) (Syntax.tcons (Syntax.tyInt Syntax.w64) Syntax.tnil)))) (List._∷_ (8, Rows'.any-gone (ColumnMetadataRow.ty)) (List._∷_ (9, Rows'.any-gone Syntax.tyBool) (List._∷_ (10, Rows'.any-gone (Syntax.tyInt Syntax.w64)) (List._∷_ (11, Rows'.any-gone Syntax.tyPtr) List.[])))))))))))
+t16 = List._∷_ (0, Rows'.sc-here Row.sUnit) (List._∷_ (1, Rows'.sslice (Referent.rtF (Referent.fInt Syntax.w8)) (Syntax.tyRef (Syntax.named 0) Syntax.imm (Syntax.tyInt Syntax.w8)) 0) (List._∷_ (2, Rows'.any-gone (Syntax.tyStruct (List._∷_ 112 (List._∷_ 108 (List._∷_ 97 (List._∷_ 110 (List._∷_ 110 (List._∷_ 101 (List._∷_ 100 (List._∷_ 58 (List._∷_ 58 (List._∷_ 80 (List._∷_ 108 (List._∷_ 97 (List._∷_ 110 List.[]))))))))))))) (Syntax.tcons (Syntax.tyEnum (List._∷_ 112 (List._∷_ 108 (List._∷_ 97 (List._∷_ 110 (List._∷_ 110 (List._∷_ 101 (List._∷_ 100 (List._∷_ 58 (List._∷_ 58 (List._∷_ 76 (List._∷_ 97 (List._∷_ 121 (List._∷_ 111 (List._∷_ 117 (List._∷_ 116 List.[]))))))))))))))) (Syntax.ttcons Syntax.tnil (Syntax.ttcons Syntax.tnil (Syntax.ttcons Syntax.tnil Syntax.ttnil)))) (Syntax.tcons (Syntax.tyEnum (List._∷_ 102 (List._∷_ 105 (List._∷_ 101 (List._∷_ 108 (List._∷_ 100 (List._∷_ 58 (List._∷_ 58 (List._∷_ 66 (List._∷_ 121 (List._∷_ 116 (List._∷_ 101 (List._∷_ 79 (List._∷_ 114 (List._∷_ 100 (List._∷_ 101 (List._∷_ 114 List.[])))))))))))))))) (Syntax.ttcons Syntax.tnil (Syntax.ttcons Syntax.tnil Syntax.ttnil))) (Syntax.tcons Syntax.tyBool (Syntax.tcons (Syntax.tyInt Syntax.w64) (Syntax.tcons (Syntax.tyInt Syntax.w64) (Syntax.tcons (Syntax.tyInt Syntax.w64) (Syntax.tcons (Syntax.tyInt Syntax.w64) (Syntax.tcons (Syntax.tyEnum (List._∷_ 111 (List._∷_ 117 (List._∷_ 116 (List._∷_ 99 (List._∷_ 111 (List._∷_ 109 (List._∷_ 101 (List._∷_ 58 (List._∷_ 58 (List._∷_ 79 (List._∷_ 117 (List._∷_ 116 (List._∷_ 99 (List._∷_ 111 (List._∷_ 109 (List._∷_ 101 List.[])))))))))))))))) (Syntax.ttcons Syntax.tnil (Syntax.ttcons Syntax.tnil (Syntax.ttcons (Syntax.tcons (Syntax.tyInt Syntax.w64) (Syntax.tcons (Syntax.tyInt Syntax.w64) Syntax.tnil)) (Syntax.ttcons Syntax.tnil (Syntax.ttcons (Syntax.tcons (Syntax.tyInt Syntax.w16) Syntax.tnil) (Syntax.ttcons Syntax.tnil (Syntax.ttcons (Syntax.tcons (Syntax.tyInt Syntax.w64) Syntax.tnil) (Syntax.ttcons Syntax.tnil (Syntax.ttcons (Syntax.tcons (Syntax.tyInt Syntax.w16) Syntax.tnil) Syntax.ttnil)))))))))) Syntax.tnil)))))))))) (List._∷_ (3, Mut.mslice (ColumnMetadataRow.RT) (Syntax.tyRef (Syntax.named 1) Syntax.mut ColumnMetadataRow.named) 1) (List._∷_ (4, Rows'.any-gone (Syntax.tyInt Syntax.w64)) (List._∷_ (5, Rows'.sc-here (Row.sInt Syntax.w64)) (List._∷_ (6, Rows'.sc-here (Row.sInt Syntax.w64)) (List._∷_ (7, Rows'.any-gone (Syntax.tyStruct (List._∷_ 112 (List._∷_ 108 (List._∷_ 97 (List._∷_ 110 (List._∷_ 110 (List._∷_ 101 (List._∷_ 100 (List._∷_ 58 (List._∷_ 58 (List._∷_ 67 (List._∷_ 111 (List._∷_ 108 (List._∷_ 117 (List._∷_ 109 (List._∷_ 110 (List._∷_ 82 (List._∷_ 101 (List._∷_ 97 (List._∷_ 100 List.[]))))))))))))))))))) (Syntax.tcons (ColumnMetadataRow.ty) (Syntax.tcons (Syntax.tyInt Syntax.w64) Syntax.tnil)))) (List._∷_ (8, Rows'.any-gone (ColumnMetadataRow.ty)) (List._∷_ (9, Rows'.any-gone Syntax.tyBool) (List._∷_ (10, Rows'.any-gone (Syntax.tyInt Syntax.w64)) (List._∷_ (11, Rows'.any-gone Syntax.tyPtr) List.[])))))))))))
 
 abbrev pub t17 : List.List Row.Entry
-t17 = List._∷_ (0, Rows'.sc-here Row.sUnit) (List._∷_ (1, Rows'.sslice (Referent.rtF (Referent.fInt Syntax.w8)) (Syntax.tyRef (Syntax.named 0) Syntax.imm (Syntax.tyInt Syntax.w8)) 0) (List._∷_ (2, Rows'.any-gone (Syntax.tyStruct (List._∷_ 112 (List._∷_ 108 (List._∷_ 97 (List._∷_ 110 (List._∷_ 58 (List._∷_ 58 (List._∷_ 80 (List._∷_ 108 (List._∷_ 97 (List._∷_ 110 List.[])))))))))) (Syntax.tcons (Syntax.tyEnum (List._∷_ 112 (List._∷_ 108 (List._∷_ 97 (List._∷_ 110 (List._∷_ 58 (List._∷_ 58 (List._∷_ 76 (List._∷_ 97 (List._∷_ 121 (List._∷_ 111 (List._∷_ 117 (List._∷_ 116 List.[])))))))))))) (Syntax.ttcons Syntax.tnil (Syntax.ttcons Syntax.tnil (Syntax.ttcons Syntax.tnil Syntax.ttnil)))) (Syntax.tcons (Syntax.tyEnum (List._∷_ 102 (List._∷_ 105 (List._∷_ 101 (List._∷_ 108 (List._∷_ 100 (List._∷_ 58 (List._∷_ 58 (List._∷_ 66 (List._∷_ 121 (List._∷_ 116 (List._∷_ 101 (List._∷_ 79 (List._∷_ 114 (List._∷_ 100 (List._∷_ 101 (List._∷_ 114 List.[])))))))))))))))) (Syntax.ttcons Syntax.tnil (Syntax.ttcons Syntax.tnil Syntax.ttnil))) (Syntax.tcons Syntax.tyBool (Syntax.tcons (Syntax.tyInt Syntax.w64) (Syntax.tcons (Syntax.tyInt Syntax.w64) (Syntax.tcons (Syntax.tyInt Syntax.w64) (Syntax.tcons (Syntax.tyInt Syntax.w64) (Syntax.tcons (Syntax.tyEnum (List._∷_ 111 (List._∷_ 117 (List._∷_ 116 (List._∷_ 99 (List._∷_ 111 (List._∷_ 109 (List._∷_ 101 (List._∷_ 58 (List._∷_ 58 (List._∷_ 79 (List._∷_ 117 (List._∷_ 116 (List._∷_ 99 (List._∷_ 111 (List._∷_ 109 (List._∷_ 101 List.[])))))))))))))))) (Syntax.ttcons Syntax.tnil (Syntax.ttcons Syntax.tnil (Syntax.ttcons (Syntax.tcons (Syntax.tyInt Syntax.w64) (Syntax.tcons (Syntax.tyInt Syntax.w64) Syntax.tnil)) (Syntax.ttcons Syntax.tnil (Syntax.ttcons (Syntax.tcons (Syntax.tyInt Syntax.w16) Syntax.tnil) (Syntax.ttcons Syntax.tnil (Syntax.ttcons (Syntax.tcons (Syntax.tyInt Syntax.w64) Syntax.tnil) (Syntax.ttcons Syntax.tnil (Syntax.ttcons (Syntax.tcons (Syntax.tyInt Syntax.w16) Syntax.tnil) Syntax.ttnil)))))))))) Syntax.tnil)))))))))) (List._∷_ (3, Mut.mslice (ColumnMetadataRow.RT) (Syntax.tyRef (Syntax.named 1) Syntax.mut ColumnMetadataRow.named) 1) (List._∷_ (4, Rows'.any-gone (Syntax.tyInt Syntax.w64)) (List._∷_ (5, Rows'.any-gone (Syntax.tyInt Syntax.w64)) (List._∷_ (6, Rows'.sc-here (Row.sInt Syntax.w64)) (List._∷_ (7, Rows'.any-gone (Syntax.tyStruct (List._∷_ 112 (List._∷_ 108 (List._∷_ 97 (List._∷_ 110 (List._∷_ 110 (List._∷_ 101 (List._∷_ 100 (List._∷_ 58 (List._∷_ 58 (List._∷_ 67 (List._∷_ 111 (List._∷_ 108 (List._∷_ 117 (List._∷_ 109 (List._∷_ 110 (List._∷_ 82 (List._∷_ 101 (List._∷_ 97 (List._∷_ 100 List.[]))))))))))))))))))) (Syntax.tcons (ColumnMetadataRow.ty) (Syntax.tcons (Syntax.tyInt Syntax.w64) Syntax.tnil)))) (List._∷_ (8, Rows'.any-gone (ColumnMetadataRow.ty)) (List._∷_ (9, Rows'.any-gone Syntax.tyBool) (List._∷_ (10, Rows'.any-gone (Syntax.tyInt Syntax.w64)) (List._∷_ (11, Rows'.any-gone Syntax.tyPtr) List.[])))))))))))
+t17 = List._∷_ (0, Rows'.sc-here Row.sUnit) (List._∷_ (1, Rows'.sslice (Referent.rtF (Referent.fInt Syntax.w8)) (Syntax.tyRef (Syntax.named 0) Syntax.imm (Syntax.tyInt Syntax.w8)) 0) (List._∷_ (2, Rows'.any-gone (Syntax.tyStruct (List._∷_ 112 (List._∷_ 108 (List._∷_ 97 (List._∷_ 110 (List._∷_ 110 (List._∷_ 101 (List._∷_ 100 (List._∷_ 58 (List._∷_ 58 (List._∷_ 80 (List._∷_ 108 (List._∷_ 97 (List._∷_ 110 List.[]))))))))))))) (Syntax.tcons (Syntax.tyEnum (List._∷_ 112 (List._∷_ 108 (List._∷_ 97 (List._∷_ 110 (List._∷_ 110 (List._∷_ 101 (List._∷_ 100 (List._∷_ 58 (List._∷_ 58 (List._∷_ 76 (List._∷_ 97 (List._∷_ 121 (List._∷_ 111 (List._∷_ 117 (List._∷_ 116 List.[]))))))))))))))) (Syntax.ttcons Syntax.tnil (Syntax.ttcons Syntax.tnil (Syntax.ttcons Syntax.tnil Syntax.ttnil)))) (Syntax.tcons (Syntax.tyEnum (List._∷_ 102 (List._∷_ 105 (List._∷_ 101 (List._∷_ 108 (List._∷_ 100 (List._∷_ 58 (List._∷_ 58 (List._∷_ 66 (List._∷_ 121 (List._∷_ 116 (List._∷_ 101 (List._∷_ 79 (List._∷_ 114 (List._∷_ 100 (List._∷_ 101 (List._∷_ 114 List.[])))))))))))))))) (Syntax.ttcons Syntax.tnil (Syntax.ttcons Syntax.tnil Syntax.ttnil))) (Syntax.tcons Syntax.tyBool (Syntax.tcons (Syntax.tyInt Syntax.w64) (Syntax.tcons (Syntax.tyInt Syntax.w64) (Syntax.tcons (Syntax.tyInt Syntax.w64) (Syntax.tcons (Syntax.tyInt Syntax.w64) (Syntax.tcons (Syntax.tyEnum (List._∷_ 111 (List._∷_ 117 (List._∷_ 116 (List._∷_ 99 (List._∷_ 111 (List._∷_ 109 (List._∷_ 101 (List._∷_ 58 (List._∷_ 58 (List._∷_ 79 (List._∷_ 117 (List._∷_ 116 (List._∷_ 99 (List._∷_ 111 (List._∷_ 109 (List._∷_ 101 List.[])))))))))))))))) (Syntax.ttcons Syntax.tnil (Syntax.ttcons Syntax.tnil (Syntax.ttcons (Syntax.tcons (Syntax.tyInt Syntax.w64) (Syntax.tcons (Syntax.tyInt Syntax.w64) Syntax.tnil)) (Syntax.ttcons Syntax.tnil (Syntax.ttcons (Syntax.tcons (Syntax.tyInt Syntax.w16) Syntax.tnil) (Syntax.ttcons Syntax.tnil (Syntax.ttcons (Syntax.tcons (Syntax.tyInt Syntax.w64) Syntax.tnil) (Syntax.ttcons Syntax.tnil (Syntax.ttcons (Syntax.tcons (Syntax.tyInt Syntax.w16) Syntax.tnil) Syntax.ttnil)))))))))) Syntax.tnil)))))))))) (List._∷_ (3, Mut.mslice (ColumnMetadataRow.RT) (Syntax.tyRef (Syntax.named 1) Syntax.mut ColumnMetadataRow.named) 1) (List._∷_ (4, Rows'.any-gone (Syntax.tyInt Syntax.w64)) (List._∷_ (5, Rows'.any-gone (Syntax.tyInt Syntax.w64)) (List._∷_ (6, Rows'.sc-here (Row.sInt Syntax.w64)) (List._∷_ (7, Rows'.any-gone (Syntax.tyStruct (List._∷_ 112 (List._∷_ 108 (List._∷_ 97 (List._∷_ 110 (List._∷_ 110 (List._∷_ 101 (List._∷_ 100 (List._∷_ 58 (List._∷_ 58 (List._∷_ 67 (List._∷_ 111 (List._∷_ 108 (List._∷_ 117 (List._∷_ 109 (List._∷_ 110 (List._∷_ 82 (List._∷_ 101 (List._∷_ 97 (List._∷_ 100 List.[]))))))))))))))))))) (Syntax.tcons (ColumnMetadataRow.ty) (Syntax.tcons (Syntax.tyInt Syntax.w64) Syntax.tnil)))) (List._∷_ (8, Rows'.any-gone (ColumnMetadataRow.ty)) (List._∷_ (9, Rows'.any-gone Syntax.tyBool) (List._∷_ (10, Rows'.any-gone (Syntax.tyInt Syntax.w64)) (List._∷_ (11, Rows'.any-gone Syntax.tyPtr) List.[])))))))))))
 
 abbrev pub T0 : Row.Cx
 T0 = record { locals = t0; slots = List.[] }
@@ -352,10 +352,10 @@ module _ (claims· : Claims) where
   s0 = Know.k-shs-known (Referent.fInt Syntax.w8) T0 1 0 (Syntax.tyRef (Syntax.named 0) Syntax.imm (Syntax.tyInt Syntax.w8)) Row.off 0 λ x. x
 
   abbrev s1 : Typed.Mo T2 → Typed.Mo T3
-  s1 = Scalar.n-use T2 (Scalar.oFld 2 (List._∷_ (Syntax.field 5) List.[]) (Syntax.tyInt Syntax.w64) 24 (Reads.fieldV Plan.the-type Laws.the-laws 5)) 4 (Rows'.sc-here (Row.sInt Syntax.w64)) (Row.sInt Syntax.w64 .of)
+  s1 = Scalar.n-use T2 (Scalar.oFld 2 (List._∷_ (Syntax.field 5) List.[]) (Syntax.tyInt Syntax.w64) 24 (Reads.fieldV Plan.the-type Laws'.the-laws 5)) 4 (Rows'.sc-here (Row.sInt Syntax.w64)) (Row.sInt Syntax.w64 .of)
 
   abbrev s2 : Typed.Mo T3 → Typed.Mo T4
-  s2 = Scalar.n-use T3 (Scalar.oFld 2 (List._∷_ (Syntax.field 3) List.[]) (Syntax.tyInt Syntax.w64) 8 (Reads.fieldV Plan.the-type Laws.the-laws 3)) 5 (Rows'.sc-here (Row.sInt Syntax.w64)) (Row.sInt Syntax.w64 .of)
+  s2 = Scalar.n-use T3 (Scalar.oFld 2 (List._∷_ (Syntax.field 3) List.[]) (Syntax.tyInt Syntax.w64) 8 (Reads.fieldV Plan.the-type Laws'.the-laws 3)) 5 (Rows'.sc-here (Row.sInt Syntax.w64)) (Row.sInt Syntax.w64 .of)
 
   abbrev s3 : Typed.Mo T4 → Typed.Mo T5
   s3 = Scalar.n-use T4 (Scalar.oInt Syntax.w64 0) 6 (Rows'.sc-here (Row.sInt Syntax.w64)) (Row.sInt Syntax.w64 .of)
@@ -367,7 +367,7 @@ module _ (claims· : Claims) where
   s5 = Scalar.n-room T7 9 Syntax.tyBool
 
   abbrev s6 : Typed.Mo T7 → Typed.Mo T10
-  s6 = Scalar.n-room T7 2 (Syntax.tyStruct (List._∷_ 112 (List._∷_ 108 (List._∷_ 97 (List._∷_ 110 (List._∷_ 58 (List._∷_ 58 (List._∷_ 80 (List._∷_ 108 (List._∷_ 97 (List._∷_ 110 List.[])))))))))) (Syntax.tcons (Syntax.tyEnum (List._∷_ 112 (List._∷_ 108 (List._∷_ 97 (List._∷_ 110 (List._∷_ 58 (List._∷_ 58 (List._∷_ 76 (List._∷_ 97 (List._∷_ 121 (List._∷_ 111 (List._∷_ 117 (List._∷_ 116 List.[])))))))))))) (Syntax.ttcons Syntax.tnil (Syntax.ttcons Syntax.tnil (Syntax.ttcons Syntax.tnil Syntax.ttnil)))) (Syntax.tcons (Syntax.tyEnum (List._∷_ 102 (List._∷_ 105 (List._∷_ 101 (List._∷_ 108 (List._∷_ 100 (List._∷_ 58 (List._∷_ 58 (List._∷_ 66 (List._∷_ 121 (List._∷_ 116 (List._∷_ 101 (List._∷_ 79 (List._∷_ 114 (List._∷_ 100 (List._∷_ 101 (List._∷_ 114 List.[])))))))))))))))) (Syntax.ttcons Syntax.tnil (Syntax.ttcons Syntax.tnil Syntax.ttnil))) (Syntax.tcons Syntax.tyBool (Syntax.tcons (Syntax.tyInt Syntax.w64) (Syntax.tcons (Syntax.tyInt Syntax.w64) (Syntax.tcons (Syntax.tyInt Syntax.w64) (Syntax.tcons (Syntax.tyInt Syntax.w64) (Syntax.tcons (Syntax.tyEnum (List._∷_ 111 (List._∷_ 117 (List._∷_ 116 (List._∷_ 99 (List._∷_ 111 (List._∷_ 109 (List._∷_ 101 (List._∷_ 58 (List._∷_ 58 (List._∷_ 79 (List._∷_ 117 (List._∷_ 116 (List._∷_ 99 (List._∷_ 111 (List._∷_ 109 (List._∷_ 101 List.[])))))))))))))))) (Syntax.ttcons Syntax.tnil (Syntax.ttcons Syntax.tnil (Syntax.ttcons (Syntax.tcons (Syntax.tyInt Syntax.w64) (Syntax.tcons (Syntax.tyInt Syntax.w64) Syntax.tnil)) (Syntax.ttcons Syntax.tnil (Syntax.ttcons (Syntax.tcons (Syntax.tyInt Syntax.w16) Syntax.tnil) (Syntax.ttcons Syntax.tnil (Syntax.ttcons (Syntax.tcons (Syntax.tyInt Syntax.w64) Syntax.tnil) (Syntax.ttcons Syntax.tnil (Syntax.ttcons (Syntax.tcons (Syntax.tyInt Syntax.w16) Syntax.tnil) Syntax.ttnil)))))))))) Syntax.tnil)))))))))
+  s6 = Scalar.n-room T7 2 (Syntax.tyStruct (List._∷_ 112 (List._∷_ 108 (List._∷_ 97 (List._∷_ 110 (List._∷_ 110 (List._∷_ 101 (List._∷_ 100 (List._∷_ 58 (List._∷_ 58 (List._∷_ 80 (List._∷_ 108 (List._∷_ 97 (List._∷_ 110 List.[]))))))))))))) (Syntax.tcons (Syntax.tyEnum (List._∷_ 112 (List._∷_ 108 (List._∷_ 97 (List._∷_ 110 (List._∷_ 110 (List._∷_ 101 (List._∷_ 100 (List._∷_ 58 (List._∷_ 58 (List._∷_ 76 (List._∷_ 97 (List._∷_ 121 (List._∷_ 111 (List._∷_ 117 (List._∷_ 116 List.[]))))))))))))))) (Syntax.ttcons Syntax.tnil (Syntax.ttcons Syntax.tnil (Syntax.ttcons Syntax.tnil Syntax.ttnil)))) (Syntax.tcons (Syntax.tyEnum (List._∷_ 102 (List._∷_ 105 (List._∷_ 101 (List._∷_ 108 (List._∷_ 100 (List._∷_ 58 (List._∷_ 58 (List._∷_ 66 (List._∷_ 121 (List._∷_ 116 (List._∷_ 101 (List._∷_ 79 (List._∷_ 114 (List._∷_ 100 (List._∷_ 101 (List._∷_ 114 List.[])))))))))))))))) (Syntax.ttcons Syntax.tnil (Syntax.ttcons Syntax.tnil Syntax.ttnil))) (Syntax.tcons Syntax.tyBool (Syntax.tcons (Syntax.tyInt Syntax.w64) (Syntax.tcons (Syntax.tyInt Syntax.w64) (Syntax.tcons (Syntax.tyInt Syntax.w64) (Syntax.tcons (Syntax.tyInt Syntax.w64) (Syntax.tcons (Syntax.tyEnum (List._∷_ 111 (List._∷_ 117 (List._∷_ 116 (List._∷_ 99 (List._∷_ 111 (List._∷_ 109 (List._∷_ 101 (List._∷_ 58 (List._∷_ 58 (List._∷_ 79 (List._∷_ 117 (List._∷_ 116 (List._∷_ 99 (List._∷_ 111 (List._∷_ 109 (List._∷_ 101 List.[])))))))))))))))) (Syntax.ttcons Syntax.tnil (Syntax.ttcons Syntax.tnil (Syntax.ttcons (Syntax.tcons (Syntax.tyInt Syntax.w64) (Syntax.tcons (Syntax.tyInt Syntax.w64) Syntax.tnil)) (Syntax.ttcons Syntax.tnil (Syntax.ttcons (Syntax.tcons (Syntax.tyInt Syntax.w16) Syntax.tnil) (Syntax.ttcons Syntax.tnil (Syntax.ttcons (Syntax.tcons (Syntax.tyInt Syntax.w64) Syntax.tnil) (Syntax.ttcons Syntax.tnil (Syntax.ttcons (Syntax.tcons (Syntax.tyInt Syntax.w16) Syntax.tnil) Syntax.ttnil)))))))))) Syntax.tnil)))))))))
 
   abbrev s7 : Typed.Mo T10 → Typed.Mo T11
   s7 = Scalar.n-room T10 9 Syntax.tyBool
@@ -649,7 +649,7 @@ module _ (claims· : Claims) where
           d3 = Typed.g-pre 𝓤 H A W 𝓣 E G10 G11 b5 Δ4 (Typed.pass T10 T11 s7) at2 (Scalar.g-room 𝓤 H A W E G10 9 Syntax.tyBool (Scalar.room-sc 𝓤 H A W Row.sBool)) d2
 
           d4 : Typed.Typed 𝓤 H A 𝓣 E G7 b5 Δ4 at4
-          d4 = Typed.g-pre 𝓤 H A W 𝓣 E G7 G10 b5 Δ4 (Typed.pass T7 T10 s6) at3 (Scalar.g-room 𝓤 H A W E G7 2 (Syntax.tyStruct (List._∷_ 112 (List._∷_ 108 (List._∷_ 97 (List._∷_ 110 (List._∷_ 58 (List._∷_ 58 (List._∷_ 80 (List._∷_ 108 (List._∷_ 97 (List._∷_ 110 List.[])))))))))) (Syntax.tcons (Syntax.tyEnum (List._∷_ 112 (List._∷_ 108 (List._∷_ 97 (List._∷_ 110 (List._∷_ 58 (List._∷_ 58 (List._∷_ 76 (List._∷_ 97 (List._∷_ 121 (List._∷_ 111 (List._∷_ 117 (List._∷_ 116 List.[])))))))))))) (Syntax.ttcons Syntax.tnil (Syntax.ttcons Syntax.tnil (Syntax.ttcons Syntax.tnil Syntax.ttnil)))) (Syntax.tcons (Syntax.tyEnum (List._∷_ 102 (List._∷_ 105 (List._∷_ 101 (List._∷_ 108 (List._∷_ 100 (List._∷_ 58 (List._∷_ 58 (List._∷_ 66 (List._∷_ 121 (List._∷_ 116 (List._∷_ 101 (List._∷_ 79 (List._∷_ 114 (List._∷_ 100 (List._∷_ 101 (List._∷_ 114 List.[])))))))))))))))) (Syntax.ttcons Syntax.tnil (Syntax.ttcons Syntax.tnil Syntax.ttnil))) (Syntax.tcons Syntax.tyBool (Syntax.tcons (Syntax.tyInt Syntax.w64) (Syntax.tcons (Syntax.tyInt Syntax.w64) (Syntax.tcons (Syntax.tyInt Syntax.w64) (Syntax.tcons (Syntax.tyInt Syntax.w64) (Syntax.tcons (Syntax.tyEnum (List._∷_ 111 (List._∷_ 117 (List._∷_ 116 (List._∷_ 99 (List._∷_ 111 (List._∷_ 109 (List._∷_ 101 (List._∷_ 58 (List._∷_ 58 (List._∷_ 79 (List._∷_ 117 (List._∷_ 116 (List._∷_ 99 (List._∷_ 111 (List._∷_ 109 (List._∷_ 101 List.[])))))))))))))))) (Syntax.ttcons Syntax.tnil (Syntax.ttcons Syntax.tnil (Syntax.ttcons (Syntax.tcons (Syntax.tyInt Syntax.w64) (Syntax.tcons (Syntax.tyInt Syntax.w64) Syntax.tnil)) (Syntax.ttcons Syntax.tnil (Syntax.ttcons (Syntax.tcons (Syntax.tyInt Syntax.w16) Syntax.tnil) (Syntax.ttcons Syntax.tnil (Syntax.ttcons (Syntax.tcons (Syntax.tyInt Syntax.w64) Syntax.tnil) (Syntax.ttcons Syntax.tnil (Syntax.ttcons (Syntax.tcons (Syntax.tyInt Syntax.w16) Syntax.tnil) Syntax.ttnil)))))))))) Syntax.tnil))))))))) (Local.room-whole 𝓤 H A W (Declared.row Plan.the-type) (Syntax.tyStruct (List._∷_ 112 (List._∷_ 108 (List._∷_ 97 (List._∷_ 110 (List._∷_ 58 (List._∷_ 58 (List._∷_ 80 (List._∷_ 108 (List._∷_ 97 (List._∷_ 110 List.[])))))))))) (Syntax.tcons (Syntax.tyEnum (List._∷_ 112 (List._∷_ 108 (List._∷_ 97 (List._∷_ 110 (List._∷_ 58 (List._∷_ 58 (List._∷_ 76 (List._∷_ 97 (List._∷_ 121 (List._∷_ 111 (List._∷_ 117 (List._∷_ 116 List.[])))))))))))) (Syntax.ttcons Syntax.tnil (Syntax.ttcons Syntax.tnil (Syntax.ttcons Syntax.tnil Syntax.ttnil)))) (Syntax.tcons (Syntax.tyEnum (List._∷_ 102 (List._∷_ 105 (List._∷_ 101 (List._∷_ 108 (List._∷_ 100 (List._∷_ 58 (List._∷_ 58 (List._∷_ 66 (List._∷_ 121 (List._∷_ 116 (List._∷_ 101 (List._∷_ 79 (List._∷_ 114 (List._∷_ 100 (List._∷_ 101 (List._∷_ 114 List.[])))))))))))))))) (Syntax.ttcons Syntax.tnil (Syntax.ttcons Syntax.tnil Syntax.ttnil))) (Syntax.tcons Syntax.tyBool (Syntax.tcons (Syntax.tyInt Syntax.w64) (Syntax.tcons (Syntax.tyInt Syntax.w64) (Syntax.tcons (Syntax.tyInt Syntax.w64) (Syntax.tcons (Syntax.tyInt Syntax.w64) (Syntax.tcons (Syntax.tyEnum (List._∷_ 111 (List._∷_ 117 (List._∷_ 116 (List._∷_ 99 (List._∷_ 111 (List._∷_ 109 (List._∷_ 101 (List._∷_ 58 (List._∷_ 58 (List._∷_ 79 (List._∷_ 117 (List._∷_ 116 (List._∷_ 99 (List._∷_ 111 (List._∷_ 109 (List._∷_ 101 List.[])))))))))))))))) (Syntax.ttcons Syntax.tnil (Syntax.ttcons Syntax.tnil (Syntax.ttcons (Syntax.tcons (Syntax.tyInt Syntax.w64) (Syntax.tcons (Syntax.tyInt Syntax.w64) Syntax.tnil)) (Syntax.ttcons Syntax.tnil (Syntax.ttcons (Syntax.tcons (Syntax.tyInt Syntax.w16) Syntax.tnil) (Syntax.ttcons Syntax.tnil (Syntax.ttcons (Syntax.tcons (Syntax.tyInt Syntax.w64) Syntax.tnil) (Syntax.ttcons Syntax.tnil (Syntax.ttcons (Syntax.tcons (Syntax.tyInt Syntax.w16) Syntax.tnil) Syntax.ttnil)))))))))) Syntax.tnil))))))))) Path'.refl)) d3
+          d4 = Typed.g-pre 𝓤 H A W 𝓣 E G7 G10 b5 Δ4 (Typed.pass T7 T10 s6) at3 (Scalar.g-room 𝓤 H A W E G7 2 (Syntax.tyStruct (List._∷_ 112 (List._∷_ 108 (List._∷_ 97 (List._∷_ 110 (List._∷_ 110 (List._∷_ 101 (List._∷_ 100 (List._∷_ 58 (List._∷_ 58 (List._∷_ 80 (List._∷_ 108 (List._∷_ 97 (List._∷_ 110 List.[]))))))))))))) (Syntax.tcons (Syntax.tyEnum (List._∷_ 112 (List._∷_ 108 (List._∷_ 97 (List._∷_ 110 (List._∷_ 110 (List._∷_ 101 (List._∷_ 100 (List._∷_ 58 (List._∷_ 58 (List._∷_ 76 (List._∷_ 97 (List._∷_ 121 (List._∷_ 111 (List._∷_ 117 (List._∷_ 116 List.[]))))))))))))))) (Syntax.ttcons Syntax.tnil (Syntax.ttcons Syntax.tnil (Syntax.ttcons Syntax.tnil Syntax.ttnil)))) (Syntax.tcons (Syntax.tyEnum (List._∷_ 102 (List._∷_ 105 (List._∷_ 101 (List._∷_ 108 (List._∷_ 100 (List._∷_ 58 (List._∷_ 58 (List._∷_ 66 (List._∷_ 121 (List._∷_ 116 (List._∷_ 101 (List._∷_ 79 (List._∷_ 114 (List._∷_ 100 (List._∷_ 101 (List._∷_ 114 List.[])))))))))))))))) (Syntax.ttcons Syntax.tnil (Syntax.ttcons Syntax.tnil Syntax.ttnil))) (Syntax.tcons Syntax.tyBool (Syntax.tcons (Syntax.tyInt Syntax.w64) (Syntax.tcons (Syntax.tyInt Syntax.w64) (Syntax.tcons (Syntax.tyInt Syntax.w64) (Syntax.tcons (Syntax.tyInt Syntax.w64) (Syntax.tcons (Syntax.tyEnum (List._∷_ 111 (List._∷_ 117 (List._∷_ 116 (List._∷_ 99 (List._∷_ 111 (List._∷_ 109 (List._∷_ 101 (List._∷_ 58 (List._∷_ 58 (List._∷_ 79 (List._∷_ 117 (List._∷_ 116 (List._∷_ 99 (List._∷_ 111 (List._∷_ 109 (List._∷_ 101 List.[])))))))))))))))) (Syntax.ttcons Syntax.tnil (Syntax.ttcons Syntax.tnil (Syntax.ttcons (Syntax.tcons (Syntax.tyInt Syntax.w64) (Syntax.tcons (Syntax.tyInt Syntax.w64) Syntax.tnil)) (Syntax.ttcons Syntax.tnil (Syntax.ttcons (Syntax.tcons (Syntax.tyInt Syntax.w16) Syntax.tnil) (Syntax.ttcons Syntax.tnil (Syntax.ttcons (Syntax.tcons (Syntax.tyInt Syntax.w64) Syntax.tnil) (Syntax.ttcons Syntax.tnil (Syntax.ttcons (Syntax.tcons (Syntax.tyInt Syntax.w16) Syntax.tnil) Syntax.ttnil)))))))))) Syntax.tnil))))))))) (Local.room-whole 𝓤 H A W (Declared.row Plan.the-type) (Syntax.tyStruct (List._∷_ 112 (List._∷_ 108 (List._∷_ 97 (List._∷_ 110 (List._∷_ 110 (List._∷_ 101 (List._∷_ 100 (List._∷_ 58 (List._∷_ 58 (List._∷_ 80 (List._∷_ 108 (List._∷_ 97 (List._∷_ 110 List.[]))))))))))))) (Syntax.tcons (Syntax.tyEnum (List._∷_ 112 (List._∷_ 108 (List._∷_ 97 (List._∷_ 110 (List._∷_ 110 (List._∷_ 101 (List._∷_ 100 (List._∷_ 58 (List._∷_ 58 (List._∷_ 76 (List._∷_ 97 (List._∷_ 121 (List._∷_ 111 (List._∷_ 117 (List._∷_ 116 List.[]))))))))))))))) (Syntax.ttcons Syntax.tnil (Syntax.ttcons Syntax.tnil (Syntax.ttcons Syntax.tnil Syntax.ttnil)))) (Syntax.tcons (Syntax.tyEnum (List._∷_ 102 (List._∷_ 105 (List._∷_ 101 (List._∷_ 108 (List._∷_ 100 (List._∷_ 58 (List._∷_ 58 (List._∷_ 66 (List._∷_ 121 (List._∷_ 116 (List._∷_ 101 (List._∷_ 79 (List._∷_ 114 (List._∷_ 100 (List._∷_ 101 (List._∷_ 114 List.[])))))))))))))))) (Syntax.ttcons Syntax.tnil (Syntax.ttcons Syntax.tnil Syntax.ttnil))) (Syntax.tcons Syntax.tyBool (Syntax.tcons (Syntax.tyInt Syntax.w64) (Syntax.tcons (Syntax.tyInt Syntax.w64) (Syntax.tcons (Syntax.tyInt Syntax.w64) (Syntax.tcons (Syntax.tyInt Syntax.w64) (Syntax.tcons (Syntax.tyEnum (List._∷_ 111 (List._∷_ 117 (List._∷_ 116 (List._∷_ 99 (List._∷_ 111 (List._∷_ 109 (List._∷_ 101 (List._∷_ 58 (List._∷_ 58 (List._∷_ 79 (List._∷_ 117 (List._∷_ 116 (List._∷_ 99 (List._∷_ 111 (List._∷_ 109 (List._∷_ 101 List.[])))))))))))))))) (Syntax.ttcons Syntax.tnil (Syntax.ttcons Syntax.tnil (Syntax.ttcons (Syntax.tcons (Syntax.tyInt Syntax.w64) (Syntax.tcons (Syntax.tyInt Syntax.w64) Syntax.tnil)) (Syntax.ttcons Syntax.tnil (Syntax.ttcons (Syntax.tcons (Syntax.tyInt Syntax.w16) Syntax.tnil) (Syntax.ttcons Syntax.tnil (Syntax.ttcons (Syntax.tcons (Syntax.tyInt Syntax.w64) Syntax.tnil) (Syntax.ttcons Syntax.tnil (Syntax.ttcons (Syntax.tcons (Syntax.tyInt Syntax.w16) Syntax.tnil) Syntax.ttnil)))))))))) Syntax.tnil))))))))) Path'.refl)) d3
 
           d5 : Typed.Typed 𝓤 H A 𝓣 E G7 b6 Δ4 at5
           d5 = Scalar.t-cond 𝓤 H A W E 𝓣 G7 9 (λ x. x) b4 b5 Δ4 at1 at4 (Scalar.reads-sc 𝓤 H A W Row.sBool) Path'.refl d1 d4
@@ -661,7 +661,7 @@ module _ (claims· : Claims) where
           d7 = Typed.g-pre 𝓤 H A W 𝓣 E G21 G22 b13 Δ3 (Typed.pass T21 T22 s18) at6 (Scalar.g-room 𝓤 H A W E G21 7 (Syntax.tyStruct (List._∷_ 112 (List._∷_ 108 (List._∷_ 97 (List._∷_ 110 (List._∷_ 110 (List._∷_ 101 (List._∷_ 100 (List._∷_ 58 (List._∷_ 58 (List._∷_ 67 (List._∷_ 111 (List._∷_ 108 (List._∷_ 117 (List._∷_ 109 (List._∷_ 110 (List._∷_ 82 (List._∷_ 101 (List._∷_ 97 (List._∷_ 100 List.[]))))))))))))))))))) (Syntax.tcons (ColumnMetadataRow.ty) (Syntax.tcons (Syntax.tyInt Syntax.w64) Syntax.tnil))) (Local.room-whole 𝓤 H A W (Declared.row ColumnRead.the-type) (Syntax.tyStruct (List._∷_ 112 (List._∷_ 108 (List._∷_ 97 (List._∷_ 110 (List._∷_ 110 (List._∷_ 101 (List._∷_ 100 (List._∷_ 58 (List._∷_ 58 (List._∷_ 67 (List._∷_ 111 (List._∷_ 108 (List._∷_ 117 (List._∷_ 109 (List._∷_ 110 (List._∷_ 82 (List._∷_ 101 (List._∷_ 97 (List._∷_ 100 List.[]))))))))))))))))))) (Syntax.tcons (ColumnMetadataRow.ty) (Syntax.tcons (Syntax.tyInt Syntax.w64) Syntax.tnil))) Path'.refl)) d6
 
           d8 : Typed.Typed 𝓤 H A 𝓣 E G20 b14 Δ3 at8
-          d8 = Typed.s-seq 𝓤 H A W 𝓣 E G20 G21 b12 b13 Δ3 (Typed.both s17) at7 (Plain.t-call-plain 𝓤 H A W 𝓣 0 ps·2 r·2 (claims· .4) (claims· .5) "planned::next_of_read" (known .2) E (λ pos β. β) G20 (record { pos = 7; st = List.[]; d = 0; at = λ x. x }, tt) 5 List.[] (Call.sub-id 𝓤 H A W (G20 .slots)) ((Yields.yields-copy 𝓤 H A W (λ ρ. Unit) (Declared.row ColumnRead.the-type) Path'.refl (Copies.cStruct ColumnRead.the-type Laws'.the-laws Laws'.the-copy .copy 𝓤 H A W) (Rows'.whole (Declared.row ColumnRead.the-type)) (λ x. x) (λ x. x) (λ ρ told. Local.mem-whole 𝓤 H A W (Declared.row ColumnRead.the-type) ρ) λ ρ told. Local.whole-mem 𝓤 H A W (Declared.row ColumnRead.the-type) ρ, Path'.refl), tt) (Reads'.room-gone 𝓤 H A (Syntax.tyInt Syntax.w64)) tt Path'.refl) d7
+          d8 = Typed.s-seq 𝓤 H A W 𝓣 E G20 G21 b12 b13 Δ3 (Typed.both s17) at7 (Plain.t-call-plain 𝓤 H A W 𝓣 0 ps·2 r·2 (claims· .4) (claims· .5) "planned::next_of_read" (known .2) E (λ pos β. β) G20 (record { pos = 7; st = List.[]; d = 0; at = λ x. x }, tt) 5 List.[] (Call.sub-id 𝓤 H A W (G20 .slots)) ((Yields.yields-copy 𝓤 H A W (λ ρ. Unit) (Declared.row ColumnRead.the-type) Path'.refl (Copies.cStruct ColumnRead.the-type Laws.the-laws Laws.the-copy .copy 𝓤 H A W) (Rows'.whole (Declared.row ColumnRead.the-type)) (λ x. x) (λ x. x) (λ ρ told. Local.mem-whole 𝓤 H A W (Declared.row ColumnRead.the-type) ρ) λ ρ told. Local.whole-mem 𝓤 H A W (Declared.row ColumnRead.the-type) ρ, Path'.refl), tt) (Reads'.room-gone 𝓤 H A (Syntax.tyInt Syntax.w64)) tt Path'.refl) d7
 
           d9 : Typed.Typed 𝓤 H A 𝓣 E G19 b14 Δ3 at9
           d9 = Typed.g-pre 𝓤 H A W 𝓣 E G19 G20 b14 Δ3 (Typed.pass T19 T20 s16) at8 (Scalar.g-room 𝓤 H A W E G19 11 Syntax.tyPtr (Scalar.room-sc 𝓤 H A W Row.sPtr)) d8
@@ -682,13 +682,13 @@ module _ (claims· : Claims) where
           d14 = Typed.s-seq 𝓤 H A W 𝓣 E G14 G15 b9 b16 Δ3 (Typed.ask s11) at13 (Scalar.t-op2 𝓤 H A W E 𝓣 G14 (Syntax.mul Syntax.unsigned) (Scalar.oAt 6 (Syntax.tyInt Syntax.w64) (Row.valS (Row.sInt Syntax.w64))) (Scalar.oInt Syntax.w64 120) 10 (Rows'.sc-here (Row.sInt Syntax.w64)) (Syntax.tyInt Syntax.w64) (Row.valS (Row.sInt Syntax.w64)) (Row.sInt Syntax.w64 .of) (Scalar.reads-sc 𝓤 H A W (Row.sInt Syntax.w64), Path'.refl) tt (Reads'.room-gone 𝓤 H A (Syntax.tyInt Syntax.w64)) (Scalar.holds-sc 𝓤 H A W (Row.sInt Syntax.w64)) Path'.refl (λ u. Path'.refl) λ u. tt) d13
 
           d15 : Typed.Typed 𝓤 H A 𝓣 E G13 b18 Δ3 at15
-          d15 = Typed.s-seq 𝓤 H A W 𝓣 E G13 G14 b8 b17 Δ3 (Typed.both s10) at14 (Plain.t-call-plain 𝓤 H A W 𝓣 0 ps·1 r·1 (claims· .2) (claims· .3) "planned::column_of_read" (known .1) E (λ pos β. β) G13 (record { pos = 7; st = List.[]; d = 0; at = λ x. x }, tt) 8 List.[] (Call.sub-id 𝓤 H A W (G13 .slots)) ((Yields.yields-copy 𝓤 H A W (λ ρ. Unit) (Declared.row ColumnRead.the-type) Path'.refl (Copies.cStruct ColumnRead.the-type Laws'.the-laws Laws'.the-copy .copy 𝓤 H A W) (Rows'.whole (Declared.row ColumnRead.the-type)) (λ x. x) (λ x. x) (λ ρ told. Local.mem-whole 𝓤 H A W (Declared.row ColumnRead.the-type) ρ) λ ρ told. Local.whole-mem 𝓤 H A W (Declared.row ColumnRead.the-type) ρ, Path'.refl), tt) (Reads'.room-gone 𝓤 H A (ColumnMetadataRow.ty)) tt Path'.refl) d14
+          d15 = Typed.s-seq 𝓤 H A W 𝓣 E G13 G14 b8 b17 Δ3 (Typed.both s10) at14 (Plain.t-call-plain 𝓤 H A W 𝓣 0 ps·1 r·1 (claims· .2) (claims· .3) "planned::column_of_read" (known .1) E (λ pos β. β) G13 (record { pos = 7; st = List.[]; d = 0; at = λ x. x }, tt) 8 List.[] (Call.sub-id 𝓤 H A W (G13 .slots)) ((Yields.yields-copy 𝓤 H A W (λ ρ. Unit) (Declared.row ColumnRead.the-type) Path'.refl (Copies.cStruct ColumnRead.the-type Laws.the-laws Laws.the-copy .copy 𝓤 H A W) (Rows'.whole (Declared.row ColumnRead.the-type)) (λ x. x) (λ x. x) (λ ρ told. Local.mem-whole 𝓤 H A W (Declared.row ColumnRead.the-type) ρ) λ ρ told. Local.whole-mem 𝓤 H A W (Declared.row ColumnRead.the-type) ρ, Path'.refl), tt) (Reads'.room-gone 𝓤 H A (ColumnMetadataRow.ty)) tt Path'.refl) d14
 
           d16 : Typed.Typed 𝓤 H A 𝓣 E G12 b18 Δ3 at16
           d16 = Typed.g-pre 𝓤 H A W 𝓣 E G12 G13 b18 Δ3 (Typed.pass T12 T13 s9) at15 (Scalar.g-room 𝓤 H A W E G12 5 (Syntax.tyInt Syntax.w64) (Scalar.room-sc 𝓤 H A W (Row.sInt Syntax.w64))) d15
 
           d17 : Typed.Typed 𝓤 H A 𝓣 E G8 b19 Δ3 at17
-          d17 = Typed.s-seq 𝓤 H A W 𝓣 E G8 G12 b7 b18 Δ3 (Typed.both s8) at16 (Plain.t-call-plain 𝓤 H A W 𝓣 1 ps·0 r·0 (claims· .0) (claims· .1) "planned::column_here" (known .0) E (λ pos β. β) G8 (record { pos = 1; ty = Syntax.tyRef (Syntax.named 0) Syntax.imm (Syntax.tyInt Syntax.w8); ref = λ x. x }, (record { pos = 2; st = List.[]; d = 0; at = λ x. x }, (Num.vAt 5 λ x. x, (Num.vAt 6 λ x. x, tt)))) 7 (List._∷_ 0 List.[]) (Call.sub-id 𝓤 H A W (G8 .slots)) (ShrSlice.spares-sslice 𝓤 H A W (Referent.rtF (Referent.fInt Syntax.w8)) (Syntax.tyRef (Syntax.named 0) Syntax.imm (Syntax.tyInt Syntax.w8)) 0, Shared.reads-sslice 𝓤 H A W (Referent.rtF (Referent.fInt Syntax.w8)) (Syntax.tyRef (Syntax.named 0) Syntax.imm (Syntax.tyInt Syntax.w8)) 0, Path'.refl, ((Yields.yields-copy 𝓤 H A W (λ ρ. Unit) (Declared.row Plan.the-type) Path'.refl (Copies.cStruct Plan.the-type Laws.the-laws Laws.the-copy .copy 𝓤 H A W) (Rows'.whole (Declared.row Plan.the-type)) (λ x. x) (λ x. x) (λ ρ told. Local.mem-whole 𝓤 H A W (Declared.row Plan.the-type) ρ) λ ρ told. Local.whole-mem 𝓤 H A W (Declared.row Plan.the-type) ρ, Path'.refl), ((Scalar.reads-sc 𝓤 H A W (Row.sInt Syntax.w64), Path'.refl), ((Scalar.reads-sc 𝓤 H A W (Row.sInt Syntax.w64), Path'.refl), tt)))) (Reads'.room-gone 𝓤 H A (Syntax.tyStruct (List._∷_ 112 (List._∷_ 108 (List._∷_ 97 (List._∷_ 110 (List._∷_ 110 (List._∷_ 101 (List._∷_ 100 (List._∷_ 58 (List._∷_ 58 (List._∷_ 67 (List._∷_ 111 (List._∷_ 108 (List._∷_ 117 (List._∷_ 109 (List._∷_ 110 (List._∷_ 82 (List._∷_ 101 (List._∷_ 97 (List._∷_ 100 List.[]))))))))))))))))))) (Syntax.tcons (ColumnMetadataRow.ty) (Syntax.tcons (Syntax.tyInt Syntax.w64) Syntax.tnil)))) (tt, tt) Path'.refl) d16
+          d17 = Typed.s-seq 𝓤 H A W 𝓣 E G8 G12 b7 b18 Δ3 (Typed.both s8) at16 (Plain.t-call-plain 𝓤 H A W 𝓣 1 ps·0 r·0 (claims· .0) (claims· .1) "planned::column_here" (known .0) E (λ pos β. β) G8 (record { pos = 1; ty = Syntax.tyRef (Syntax.named 0) Syntax.imm (Syntax.tyInt Syntax.w8); ref = λ x. x }, (record { pos = 2; st = List.[]; d = 0; at = λ x. x }, (Num.vAt 5 λ x. x, (Num.vAt 6 λ x. x, tt)))) 7 (List._∷_ 0 List.[]) (Call.sub-id 𝓤 H A W (G8 .slots)) (ShrSlice.spares-sslice 𝓤 H A W (Referent.rtF (Referent.fInt Syntax.w8)) (Syntax.tyRef (Syntax.named 0) Syntax.imm (Syntax.tyInt Syntax.w8)) 0, Shared.reads-sslice 𝓤 H A W (Referent.rtF (Referent.fInt Syntax.w8)) (Syntax.tyRef (Syntax.named 0) Syntax.imm (Syntax.tyInt Syntax.w8)) 0, Path'.refl, ((Yields.yields-copy 𝓤 H A W (λ ρ. Unit) (Declared.row Plan.the-type) Path'.refl (Copies.cStruct Plan.the-type Laws'.the-laws Laws'.the-copy .copy 𝓤 H A W) (Rows'.whole (Declared.row Plan.the-type)) (λ x. x) (λ x. x) (λ ρ told. Local.mem-whole 𝓤 H A W (Declared.row Plan.the-type) ρ) λ ρ told. Local.whole-mem 𝓤 H A W (Declared.row Plan.the-type) ρ, Path'.refl), ((Scalar.reads-sc 𝓤 H A W (Row.sInt Syntax.w64), Path'.refl), ((Scalar.reads-sc 𝓤 H A W (Row.sInt Syntax.w64), Path'.refl), tt)))) (Reads'.room-gone 𝓤 H A (Syntax.tyStruct (List._∷_ 112 (List._∷_ 108 (List._∷_ 97 (List._∷_ 110 (List._∷_ 110 (List._∷_ 101 (List._∷_ 100 (List._∷_ 58 (List._∷_ 58 (List._∷_ 67 (List._∷_ 111 (List._∷_ 108 (List._∷_ 117 (List._∷_ 109 (List._∷_ 110 (List._∷_ 82 (List._∷_ 101 (List._∷_ 97 (List._∷_ 100 List.[]))))))))))))))))))) (Syntax.tcons (ColumnMetadataRow.ty) (Syntax.tcons (Syntax.tyInt Syntax.w64) Syntax.tnil)))) (tt, tt) Path'.refl) d16
 
           d18 : Typed.Typed 𝓤 H A 𝓣 E G7 b20 Δ3 at18
           d18 = Typed.t-seq 𝓤 H A W 𝓣 E G7 G8 b6 b19 Δ3 at5 at17 d5 d17
@@ -724,10 +724,10 @@ module _ (claims· : Claims) where
           d28 = Typed.s-seq 𝓤 H A W 𝓣 E G4 G5 b2 b27 Δ0 (Typed.pass T4 T5 s3) at27 (Scalar.t-use 𝓤 H A W E 𝓣 G4 (Scalar.oInt Syntax.w64 0) 6 (Rows'.sc-here (Row.sInt Syntax.w64)) (Syntax.tyInt Syntax.w64) (Row.valS (Row.sInt Syntax.w64)) (Row.sInt Syntax.w64 .of) tt (Reads'.room-gone 𝓤 H A (Syntax.tyInt Syntax.w64)) (Scalar.holds-sc 𝓤 H A W (Row.sInt Syntax.w64)) Path'.refl (λ u. Path'.refl) λ u. tt) d27
 
           d29 : Typed.Typed 𝓤 H A 𝓣 E G3 b29 Δ0 at29
-          d29 = Typed.s-seq 𝓤 H A W 𝓣 E G3 G4 b1 b28 Δ0 (Typed.pass T3 T4 s2) at28 (Scalar.t-use 𝓤 H A W E 𝓣 G3 (Scalar.oFld 2 (List._∷_ (Syntax.field 3) List.[]) (Syntax.tyInt Syntax.w64) 8 (Reads.fieldV Plan.the-type Laws.the-laws 3)) 5 (Rows'.sc-here (Row.sInt Syntax.w64)) (Syntax.tyInt Syntax.w64) (Row.valS (Row.sInt Syntax.w64)) (Row.sInt Syntax.w64 .of) (Reads.reads-field 𝓤 H A W Plan.the-type Laws.the-laws 3 (Syntax.tyInt Syntax.w64) 8 Path'.refl, Path'.refl) (Reads'.room-gone 𝓤 H A (Syntax.tyInt Syntax.w64)) (Scalar.holds-sc 𝓤 H A W (Row.sInt Syntax.w64)) Path'.refl (λ u. Path'.refl) λ u. tt) d28
+          d29 = Typed.s-seq 𝓤 H A W 𝓣 E G3 G4 b1 b28 Δ0 (Typed.pass T3 T4 s2) at28 (Scalar.t-use 𝓤 H A W E 𝓣 G3 (Scalar.oFld 2 (List._∷_ (Syntax.field 3) List.[]) (Syntax.tyInt Syntax.w64) 8 (Reads.fieldV Plan.the-type Laws'.the-laws 3)) 5 (Rows'.sc-here (Row.sInt Syntax.w64)) (Syntax.tyInt Syntax.w64) (Row.valS (Row.sInt Syntax.w64)) (Row.sInt Syntax.w64 .of) (Reads.reads-field 𝓤 H A W Plan.the-type Laws'.the-laws 3 (Syntax.tyInt Syntax.w64) 8 Path'.refl, Path'.refl) (Reads'.room-gone 𝓤 H A (Syntax.tyInt Syntax.w64)) (Scalar.holds-sc 𝓤 H A W (Row.sInt Syntax.w64)) Path'.refl (λ u. Path'.refl) λ u. tt) d28
 
           d30 : Typed.Typed 𝓤 H A 𝓣 E G2 b30 Δ0 at30
-          d30 = Typed.s-seq 𝓤 H A W 𝓣 E G2 G3 b0 b29 Δ0 (Typed.pass T2 T3 s1) at29 (Scalar.t-use 𝓤 H A W E 𝓣 G2 (Scalar.oFld 2 (List._∷_ (Syntax.field 5) List.[]) (Syntax.tyInt Syntax.w64) 24 (Reads.fieldV Plan.the-type Laws.the-laws 5)) 4 (Rows'.sc-here (Row.sInt Syntax.w64)) (Syntax.tyInt Syntax.w64) (Row.valS (Row.sInt Syntax.w64)) (Row.sInt Syntax.w64 .of) (Reads.reads-field 𝓤 H A W Plan.the-type Laws.the-laws 5 (Syntax.tyInt Syntax.w64) 24 Path'.refl, Path'.refl) (Reads'.room-gone 𝓤 H A (Syntax.tyInt Syntax.w64)) (Scalar.holds-sc 𝓤 H A W (Row.sInt Syntax.w64)) Path'.refl (λ u. Path'.refl) λ u. tt) d29
+          d30 = Typed.s-seq 𝓤 H A W 𝓣 E G2 G3 b0 b29 Δ0 (Typed.pass T2 T3 s1) at29 (Scalar.t-use 𝓤 H A W E 𝓣 G2 (Scalar.oFld 2 (List._∷_ (Syntax.field 5) List.[]) (Syntax.tyInt Syntax.w64) 24 (Reads.fieldV Plan.the-type Laws'.the-laws 5)) 4 (Rows'.sc-here (Row.sInt Syntax.w64)) (Syntax.tyInt Syntax.w64) (Row.valS (Row.sInt Syntax.w64)) (Row.sInt Syntax.w64 .of) (Reads.reads-field 𝓤 H A W Plan.the-type Laws'.the-laws 5 (Syntax.tyInt Syntax.w64) 24 Path'.refl, Path'.refl) (Reads'.room-gone 𝓤 H A (Syntax.tyInt Syntax.w64)) (Scalar.holds-sc 𝓤 H A W (Row.sInt Syntax.w64)) Path'.refl (λ u. Path'.refl) λ u. tt) d29
 
           d31 : Typed.Typed 𝓤 H A 𝓣 E G0 b30 Δ0 at31
           d31 = Typed.g-pre 𝓤 H A W 𝓣 E G0 G2 b30 Δ0 (Typed.give s0) at30 (Know.g-shs-known 𝓤 H A W (Referent.fInt Syntax.w8) E G0 1 0 (Syntax.tyRef (Syntax.named 0) Syntax.imm (Syntax.tyInt Syntax.w8)) (Row.lease (κs .0) (qs .0)) 0 (λ x. x) record { fits = Dec'.lit< tt } (Reads'.as-is 𝓤 H A (Rows'.sslice (Referent.rtF (Referent.fInt Syntax.w8)) (Syntax.tyRef (Syntax.named 0) Syntax.imm (Syntax.tyInt Syntax.w8)) 0)) Path'.refl tt) d30
@@ -738,7 +738,7 @@ module _ (claims· : Claims) where
       module _ (κs : Lifetimes.Lfts 2) where
         pub record Args : Type 0 where
           pub reply : Kinds.Den {n = 2} κs (ShrSlice.pShrS (Referent.rtF (Referent.fInt Syntax.w8)) 0 tt)
-          pub plan : Kinds.Den {n = 2} κs (Value.pVal record { ty = Declared.row Plan.the-type; one = Path'.refl; val = Laws''.val Plan.the-type Laws.the-laws; tells = Laws''.tells Plan.the-type Laws.the-laws; still = Laws''.still Plan.the-type Laws.the-copy Exit.yes; row = Rows'.whole (Declared.row Plan.the-type); rd = λ x. x; mk = λ x. x } λ M 𝓤 H A W. record { copies = Laws''.copy Plan.the-type Laws.the-copy 𝓤 H A W; lawful = Laws''.lawful Plan.the-type Laws.the-laws 𝓤 H A W; makes = Laws''.makes Plan.the-type Laws.the-plain 𝓤 H A; in-mem = Local.mem-whole 𝓤 H A W (Declared.row Plan.the-type); of-mem = Local.whole-mem 𝓤 H A W (Declared.row Plan.the-type) })
+          pub plan : Kinds.Den {n = 2} κs (Value.pVal record { ty = Declared.row Plan.the-type; one = Path'.refl; val = Laws''.val Plan.the-type Laws'.the-laws; tells = Laws''.tells Plan.the-type Laws'.the-laws; still = Laws''.still Plan.the-type Laws'.the-copy Exit.yes; row = Rows'.whole (Declared.row Plan.the-type); rd = λ x. x; mk = λ x. x } λ M 𝓤 H A W. record { copies = Laws''.copy Plan.the-type Laws'.the-copy 𝓤 H A W; lawful = Laws''.lawful Plan.the-type Laws'.the-laws 𝓤 H A W; makes = Laws''.makes Plan.the-type Laws'.the-plain 𝓤 H A; in-mem = Local.mem-whole 𝓤 H A W (Declared.row Plan.the-type); of-mem = Local.whole-mem 𝓤 H A W (Declared.row Plan.the-type) })
           pub columns : Kinds.Den {n = 2} κs (MutSlice.pMutS (ColumnMetadataRow.RT) 1 tt)
 
         abbrev pub dens : (a : Args) → Kinds.Dens κs ps
