@@ -151,17 +151,17 @@ def types(s):
 
 
 class Value:
-    """Statements that make some value of a type."""
+    """Statements that make some value of a type. `paths` has those of the types that the file does not name."""
 
-    def __init__(self, known, alias):
-        self.known, self.alias, self.lines = known, alias, []
+    def __init__(self, known, alias, paths):
+        self.known, self.alias, self.paths, self.lines = known, alias, paths, []
 
     def let(self, value):
         self.lines.append('    let d%d = %s;' % (len(self.lines) + 1, value))
         return 'd%d' % len(self.lines)
 
     def of(self, wanted):
-        path, last = wanted, wanted.split('::')[-1]
+        path, last = self.paths.get(wanted, wanted), wanted.split('::')[-1]
         if last in self.alias:
             wanted = last = self.alias[last]
         if re.fullmatch(r'[iu](8|16|32|64|size)', wanted):
@@ -189,14 +189,14 @@ class Value:
         return ', '.join('%s: %s' % (name, self.of(of)) for name, of in body)
 
 
-def stub(f, known, alias):
+def stub(f, known, alias, paths):
     """A body for a function that is only called."""
     if not f.result:
         return '{}'
     if f.result.startswith('&') or '<' in f.result:
         same = [p.split(':')[0].replace('mut ', '').strip() for p in split(f.params) if p.split(':', 1)[-1].strip() == f.result]
         return '{\n    %s\n}' % (same[0] if same else 'loop {}')
-    value = Value(known, alias)
+    value = Value(known, alias, paths)
     last = value.of(f.result)
     return '{\n' + '\n'.join(value.lines + ['    ' + last]) + '\n}'
 
@@ -210,14 +210,14 @@ def constants_of(records, s):
     return found
 
 
-def twin(s, kept, called, known, alias, constants):
+def twin(s, kept, called, known, alias, constants, paths):
     """The source with each record as an array and without contracts: whole the functions `kept`, a stub for those called, the others gone."""
     out, at = [], 0
     for f in functions(s):
         if f.path in kept:
             out.append(s[at:f.end] + '\n' + s[f.body:f.stop])
         elif f.name in called or f.name == 'main':
-            out.append(s[at:f.end] + '\n' + stub(f, known, alias))
+            out.append(s[at:f.end] + '\n' + stub(f, known, alias, paths))
         else:
             out.append(s[at:f.start])
         at = f.stop
@@ -432,12 +432,15 @@ class Crate:
         """The files of that repository: all that the driver sees."""
         imported = {x.split('::')[-1] for x in re.findall(r'^(?:pub )?use ([\w:]+);', self.everything, re.M)}
         constants = constants_of(self.alias, self.everything)
+        homes = {x: c + '::' + x for c in self.order for file in ('lib.rt', 'main.rt') for x in types(self.sources[c].get(file, ''))}
         yield 'crates.txt', ''.join('%s: %s\n' % (c, ' '.join(self.needs[c])) for c in self.order)
         for c in self.order:
             own = c == self.name
             for file, t in self.sources[c].items():
                 kept = [x.removeprefix(file[:-3] + '.') for x in ready if self.file_of(x) == file] if own else []
-                text = twin(t, kept, imported | (called if own else everywhere), self.types, self.alias, constants)
+                named = set(re.findall(r'^(?:pub )?use [\w:]+::(\w+);', t, re.M)) | set(types(t))
+                paths = {x: home for x, home in homes.items() if x not in named and not home.startswith(c + '::')}
+                text = twin(t, kept, imported | (called if own else everywhere), self.types, self.alias, constants, paths)
                 yield 'crates/%s/src/%s' % (c, file), text
             yield 'crates/%s/specs/Lib.antt' % c, ''
 

@@ -2,7 +2,7 @@
 use mathlib.Core.Path.{_≡_, refl}
 use mathlib.Core.List.{[], _∷_}
 use Rattle.codepage.specs.Page.{page037}
-use Rattle.sqldard.specs.Description.{refusedWith, description, withCodePoint}
+use Rattle.plan.specs.Description.{refusedWith, description, withCodePoint}
 use Rattle.cases.specs.Replies.{replyA}
 use Rattle.cases.specs.Collection.{EveryCase}
 use Rattle.cases.proofs.Compute.{everything}

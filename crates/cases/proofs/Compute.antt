@@ -25,7 +25,7 @@ use Rattle.compact.specs.Compact.{ccsidOf, nameHere, nameAt, compactName, compa
 use Rattle.scan.specs.Score.{exactScore}
 use Rattle.scan.specs.Scan.{score, runFrom, scanOrder, scanBest, scanColumns}
 use Rattle.plan.specs.Choice.{compactColumns, lastCountAt, lastColumns, lastReading, hasSome, choice}
-use Rattle.sqldard.specs.Description.{answerBy, description, withCodePoint}
+use Rattle.plan.specs.Description.{answerBy, description, withCodePoint}
 use Rattle.decimal.specs.Decimal.{digitsOf, decimalOf}
 use Rattle.column_name.specs.Name.{generatedName, nameOf}
 use Rattle.columns.specs.Row.{columnWidth, rowWidth, largeRefusal, rowRefusal, rowAnswer}

@@ -8,7 +8,7 @@ use Rattle.codepage.specs.Page.{page037}
 use Rattle.types.specs.declared.ColumnMetadata.{ColumnMetadata}
 use Rattle.column.specs.Column.{blankColumn}
 use Rattle.search.specs.Search.{over}
-use Rattle.sqldard.specs.Description.{Description, description}
+use Rattle.plan.specs.Description.{Description, description}
 use Rattle.cases.specs.Replies.{doorOf, replyA, replyD}
 use Rattle.cases.specs.Questions.{listOf}
 use Rattle.cases.specs.Collection.{accepted}

@@ -7,7 +7,7 @@ use lib.IntN.{ℤ, pos, negsuc}
 use Rattle.text.specs.Text.{textIs}
 use Rattle.types.specs.declared.ColumnMetadata.{ColumnMetadata}
 use Rattle.sqlcard.specs.Card.{successCard}
-use Rattle.sqldard.specs.Description.{Description, refusedWith}
+use Rattle.plan.specs.Description.{Description, refusedWith}
 use Rattle.cases.specs.Replies.{replyA, replyB, replyC, replyD, columnA, columnB, columnC, columnD}
 use Rattle.cases.specs.Questions.{Question, Size, Describe, Names, WidestRow, Decode, Sqlcode, CompactCcsid, DecimalLength, Answer, Described, Called, Wide, Decoded, Code, Number, answer}
 

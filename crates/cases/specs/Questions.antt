@@ -11,7 +11,7 @@ use Rattle.types.specs.declared.ColumnMetadata.{ColumnMetadata}
 use Rattle.sqlda.specs.Types.{sqldaType}
 use Rattle.sqlca.specs.Code.{codeOf}
 use Rattle.compact.specs.Compact.{compactAt}
-use Rattle.sqldard.specs.Description.{Description, description}
+use Rattle.plan.specs.Description.{Description, description}
 use Rattle.column_name.specs.Name.{nameOf}
 use Rattle.columns.specs.Row.{rowRefusal, rowAnswer}
 

@@ -3,7 +3,7 @@
 // shows and its bytes, with a byte for the length in front of both.
 ghost use Prim.Native.Nat.{_≤_};
 use libc::STDIN_FILENO;
-use sqldard::SqldardAnswer;
+use plan::SqldardAnswer;
 use types::ColumnMetadata;
 
 // What stands in front of the columns: nothing, or why there are none.

@@ -6,7 +6,7 @@ ghost use Rattle.search.specs.Search.{over};
 ghost use Rattle.codepage.specs.Page.{page037};
 ghost use Rattle.outcome.specs.Refusal.{inNumbers};
 ghost use Rattle.column_words.specs.Words.{allWords};
-ghost use Rattle.sqldard.specs.Description.{description, withCodePoint};
+ghost use Rattle.plan.specs.Description.{description, withCodePoint};
 use sqldard_words::SqldardResult;
 
 // The entry description, with room for a column in each 22 words. Nothing is written where it refuses.

@@ -1,13 +1,18 @@
-// Which reading of a reply wins, from where, and how many columns it has: decided before anything is written.
+// What is answered to a reply: which reading wins, from where, and how many columns it has; or a refusal. All of it is decided before anything is
+// written.
+ghost use mathlib.Core.List.{List};
 ghost use mathlib.Core.Path.{_≡_};
-ghost use Prim.Native.Nat.{_+_, _≤_};
+ghost use Prim.Native.Nat.{ℕ, _+_, _≤_};
 ghost use lib.Dec.{leb};
 ghost use lib.ListN.{length};
 ghost use Rattle.search.specs.Search.{pick};
 ghost use Rattle.codepage.specs.Page.{page037};
+ghost use Rattle.outcome.specs.Refusal.{refusalOf};
 ghost use Rattle.standard.specs.Reading.{countAt};
 ghost use Rattle.scan.specs.Scan.{limitOf};
 ghost use Rattle.plan.specs.Choice.{lastCountAt};
+ghost use Rattle.plan.specs.Decision.{Decides};
+ghost use Rattle.plan.specs.Description.{refusedWith, statusOf, description, withCodePoint};
 ghost use Rattle.plan.specs.Plan.{planWith, noColumns, emptyPlan, standardPlan, compactPlan, scanPlan, lastPlan, planOf, Counted};
 use column::Run;
 use compact::Ends;
@@ -16,6 +21,20 @@ use outcome::Outcome;
 use planned::Layout;
 use planned::Plan;
 use scan::Best;
+use sqlcard::SqlCard;
+
+// How many columns were written. Where the outcome is a refusal, it is 0, and the card is that for success.
+pub struct SqldardAnswer {
+    pub outcome: Outcome,
+    pub card: SqlCard,
+    pub count: usize,
+}
+
+// What is answered, and the plan of the columns to write: none where the answer is a refusal.
+pub struct Decision {
+    pub plan: Plan,
+    pub answer: SqldardAnswer,
+}
 
 fn plan_with(
     layout: Layout,
@@ -220,4 +239,66 @@ pub fn plan_reply(reply: &[u8]) -> Plan
         return unnamed;
     }
     last_plan(reply, offset)
+}
+
+fn refused(outcome: Outcome) -> Decision
+    ensures { λ r. ⌜ ((room : ℕ) (s : List ℕ) → Decides page037 room s r (refusedWith (refusalOf outcome))) ⌝ }
+{
+    Decision {
+        plan: empty_plan(Outcome::Accepted),
+        answer: SqldardAnswer {
+            outcome,
+            card: SqlCard::success(),
+            count: 0,
+        },
+    }
+}
+
+// Compact and scan read the status alone on the whole reply, the others take the group's.
+fn card_by(reply: &[u8], alone: bool) -> SqlCard
+    ensures { λ r. ⌜ r ≡ statusOf page037 (now (reply .entry)) alone ⌝ }
+{
+    if alone {
+        let read = sqlcard::parse_sqlcard_data(reply);
+        read.card
+    } else {
+        let group = sqlcard::consume_sqlca_group(reply);
+        group.card
+    }
+}
+
+// Every refusal is decided here, before the list is written.
+pub fn decide(reply: &[u8], room: usize) -> Decision
+    ensures { λ r. ⌜ Decides page037 room (now (reply .entry)) r (description page037 room (now (reply .entry))) ⌝ }
+{
+    if reply.len() > 65536 {
+        return refused(Outcome::ReplyTooLong);
+    }
+    let plan = plan_reply(reply);
+    let outcome = plan.outcome;
+    if outcome::is_refused(outcome) {
+        return refused(outcome);
+    }
+    let count = plan.count;
+    if room < count {
+        return refused(Outcome::RoomTooShort(count));
+    }
+    let card = card_by(reply, plan.alone);
+    Decision {
+        plan,
+        answer: SqldardAnswer {
+            outcome: Outcome::Accepted,
+            card,
+            count,
+        },
+    }
+}
+
+pub fn decide_at(code_point: u16, reply: &[u8], room: usize) -> Decision
+    ensures { λ r. ⌜ Decides page037 room (now (reply .entry)) r (withCodePoint page037 room «code_point» (now (reply .entry))) ⌝ }
+{
+    if code_point == 0x2411 {
+        return decide(reply, room);
+    }
+    refused(Outcome::UnexpectedCodePoint(code_point))
 }

@@ -19,7 +19,7 @@ use Rattle.standard.specs.Exchange.{withColumn, exchange}
 use Rattle.standard.proofs.Kept.{at-below}
 use Rattle.columns.specs.Cut.{sameColumn, sameCut, cutAnswer}
 use Rattle.columns.proofs.Same.{same-whole, column-refl}
-use Rattle.sqldard.specs.Description.{Description, description}
+use Rattle.plan.specs.Description.{Description, description}
 use Rattle.sqldard.specs.Exchanged.{newColumn, laterColumn, Exchangeable, ReadExchanged}
 use Rattle.sqldard.proofs.Exchange.{reading-exchanged, standard-wins, exchange-theorem}
 use Rattle.readings.specs.Listed.{Listed}

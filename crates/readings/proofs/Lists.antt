@@ -23,7 +23,7 @@ use Rattle.columns.specs.Cut.{mostColumns}
 use Rattle.columns.specs.Row.{rowRefusal}
 use Rattle.columns.proofs.Same.{cut-answered}
 use Rattle.columns.proofs.Rows.{same-cut-rows}
-use Rattle.sqldard.specs.Description.{refusedWith, statusOf, answerBy, description, withCodePoint}
+use Rattle.plan.specs.Description.{refusedWith, statusOf, answerBy, description, withCodePoint}
 use Rattle.readings.specs.Listed.{Listed, Compared}
 use Rattle.readings.proofs.Consistent.{standard-consistent, compact-consistent, scan-consistent, last-consistent}
 use Rattle.readings.proofs.Few.{standard-few, compact-few, scan-few, last-few}

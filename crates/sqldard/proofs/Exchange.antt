@@ -28,7 +28,7 @@ use Rattle.standard.proofs.Front.{count-past}
 use Rattle.standard.proofs.Exchange.{place, front, standard-exchanged}
 use Rattle.standard.proofs.Kept.{bytes-exchanged, column-lies-at, starts-within, texts-inside, length-exchange}
 use Rattle.plan.specs.Choice.{reads, choice}
-use Rattle.sqldard.specs.Description.{Description, answerBy, description}
+use Rattle.plan.specs.Description.{Description, answerBy, description}
 use Rattle.sqldard.specs.Exchanged.{Moved, MovedColumn, newColumn, laterColumn, Exchangeable, ReadExchanged, Exchanged, attributesOf}
 
 -- ---- the elements of an exchanged list

@@ -1,4 +1,3 @@
 pub mod ColumnMetadataRow
-pub mod Deciding
 pub mod Exchange
 pub mod Known

@@ -18,7 +18,7 @@ use Rattle.column.specs.Moved.{moveColumn, columnBytes, LiesAll}
 use Rattle.descriptor.specs.Descriptor.{columnAt, Complete}
 use Rattle.standard.specs.Reading.{startOf, standard}
 use Rattle.standard.specs.Exchange.{withColumn, exchange}
-use Rattle.sqldard.specs.Description.{description}
+use Rattle.plan.specs.Description.{description}
 
 -- the description of column k in the reply s is so many bytes (01, What each entry owes (e): the bytes that its descriptor takes there)
 abbrev pub oldBytes : ByteOrder → List ℕ → ℕ → ℕ

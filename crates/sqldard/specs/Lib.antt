@@ -1,4 +1,2 @@
 pub mod Blank
-pub mod Decision
-pub mod Description
 pub mod Exchanged

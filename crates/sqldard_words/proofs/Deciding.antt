@@ -10,10 +10,10 @@ use Rattle.outcome.specs.declared.Refusal.{Refusal}
 use Rattle.outcome.specs.Refusal.{refusalOf, inNumbers}
 use Rattle.types.specs.declared.ColumnMetadata.{ColumnMetadata}
 use Rattle.planned.specs.Planned.{columnsOf}
-use Rattle.sqldard.specs.declared.Decision.{Decision}
-use Rattle.sqldard.specs.Decision.{Decides}
-use Rattle.sqldard.specs.Description.{Description}
-use Rattle.sqldard.proofs.Deciding.{can-fill}
+use Rattle.plan.specs.declared.Decision.{Decision}
+use Rattle.plan.specs.Decision.{Decides}
+use Rattle.plan.specs.Description.{Description}
+use Rattle.plan.proofs.Deciding.{can-fill}
 use Rattle.column_words.specs.Words.{allWords}
 use Rattle.sqldard_words.specs.declared.SqldardResult.{SqldardResult}
 

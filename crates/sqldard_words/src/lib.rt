@@ -7,11 +7,11 @@ ghost use Rattle.codepage.specs.Page.{page037};
 ghost use Rattle.outcome.specs.Refusal.{refusalOf, inNumbers};
 ghost use Rattle.planned.specs.Planned.{columnsOf};
 ghost use Rattle.column_words.specs.Words.{allWords};
-ghost use Rattle.sqldard.specs.Description.{description, withCodePoint};
+ghost use Rattle.plan.specs.Description.{description, withCodePoint};
 use outcome::Refusal;
+use plan::SqldardAnswer;
 use planned::Plan;
 use sqlcard::SqlCard;
-use sqldard::SqldardAnswer;
 
 // How many columns were written, 22 words each. Where the refusal's number is not 0, it is 0, and the card is that for success.
 #[repr(C)]
@@ -62,7 +62,7 @@ pub fn parse_sqldard_data(reply: &[u8], columns: &mut [u64]) -> SqldardResult
     ensures counts { λ r. ⌜ r .count ≡ length (description page037 (length (now (columns .entry)) / 22) (now (reply .entry)) .columns) ⌝ }
     ensures fills { λ _. ⌜ now (columns .exit) ≡ over (allWords (description page037 (length (now (columns .entry)) / 22) (now (reply .entry)) .columns)) (now (columns .entry)) ⌝ }
 {
-    let decision = sqldard::decide(reply, columns.len() / 22);
+    let decision = plan::decide(reply, columns.len() / 22);
     let plan = decision.plan;
     let answer = decision.answer;
     fill_words(reply, plan, columns);
@@ -76,7 +76,7 @@ pub fn parse_sqldard(code_point: u16, reply: &[u8], columns: &mut [u64]) -> Sqld
     ensures counts { λ r. ⌜ r .count ≡ length (withCodePoint page037 (length (now (columns .entry)) / 22) «code_point» (now (reply .entry)) .columns) ⌝ }
     ensures fills { λ _. ⌜ now (columns .exit) ≡ over (allWords (withCodePoint page037 (length (now (columns .entry)) / 22) «code_point» (now (reply .entry)) .columns)) (now (columns .entry)) ⌝ }
 {
-    let decision = sqldard::decide_at(code_point, reply, columns.len() / 22);
+    let decision = plan::decide_at(code_point, reply, columns.len() / 22);
     let plan = decision.plan;
     let answer = decision.answer;
     fill_words(reply, plan, columns);

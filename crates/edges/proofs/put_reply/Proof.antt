@@ -4,7 +4,7 @@ mod Tie
 use Prim.Native.Nat.{_≤_, _-_}
 use native.Mathlib.Omega.{arith}
 use borrow.Author.Needs.{needs}
-use Rattle.sqldard.proofs.Deciding.{no-more}
+use Rattle.plan.proofs.Deciding.{no-more}
 use Rattle.edges.proofs.put_reply.Statement.{statement}
 use Rattle.edges.proofs.put_reply.Proof.Tie as tie
 

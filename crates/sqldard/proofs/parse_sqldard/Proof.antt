@@ -1,7 +1,7 @@
 mod Lts
 mod Tie
 use borrow.Author.Needs.{needs}
-use Rattle.sqldard.proofs.Deciding.{can-fill, filled}
+use Rattle.plan.proofs.Deciding.{can-fill, filled}
 use Rattle.sqldard.proofs.parse_sqldard.Statement.{statement}
 use Rattle.sqldard.proofs.parse_sqldard.Proof.Tie as tie
 

@@ -1,7 +1,7 @@
 mod Lts
 mod Tie
 use borrow.Author.Needs.{needs}
-use Rattle.sqldard.proofs.Deciding.{can-fill, filled}
+use Rattle.plan.proofs.Deciding.{can-fill, filled}
 use Rattle.sqldard.proofs.parse_sqldard_data.Statement.{statement}
 use Rattle.sqldard.proofs.parse_sqldard_data.Proof.Tie as tie
 

@@ -1,8 +1,8 @@
 -- Made by tools/lists.py from the source of `edges::put_reply`: do not edit.
 use Rattle.edges.proofs.ColumnMetadataRow as ColumnMetadataRow
 use Prim.Native.Nat
-use Rattle.sqldard.proofs.SqldardAnswer
-use Rattle.sqldard.proofs.SqldardAnswer.Laws
+use Rattle.plan.proofs.SqldardAnswer
+use Rattle.plan.proofs.SqldardAnswer.Laws
 use borrow.Author.Called
 use borrow.Author.Tests
 use borrow.Fn.Any
@@ -71,7 +71,7 @@ abbrev pub r : Kinds.RK 1
 r = Unit'.rUnit
 
 abbrev pub xs : List.List Syntax.Ty
-xs = List._∷_ (ColumnMetadataRow.ty) (List._∷_ (Syntax.tyArray (ColumnMetadataRow.ty) 16) (List._∷_ (Syntax.tyStruct (List._∷_ 115 (List._∷_ 113 (List._∷_ 108 (List._∷_ 100 (List._∷_ 97 (List._∷_ 114 (List._∷_ 100 (List._∷_ 58 (List._∷_ 58 (List._∷_ 83 (List._∷_ 113 (List._∷_ 108 (List._∷_ 100 (List._∷_ 97 (List._∷_ 114 (List._∷_ 100 (List._∷_ 65 (List._∷_ 110 (List._∷_ 115 (List._∷_ 119 (List._∷_ 101 (List._∷_ 114 List.[])))))))))))))))))))))) (Syntax.tcons (Syntax.tyEnum (List._∷_ 111 (List._∷_ 117 (List._∷_ 116 (List._∷_ 99 (List._∷_ 111 (List._∷_ 109 (List._∷_ 101 (List._∷_ 58 (List._∷_ 58 (List._∷_ 79 (List._∷_ 117 (List._∷_ 116 (List._∷_ 99 (List._∷_ 111 (List._∷_ 109 (List._∷_ 101 List.[])))))))))))))))) (Syntax.ttcons Syntax.tnil (Syntax.ttcons Syntax.tnil (Syntax.ttcons (Syntax.tcons (Syntax.tyInt Syntax.w64) (Syntax.tcons (Syntax.tyInt Syntax.w64) Syntax.tnil)) (Syntax.ttcons Syntax.tnil (Syntax.ttcons (Syntax.tcons (Syntax.tyInt Syntax.w16) Syntax.tnil) (Syntax.ttcons Syntax.tnil (Syntax.ttcons (Syntax.tcons (Syntax.tyInt Syntax.w64) Syntax.tnil) (Syntax.ttcons Syntax.tnil (Syntax.ttcons (Syntax.tcons (Syntax.tyInt Syntax.w16) Syntax.tnil) Syntax.ttnil)))))))))) (Syntax.tcons (Syntax.tyStruct (List._∷_ 115 (List._∷_ 113 (List._∷_ 108 (List._∷_ 99 (List._∷_ 97 (List._∷_ 114 (List._∷_ 100 (List._∷_ 58 (List._∷_ 58 (List._∷_ 83 (List._∷_ 113 (List._∷_ 108 (List._∷_ 67 (List._∷_ 97 (List._∷_ 114 (List._∷_ 100 List.[])))))))))))))))) (Syntax.tcons Syntax.tyBool (Syntax.tcons (Syntax.tyInt Syntax.w32) (Syntax.tcons (Syntax.tyArray (Syntax.tyInt Syntax.w8) 5) (Syntax.tcons (Syntax.tyArray (Syntax.tyInt Syntax.w8) 8) (Syntax.tcons (Syntax.tyInt Syntax.w8) (Syntax.tcons (Syntax.tyArray (Syntax.tyInt Syntax.w32) 6) (Syntax.tcons (Syntax.tyInt Syntax.w64) (Syntax.tcons (Syntax.tyInt Syntax.w32) (Syntax.tcons (Syntax.tyArray (Syntax.tyInt Syntax.w8) 11) (Syntax.tcons (Syntax.tyInt Syntax.w64) (Syntax.tcons (Syntax.tyInt Syntax.w64) Syntax.tnil)))))))))))) (Syntax.tcons (Syntax.tyInt Syntax.w64) Syntax.tnil)))) (List._∷_ (Syntax.tyInt Syntax.w64) (List._∷_ (Syntax.tyInt Syntax.w64) (List._∷_ (ColumnMetadataRow.ty) (List._∷_ (Syntax.tyRef Syntax.erased Syntax.mut (Syntax.tyArray ColumnMetadataRow.named 16)) (List._∷_ (Syntax.tyStruct (List._∷_ 38 (List._∷_ 91 (List._∷_ 93 List.[]))) (Syntax.tcons (Syntax.tyRef Syntax.erased Syntax.mut ColumnMetadataRow.named) (Syntax.tcons (Syntax.tyInt Syntax.w64) Syntax.tnil))) (List._∷_ Syntax.tyUnit (List._∷_ Syntax.tyBool (List._∷_ (Syntax.tyInt Syntax.w64) (List._∷_ Syntax.tyPtr (List._∷_ Syntax.tyPtr (List._∷_ (ColumnMetadataRow.ty) (List._∷_ Syntax.tyUnit List.[]))))))))))))))
+xs = List._∷_ (ColumnMetadataRow.ty) (List._∷_ (Syntax.tyArray (ColumnMetadataRow.ty) 16) (List._∷_ (Syntax.tyStruct (List._∷_ 112 (List._∷_ 108 (List._∷_ 97 (List._∷_ 110 (List._∷_ 58 (List._∷_ 58 (List._∷_ 83 (List._∷_ 113 (List._∷_ 108 (List._∷_ 100 (List._∷_ 97 (List._∷_ 114 (List._∷_ 100 (List._∷_ 65 (List._∷_ 110 (List._∷_ 115 (List._∷_ 119 (List._∷_ 101 (List._∷_ 114 List.[]))))))))))))))))))) (Syntax.tcons (Syntax.tyEnum (List._∷_ 111 (List._∷_ 117 (List._∷_ 116 (List._∷_ 99 (List._∷_ 111 (List._∷_ 109 (List._∷_ 101 (List._∷_ 58 (List._∷_ 58 (List._∷_ 79 (List._∷_ 117 (List._∷_ 116 (List._∷_ 99 (List._∷_ 111 (List._∷_ 109 (List._∷_ 101 List.[])))))))))))))))) (Syntax.ttcons Syntax.tnil (Syntax.ttcons Syntax.tnil (Syntax.ttcons (Syntax.tcons (Syntax.tyInt Syntax.w64) (Syntax.tcons (Syntax.tyInt Syntax.w64) Syntax.tnil)) (Syntax.ttcons Syntax.tnil (Syntax.ttcons (Syntax.tcons (Syntax.tyInt Syntax.w16) Syntax.tnil) (Syntax.ttcons Syntax.tnil (Syntax.ttcons (Syntax.tcons (Syntax.tyInt Syntax.w64) Syntax.tnil) (Syntax.ttcons Syntax.tnil (Syntax.ttcons (Syntax.tcons (Syntax.tyInt Syntax.w16) Syntax.tnil) Syntax.ttnil)))))))))) (Syntax.tcons (Syntax.tyStruct (List._∷_ 115 (List._∷_ 113 (List._∷_ 108 (List._∷_ 99 (List._∷_ 97 (List._∷_ 114 (List._∷_ 100 (List._∷_ 58 (List._∷_ 58 (List._∷_ 83 (List._∷_ 113 (List._∷_ 108 (List._∷_ 67 (List._∷_ 97 (List._∷_ 114 (List._∷_ 100 List.[])))))))))))))))) (Syntax.tcons Syntax.tyBool (Syntax.tcons (Syntax.tyInt Syntax.w32) (Syntax.tcons (Syntax.tyArray (Syntax.tyInt Syntax.w8) 5) (Syntax.tcons (Syntax.tyArray (Syntax.tyInt Syntax.w8) 8) (Syntax.tcons (Syntax.tyInt Syntax.w8) (Syntax.tcons (Syntax.tyArray (Syntax.tyInt Syntax.w32) 6) (Syntax.tcons (Syntax.tyInt Syntax.w64) (Syntax.tcons (Syntax.tyInt Syntax.w32) (Syntax.tcons (Syntax.tyArray (Syntax.tyInt Syntax.w8) 11) (Syntax.tcons (Syntax.tyInt Syntax.w64) (Syntax.tcons (Syntax.tyInt Syntax.w64) Syntax.tnil)))))))))))) (Syntax.tcons (Syntax.tyInt Syntax.w64) Syntax.tnil)))) (List._∷_ (Syntax.tyInt Syntax.w64) (List._∷_ (Syntax.tyInt Syntax.w64) (List._∷_ (ColumnMetadataRow.ty) (List._∷_ (Syntax.tyRef Syntax.erased Syntax.mut (Syntax.tyArray ColumnMetadataRow.named 16)) (List._∷_ (Syntax.tyStruct (List._∷_ 38 (List._∷_ 91 (List._∷_ 93 List.[]))) (Syntax.tcons (Syntax.tyRef Syntax.erased Syntax.mut ColumnMetadataRow.named) (Syntax.tcons (Syntax.tyInt Syntax.w64) Syntax.tnil))) (List._∷_ Syntax.tyUnit (List._∷_ Syntax.tyBool (List._∷_ (Syntax.tyInt Syntax.w64) (List._∷_ Syntax.tyPtr (List._∷_ Syntax.tyPtr (List._∷_ (ColumnMetadataRow.ty) (List._∷_ Syntax.tyUnit List.[]))))))))))))))
 
 abbrev pub m : Nat.ℕ
 m = 1
@@ -245,31 +245,31 @@ abbrev pub Claims : Type 1
 Claims = Kinds.In 0 ps·0 × Kinds.Out 0 ps·0 r·0 × Kinds.In 2 ps·1 × Kinds.Out 2 ps·1 r·1 × Kinds.In 0 ps·2 × Kinds.Out 0 ps·2 r·2 × Kinds.In 1 ps·3 × Kinds.Out 1 ps·3 r·3 × Kinds.In 0 ps·4 × Kinds.Out 0 ps·4 r·4
 
 abbrev pub t0 : List.List Row.Entry
-t0 = List._∷_ (0, Rows'.any-gone Syntax.tyUnit) (List._∷_ (1, Rows'.sslice (Referent.rtF (Referent.fInt Syntax.w8)) (Syntax.tyRef (Syntax.named 0) Syntax.imm (Syntax.tyInt Syntax.w8)) 0) (List._∷_ (2, Rows'.any-gone (ColumnMetadataRow.ty)) (List._∷_ (3, Rows'.any-gone (Syntax.tyArray (ColumnMetadataRow.ty) 16)) (List._∷_ (4, Rows'.any-gone (Syntax.tyStruct (List._∷_ 115 (List._∷_ 113 (List._∷_ 108 (List._∷_ 100 (List._∷_ 97 (List._∷_ 114 (List._∷_ 100 (List._∷_ 58 (List._∷_ 58 (List._∷_ 83 (List._∷_ 113 (List._∷_ 108 (List._∷_ 100 (List._∷_ 97 (List._∷_ 114 (List._∷_ 100 (List._∷_ 65 (List._∷_ 110 (List._∷_ 115 (List._∷_ 119 (List._∷_ 101 (List._∷_ 114 List.[])))))))))))))))))))))) (Syntax.tcons (Syntax.tyEnum (List._∷_ 111 (List._∷_ 117 (List._∷_ 116 (List._∷_ 99 (List._∷_ 111 (List._∷_ 109 (List._∷_ 101 (List._∷_ 58 (List._∷_ 58 (List._∷_ 79 (List._∷_ 117 (List._∷_ 116 (List._∷_ 99 (List._∷_ 111 (List._∷_ 109 (List._∷_ 101 List.[])))))))))))))))) (Syntax.ttcons Syntax.tnil (Syntax.ttcons Syntax.tnil (Syntax.ttcons (Syntax.tcons (Syntax.tyInt Syntax.w64) (Syntax.tcons (Syntax.tyInt Syntax.w64) Syntax.tnil)) (Syntax.ttcons Syntax.tnil (Syntax.ttcons (Syntax.tcons (Syntax.tyInt Syntax.w16) Syntax.tnil) (Syntax.ttcons Syntax.tnil (Syntax.ttcons (Syntax.tcons (Syntax.tyInt Syntax.w64) Syntax.tnil) (Syntax.ttcons Syntax.tnil (Syntax.ttcons (Syntax.tcons (Syntax.tyInt Syntax.w16) Syntax.tnil) Syntax.ttnil)))))))))) (Syntax.tcons (Syntax.tyStruct (List._∷_ 115 (List._∷_ 113 (List._∷_ 108 (List._∷_ 99 (List._∷_ 97 (List._∷_ 114 (List._∷_ 100 (List._∷_ 58 (List._∷_ 58 (List._∷_ 83 (List._∷_ 113 (List._∷_ 108 (List._∷_ 67 (List._∷_ 97 (List._∷_ 114 (List._∷_ 100 List.[])))))))))))))))) (Syntax.tcons Syntax.tyBool (Syntax.tcons (Syntax.tyInt Syntax.w32) (Syntax.tcons (Syntax.tyArray (Syntax.tyInt Syntax.w8) 5) (Syntax.tcons (Syntax.tyArray (Syntax.tyInt Syntax.w8) 8) (Syntax.tcons (Syntax.tyInt Syntax.w8) (Syntax.tcons (Syntax.tyArray (Syntax.tyInt Syntax.w32) 6) (Syntax.tcons (Syntax.tyInt Syntax.w64) (Syntax.tcons (Syntax.tyInt Syntax.w32) (Syntax.tcons (Syntax.tyArray (Syntax.tyInt Syntax.w8) 11) (Syntax.tcons (Syntax.tyInt Syntax.w64) (Syntax.tcons (Syntax.tyInt Syntax.w64) Syntax.tnil)))))))))))) (Syntax.tcons (Syntax.tyInt Syntax.w64) Syntax.tnil))))) (List._∷_ (5, Rows'.any-gone (Syntax.tyInt Syntax.w64)) (List._∷_ (6, Rows'.any-gone (Syntax.tyInt Syntax.w64)) (List._∷_ (7, Rows'.any-gone (ColumnMetadataRow.ty)) (List._∷_ (8, Rows'.any-gone (Syntax.tyRef Syntax.erased Syntax.mut (Syntax.tyArray ColumnMetadataRow.named 16))) (List._∷_ (9, Rows'.any-gone (Syntax.tyStruct (List._∷_ 38 (List._∷_ 91 (List._∷_ 93 List.[]))) (Syntax.tcons (Syntax.tyRef Syntax.erased Syntax.mut ColumnMetadataRow.named) (Syntax.tcons (Syntax.tyInt Syntax.w64) Syntax.tnil)))) (List._∷_ (10, Rows'.any-gone Syntax.tyUnit) (List._∷_ (11, Rows'.any-gone Syntax.tyBool) (List._∷_ (12, Rows'.any-gone (Syntax.tyInt Syntax.w64)) (List._∷_ (13, Rows'.any-gone Syntax.tyPtr) (List._∷_ (14, Rows'.any-gone Syntax.tyPtr) (List._∷_ (15, Rows'.any-gone (ColumnMetadataRow.ty)) List.[])))))))))))))))
+t0 = List._∷_ (0, Rows'.any-gone Syntax.tyUnit) (List._∷_ (1, Rows'.sslice (Referent.rtF (Referent.fInt Syntax.w8)) (Syntax.tyRef (Syntax.named 0) Syntax.imm (Syntax.tyInt Syntax.w8)) 0) (List._∷_ (2, Rows'.any-gone (ColumnMetadataRow.ty)) (List._∷_ (3, Rows'.any-gone (Syntax.tyArray (ColumnMetadataRow.ty) 16)) (List._∷_ (4, Rows'.any-gone (Syntax.tyStruct (List._∷_ 112 (List._∷_ 108 (List._∷_ 97 (List._∷_ 110 (List._∷_ 58 (List._∷_ 58 (List._∷_ 83 (List._∷_ 113 (List._∷_ 108 (List._∷_ 100 (List._∷_ 97 (List._∷_ 114 (List._∷_ 100 (List._∷_ 65 (List._∷_ 110 (List._∷_ 115 (List._∷_ 119 (List._∷_ 101 (List._∷_ 114 List.[]))))))))))))))))))) (Syntax.tcons (Syntax.tyEnum (List._∷_ 111 (List._∷_ 117 (List._∷_ 116 (List._∷_ 99 (List._∷_ 111 (List._∷_ 109 (List._∷_ 101 (List._∷_ 58 (List._∷_ 58 (List._∷_ 79 (List._∷_ 117 (List._∷_ 116 (List._∷_ 99 (List._∷_ 111 (List._∷_ 109 (List._∷_ 101 List.[])))))))))))))))) (Syntax.ttcons Syntax.tnil (Syntax.ttcons Syntax.tnil (Syntax.ttcons (Syntax.tcons (Syntax.tyInt Syntax.w64) (Syntax.tcons (Syntax.tyInt Syntax.w64) Syntax.tnil)) (Syntax.ttcons Syntax.tnil (Syntax.ttcons (Syntax.tcons (Syntax.tyInt Syntax.w16) Syntax.tnil) (Syntax.ttcons Syntax.tnil (Syntax.ttcons (Syntax.tcons (Syntax.tyInt Syntax.w64) Syntax.tnil) (Syntax.ttcons Syntax.tnil (Syntax.ttcons (Syntax.tcons (Syntax.tyInt Syntax.w16) Syntax.tnil) Syntax.ttnil)))))))))) (Syntax.tcons (Syntax.tyStruct (List._∷_ 115 (List._∷_ 113 (List._∷_ 108 (List._∷_ 99 (List._∷_ 97 (List._∷_ 114 (List._∷_ 100 (List._∷_ 58 (List._∷_ 58 (List._∷_ 83 (List._∷_ 113 (List._∷_ 108 (List._∷_ 67 (List._∷_ 97 (List._∷_ 114 (List._∷_ 100 List.[])))))))))))))))) (Syntax.tcons Syntax.tyBool (Syntax.tcons (Syntax.tyInt Syntax.w32) (Syntax.tcons (Syntax.tyArray (Syntax.tyInt Syntax.w8) 5) (Syntax.tcons (Syntax.tyArray (Syntax.tyInt Syntax.w8) 8) (Syntax.tcons (Syntax.tyInt Syntax.w8) (Syntax.tcons (Syntax.tyArray (Syntax.tyInt Syntax.w32) 6) (Syntax.tcons (Syntax.tyInt Syntax.w64) (Syntax.tcons (Syntax.tyInt Syntax.w32) (Syntax.tcons (Syntax.tyArray (Syntax.tyInt Syntax.w8) 11) (Syntax.tcons (Syntax.tyInt Syntax.w64) (Syntax.tcons (Syntax.tyInt Syntax.w64) Syntax.tnil)))))))))))) (Syntax.tcons (Syntax.tyInt Syntax.w64) Syntax.tnil))))) (List._∷_ (5, Rows'.any-gone (Syntax.tyInt Syntax.w64)) (List._∷_ (6, Rows'.any-gone (Syntax.tyInt Syntax.w64)) (List._∷_ (7, Rows'.any-gone (ColumnMetadataRow.ty)) (List._∷_ (8, Rows'.any-gone (Syntax.tyRef Syntax.erased Syntax.mut (Syntax.tyArray ColumnMetadataRow.named 16))) (List._∷_ (9, Rows'.any-gone (Syntax.tyStruct (List._∷_ 38 (List._∷_ 91 (List._∷_ 93 List.[]))) (Syntax.tcons (Syntax.tyRef Syntax.erased Syntax.mut ColumnMetadataRow.named) (Syntax.tcons (Syntax.tyInt Syntax.w64) Syntax.tnil)))) (List._∷_ (10, Rows'.any-gone Syntax.tyUnit) (List._∷_ (11, Rows'.any-gone Syntax.tyBool) (List._∷_ (12, Rows'.any-gone (Syntax.tyInt Syntax.w64)) (List._∷_ (13, Rows'.any-gone Syntax.tyPtr) (List._∷_ (14, Rows'.any-gone Syntax.tyPtr) (List._∷_ (15, Rows'.any-gone (ColumnMetadataRow.ty)) List.[])))))))))))))))
 
 abbrev pub t1 : List.List Row.Entry
 t1 = List._∷_ (16, Rows'.any-gone Syntax.tyUnit) List.[]
 
 abbrev pub t2 : List.List Row.Entry
-t2 = List._∷_ (0, Rows'.sc-here Row.sUnit) (List._∷_ (1, Rows'.sslice (Referent.rtF (Referent.fInt Syntax.w8)) (Syntax.tyRef (Syntax.named 0) Syntax.imm (Syntax.tyInt Syntax.w8)) 0) (List._∷_ (2, Rows'.any-gone (ColumnMetadataRow.ty)) (List._∷_ (3, Rows'.any-gone (Syntax.tyArray (ColumnMetadataRow.ty) 16)) (List._∷_ (4, Rows'.any-gone (Syntax.tyStruct (List._∷_ 115 (List._∷_ 113 (List._∷_ 108 (List._∷_ 100 (List._∷_ 97 (List._∷_ 114 (List._∷_ 100 (List._∷_ 58 (List._∷_ 58 (List._∷_ 83 (List._∷_ 113 (List._∷_ 108 (List._∷_ 100 (List._∷_ 97 (List._∷_ 114 (List._∷_ 100 (List._∷_ 65 (List._∷_ 110 (List._∷_ 115 (List._∷_ 119 (List._∷_ 101 (List._∷_ 114 List.[])))))))))))))))))))))) (Syntax.tcons (Syntax.tyEnum (List._∷_ 111 (List._∷_ 117 (List._∷_ 116 (List._∷_ 99 (List._∷_ 111 (List._∷_ 109 (List._∷_ 101 (List._∷_ 58 (List._∷_ 58 (List._∷_ 79 (List._∷_ 117 (List._∷_ 116 (List._∷_ 99 (List._∷_ 111 (List._∷_ 109 (List._∷_ 101 List.[])))))))))))))))) (Syntax.ttcons Syntax.tnil (Syntax.ttcons Syntax.tnil (Syntax.ttcons (Syntax.tcons (Syntax.tyInt Syntax.w64) (Syntax.tcons (Syntax.tyInt Syntax.w64) Syntax.tnil)) (Syntax.ttcons Syntax.tnil (Syntax.ttcons (Syntax.tcons (Syntax.tyInt Syntax.w16) Syntax.tnil) (Syntax.ttcons Syntax.tnil (Syntax.ttcons (Syntax.tcons (Syntax.tyInt Syntax.w64) Syntax.tnil) (Syntax.ttcons Syntax.tnil (Syntax.ttcons (Syntax.tcons (Syntax.tyInt Syntax.w16) Syntax.tnil) Syntax.ttnil)))))))))) (Syntax.tcons (Syntax.tyStruct (List._∷_ 115 (List._∷_ 113 (List._∷_ 108 (List._∷_ 99 (List._∷_ 97 (List._∷_ 114 (List._∷_ 100 (List._∷_ 58 (List._∷_ 58 (List._∷_ 83 (List._∷_ 113 (List._∷_ 108 (List._∷_ 67 (List._∷_ 97 (List._∷_ 114 (List._∷_ 100 List.[])))))))))))))))) (Syntax.tcons Syntax.tyBool (Syntax.tcons (Syntax.tyInt Syntax.w32) (Syntax.tcons (Syntax.tyArray (Syntax.tyInt Syntax.w8) 5) (Syntax.tcons (Syntax.tyArray (Syntax.tyInt Syntax.w8) 8) (Syntax.tcons (Syntax.tyInt Syntax.w8) (Syntax.tcons (Syntax.tyArray (Syntax.tyInt Syntax.w32) 6) (Syntax.tcons (Syntax.tyInt Syntax.w64) (Syntax.tcons (Syntax.tyInt Syntax.w32) (Syntax.tcons (Syntax.tyArray (Syntax.tyInt Syntax.w8) 11) (Syntax.tcons (Syntax.tyInt Syntax.w64) (Syntax.tcons (Syntax.tyInt Syntax.w64) Syntax.tnil)))))))))))) (Syntax.tcons (Syntax.tyInt Syntax.w64) Syntax.tnil))))) (List._∷_ (5, Rows'.any-gone (Syntax.tyInt Syntax.w64)) (List._∷_ (6, Rows'.any-gone (Syntax.tyInt Syntax.w64)) (List._∷_ (7, Rows'.any-gone (ColumnMetadataRow.ty)) (List._∷_ (8, Rows'.any-gone (Syntax.tyRef Syntax.erased Syntax.mut (Syntax.tyArray ColumnMetadataRow.named 16))) (List._∷_ (9, Rows'.any-gone (Syntax.tyStruct (List._∷_ 38 (List._∷_ 91 (List._∷_ 93 List.[]))) (Syntax.tcons (Syntax.tyRef Syntax.erased Syntax.mut ColumnMetadataRow.named) (Syntax.tcons (Syntax.tyInt Syntax.w64) Syntax.tnil)))) (List._∷_ (10, Rows'.any-gone Syntax.tyUnit) (List._∷_ (11, Rows'.any-gone Syntax.tyBool) (List._∷_ (12, Rows'.any-gone (Syntax.tyInt Syntax.w64)) (List._∷_ (13, Rows'.any-gone Syntax.tyPtr) (List._∷_ (14, Rows'.any-gone Syntax.tyPtr) (List._∷_ (15, Rows'.any-gone (ColumnMetadataRow.ty)) List.[])))))))))))))))
+t2 = List._∷_ (0, Rows'.sc-here Row.sUnit) (List._∷_ (1, Rows'.sslice (Referent.rtF (Referent.fInt Syntax.w8)) (Syntax.tyRef (Syntax.named 0) Syntax.imm (Syntax.tyInt Syntax.w8)) 0) (List._∷_ (2, Rows'.any-gone (ColumnMetadataRow.ty)) (List._∷_ (3, Rows'.any-gone (Syntax.tyArray (ColumnMetadataRow.ty) 16)) (List._∷_ (4, Rows'.any-gone (Syntax.tyStruct (List._∷_ 112 (List._∷_ 108 (List._∷_ 97 (List._∷_ 110 (List._∷_ 58 (List._∷_ 58 (List._∷_ 83 (List._∷_ 113 (List._∷_ 108 (List._∷_ 100 (List._∷_ 97 (List._∷_ 114 (List._∷_ 100 (List._∷_ 65 (List._∷_ 110 (List._∷_ 115 (List._∷_ 119 (List._∷_ 101 (List._∷_ 114 List.[]))))))))))))))))))) (Syntax.tcons (Syntax.tyEnum (List._∷_ 111 (List._∷_ 117 (List._∷_ 116 (List._∷_ 99 (List._∷_ 111 (List._∷_ 109 (List._∷_ 101 (List._∷_ 58 (List._∷_ 58 (List._∷_ 79 (List._∷_ 117 (List._∷_ 116 (List._∷_ 99 (List._∷_ 111 (List._∷_ 109 (List._∷_ 101 List.[])))))))))))))))) (Syntax.ttcons Syntax.tnil (Syntax.ttcons Syntax.tnil (Syntax.ttcons (Syntax.tcons (Syntax.tyInt Syntax.w64) (Syntax.tcons (Syntax.tyInt Syntax.w64) Syntax.tnil)) (Syntax.ttcons Syntax.tnil (Syntax.ttcons (Syntax.tcons (Syntax.tyInt Syntax.w16) Syntax.tnil) (Syntax.ttcons Syntax.tnil (Syntax.ttcons (Syntax.tcons (Syntax.tyInt Syntax.w64) Syntax.tnil) (Syntax.ttcons Syntax.tnil (Syntax.ttcons (Syntax.tcons (Syntax.tyInt Syntax.w16) Syntax.tnil) Syntax.ttnil)))))))))) (Syntax.tcons (Syntax.tyStruct (List._∷_ 115 (List._∷_ 113 (List._∷_ 108 (List._∷_ 99 (List._∷_ 97 (List._∷_ 114 (List._∷_ 100 (List._∷_ 58 (List._∷_ 58 (List._∷_ 83 (List._∷_ 113 (List._∷_ 108 (List._∷_ 67 (List._∷_ 97 (List._∷_ 114 (List._∷_ 100 List.[])))))))))))))))) (Syntax.tcons Syntax.tyBool (Syntax.tcons (Syntax.tyInt Syntax.w32) (Syntax.tcons (Syntax.tyArray (Syntax.tyInt Syntax.w8) 5) (Syntax.tcons (Syntax.tyArray (Syntax.tyInt Syntax.w8) 8) (Syntax.tcons (Syntax.tyInt Syntax.w8) (Syntax.tcons (Syntax.tyArray (Syntax.tyInt Syntax.w32) 6) (Syntax.tcons (Syntax.tyInt Syntax.w64) (Syntax.tcons (Syntax.tyInt Syntax.w32) (Syntax.tcons (Syntax.tyArray (Syntax.tyInt Syntax.w8) 11) (Syntax.tcons (Syntax.tyInt Syntax.w64) (Syntax.tcons (Syntax.tyInt Syntax.w64) Syntax.tnil)))))))))))) (Syntax.tcons (Syntax.tyInt Syntax.w64) Syntax.tnil))))) (List._∷_ (5, Rows'.any-gone (Syntax.tyInt Syntax.w64)) (List._∷_ (6, Rows'.any-gone (Syntax.tyInt Syntax.w64)) (List._∷_ (7, Rows'.any-gone (ColumnMetadataRow.ty)) (List._∷_ (8, Rows'.any-gone (Syntax.tyRef Syntax.erased Syntax.mut (Syntax.tyArray ColumnMetadataRow.named 16))) (List._∷_ (9, Rows'.any-gone (Syntax.tyStruct (List._∷_ 38 (List._∷_ 91 (List._∷_ 93 List.[]))) (Syntax.tcons (Syntax.tyRef Syntax.erased Syntax.mut ColumnMetadataRow.named) (Syntax.tcons (Syntax.tyInt Syntax.w64) Syntax.tnil)))) (List._∷_ (10, Rows'.any-gone Syntax.tyUnit) (List._∷_ (11, Rows'.any-gone Syntax.tyBool) (List._∷_ (12, Rows'.any-gone (Syntax.tyInt Syntax.w64)) (List._∷_ (13, Rows'.any-gone Syntax.tyPtr) (List._∷_ (14, Rows'.any-gone Syntax.tyPtr) (List._∷_ (15, Rows'.any-gone (ColumnMetadataRow.ty)) List.[])))))))))))))))
 
 abbrev pub t3 : List.List Row.Entry
-t3 = List._∷_ (0, Rows'.any-gone Syntax.tyUnit) (List._∷_ (1, Rows'.sslice (Referent.rtF (Referent.fInt Syntax.w8)) (Syntax.tyRef (Syntax.named 0) Syntax.imm (Syntax.tyInt Syntax.w8)) 0) (List._∷_ (2, ColumnMetadataRow.row) (List._∷_ (3, Rows'.any-gone (Syntax.tyArray (ColumnMetadataRow.ty) 16)) (List._∷_ (4, Rows'.any-gone (Syntax.tyStruct (List._∷_ 115 (List._∷_ 113 (List._∷_ 108 (List._∷_ 100 (List._∷_ 97 (List._∷_ 114 (List._∷_ 100 (List._∷_ 58 (List._∷_ 58 (List._∷_ 83 (List._∷_ 113 (List._∷_ 108 (List._∷_ 100 (List._∷_ 97 (List._∷_ 114 (List._∷_ 100 (List._∷_ 65 (List._∷_ 110 (List._∷_ 115 (List._∷_ 119 (List._∷_ 101 (List._∷_ 114 List.[])))))))))))))))))))))) (Syntax.tcons (Syntax.tyEnum (List._∷_ 111 (List._∷_ 117 (List._∷_ 116 (List._∷_ 99 (List._∷_ 111 (List._∷_ 109 (List._∷_ 101 (List._∷_ 58 (List._∷_ 58 (List._∷_ 79 (List._∷_ 117 (List._∷_ 116 (List._∷_ 99 (List._∷_ 111 (List._∷_ 109 (List._∷_ 101 List.[])))))))))))))))) (Syntax.ttcons Syntax.tnil (Syntax.ttcons Syntax.tnil (Syntax.ttcons (Syntax.tcons (Syntax.tyInt Syntax.w64) (Syntax.tcons (Syntax.tyInt Syntax.w64) Syntax.tnil)) (Syntax.ttcons Syntax.tnil (Syntax.ttcons (Syntax.tcons (Syntax.tyInt Syntax.w16) Syntax.tnil) (Syntax.ttcons Syntax.tnil (Syntax.ttcons (Syntax.tcons (Syntax.tyInt Syntax.w64) Syntax.tnil) (Syntax.ttcons Syntax.tnil (Syntax.ttcons (Syntax.tcons (Syntax.tyInt Syntax.w16) Syntax.tnil) Syntax.ttnil)))))))))) (Syntax.tcons (Syntax.tyStruct (List._∷_ 115 (List._∷_ 113 (List._∷_ 108 (List._∷_ 99 (List._∷_ 97 (List._∷_ 114 (List._∷_ 100 (List._∷_ 58 (List._∷_ 58 (List._∷_ 83 (List._∷_ 113 (List._∷_ 108 (List._∷_ 67 (List._∷_ 97 (List._∷_ 114 (List._∷_ 100 List.[])))))))))))))))) (Syntax.tcons Syntax.tyBool (Syntax.tcons (Syntax.tyInt Syntax.w32) (Syntax.tcons (Syntax.tyArray (Syntax.tyInt Syntax.w8) 5) (Syntax.tcons (Syntax.tyArray (Syntax.tyInt Syntax.w8) 8) (Syntax.tcons (Syntax.tyInt Syntax.w8) (Syntax.tcons (Syntax.tyArray (Syntax.tyInt Syntax.w32) 6) (Syntax.tcons (Syntax.tyInt Syntax.w64) (Syntax.tcons (Syntax.tyInt Syntax.w32) (Syntax.tcons (Syntax.tyArray (Syntax.tyInt Syntax.w8) 11) (Syntax.tcons (Syntax.tyInt Syntax.w64) (Syntax.tcons (Syntax.tyInt Syntax.w64) Syntax.tnil)))))))))))) (Syntax.tcons (Syntax.tyInt Syntax.w64) Syntax.tnil))))) (List._∷_ (5, Rows'.any-gone (Syntax.tyInt Syntax.w64)) (List._∷_ (6, Rows'.any-gone (Syntax.tyInt Syntax.w64)) (List._∷_ (7, Rows'.any-gone (ColumnMetadataRow.ty)) (List._∷_ (8, Rows'.any-gone (Syntax.tyRef Syntax.erased Syntax.mut (Syntax.tyArray ColumnMetadataRow.named 16))) (List._∷_ (9, Rows'.any-gone (Syntax.tyStruct (List._∷_ 38 (List._∷_ 91 (List._∷_ 93 List.[]))) (Syntax.tcons (Syntax.tyRef Syntax.erased Syntax.mut ColumnMetadataRow.named) (Syntax.tcons (Syntax.tyInt Syntax.w64) Syntax.tnil)))) (List._∷_ (10, Rows'.any-gone Syntax.tyUnit) (List._∷_ (11, Rows'.any-gone Syntax.tyBool) (List._∷_ (12, Rows'.any-gone (Syntax.tyInt Syntax.w64)) (List._∷_ (13, Rows'.any-gone Syntax.tyPtr) (List._∷_ (14, Rows'.any-gone Syntax.tyPtr) (List._∷_ (15, Rows'.any-gone (ColumnMetadataRow.ty)) List.[])))))))))))))))
+t3 = List._∷_ (0, Rows'.any-gone Syntax.tyUnit) (List._∷_ (1, Rows'.sslice (Referent.rtF (Referent.fInt Syntax.w8)) (Syntax.tyRef (Syntax.named 0) Syntax.imm (Syntax.tyInt Syntax.w8)) 0) (List._∷_ (2, ColumnMetadataRow.row) (List._∷_ (3, Rows'.any-gone (Syntax.tyArray (ColumnMetadataRow.ty) 16)) (List._∷_ (4, Rows'.any-gone (Syntax.tyStruct (List._∷_ 112 (List._∷_ 108 (List._∷_ 97 (List._∷_ 110 (List._∷_ 58 (List._∷_ 58 (List._∷_ 83 (List._∷_ 113 (List._∷_ 108 (List._∷_ 100 (List._∷_ 97 (List._∷_ 114 (List._∷_ 100 (List._∷_ 65 (List._∷_ 110 (List._∷_ 115 (List._∷_ 119 (List._∷_ 101 (List._∷_ 114 List.[]))))))))))))))))))) (Syntax.tcons (Syntax.tyEnum (List._∷_ 111 (List._∷_ 117 (List._∷_ 116 (List._∷_ 99 (List._∷_ 111 (List._∷_ 109 (List._∷_ 101 (List._∷_ 58 (List._∷_ 58 (List._∷_ 79 (List._∷_ 117 (List._∷_ 116 (List._∷_ 99 (List._∷_ 111 (List._∷_ 109 (List._∷_ 101 List.[])))))))))))))))) (Syntax.ttcons Syntax.tnil (Syntax.ttcons Syntax.tnil (Syntax.ttcons (Syntax.tcons (Syntax.tyInt Syntax.w64) (Syntax.tcons (Syntax.tyInt Syntax.w64) Syntax.tnil)) (Syntax.ttcons Syntax.tnil (Syntax.ttcons (Syntax.tcons (Syntax.tyInt Syntax.w16) Syntax.tnil) (Syntax.ttcons Syntax.tnil (Syntax.ttcons (Syntax.tcons (Syntax.tyInt Syntax.w64) Syntax.tnil) (Syntax.ttcons Syntax.tnil (Syntax.ttcons (Syntax.tcons (Syntax.tyInt Syntax.w16) Syntax.tnil) Syntax.ttnil)))))))))) (Syntax.tcons (Syntax.tyStruct (List._∷_ 115 (List._∷_ 113 (List._∷_ 108 (List._∷_ 99 (List._∷_ 97 (List._∷_ 114 (List._∷_ 100 (List._∷_ 58 (List._∷_ 58 (List._∷_ 83 (List._∷_ 113 (List._∷_ 108 (List._∷_ 67 (List._∷_ 97 (List._∷_ 114 (List._∷_ 100 List.[])))))))))))))))) (Syntax.tcons Syntax.tyBool (Syntax.tcons (Syntax.tyInt Syntax.w32) (Syntax.tcons (Syntax.tyArray (Syntax.tyInt Syntax.w8) 5) (Syntax.tcons (Syntax.tyArray (Syntax.tyInt Syntax.w8) 8) (Syntax.tcons (Syntax.tyInt Syntax.w8) (Syntax.tcons (Syntax.tyArray (Syntax.tyInt Syntax.w32) 6) (Syntax.tcons (Syntax.tyInt Syntax.w64) (Syntax.tcons (Syntax.tyInt Syntax.w32) (Syntax.tcons (Syntax.tyArray (Syntax.tyInt Syntax.w8) 11) (Syntax.tcons (Syntax.tyInt Syntax.w64) (Syntax.tcons (Syntax.tyInt Syntax.w64) Syntax.tnil)))))))))))) (Syntax.tcons (Syntax.tyInt Syntax.w64) Syntax.tnil))))) (List._∷_ (5, Rows'.any-gone (Syntax.tyInt Syntax.w64)) (List._∷_ (6, Rows'.any-gone (Syntax.tyInt Syntax.w64)) (List._∷_ (7, Rows'.any-gone (ColumnMetadataRow.ty)) (List._∷_ (8, Rows'.any-gone (Syntax.tyRef Syntax.erased Syntax.mut (Syntax.tyArray ColumnMetadataRow.named 16))) (List._∷_ (9, Rows'.any-gone (Syntax.tyStruct (List._∷_ 38 (List._∷_ 91 (List._∷_ 93 List.[]))) (Syntax.tcons (Syntax.tyRef Syntax.erased Syntax.mut ColumnMetadataRow.named) (Syntax.tcons (Syntax.tyInt Syntax.w64) Syntax.tnil)))) (List._∷_ (10, Rows'.any-gone Syntax.tyUnit) (List._∷_ (11, Rows'.any-gone Syntax.tyBool) (List._∷_ (12, Rows'.any-gone (Syntax.tyInt Syntax.w64)) (List._∷_ (13, Rows'.any-gone Syntax.tyPtr) (List._∷_ (14, Rows'.any-gone Syntax.tyPtr) (List._∷_ (15, Rows'.any-gone (ColumnMetadataRow.ty)) List.[])))))))))))))))
 
 abbrev pub t4 : List.List Row.Entry
-t4 = List._∷_ (0, Rows'.any-gone Syntax.tyUnit) (List._∷_ (1, Rows'.sslice (Referent.rtF (Referent.fInt Syntax.w8)) (Syntax.tyRef (Syntax.named 0) Syntax.imm (Syntax.tyInt Syntax.w8)) 0) (List._∷_ (2, ColumnMetadataRow.row) (List._∷_ (3, Rows'.whole (Array'.Array (ColumnMetadataRow.RT) 16)) (List._∷_ (4, Rows'.any-gone (Syntax.tyStruct (List._∷_ 115 (List._∷_ 113 (List._∷_ 108 (List._∷_ 100 (List._∷_ 97 (List._∷_ 114 (List._∷_ 100 (List._∷_ 58 (List._∷_ 58 (List._∷_ 83 (List._∷_ 113 (List._∷_ 108 (List._∷_ 100 (List._∷_ 97 (List._∷_ 114 (List._∷_ 100 (List._∷_ 65 (List._∷_ 110 (List._∷_ 115 (List._∷_ 119 (List._∷_ 101 (List._∷_ 114 List.[])))))))))))))))))))))) (Syntax.tcons (Syntax.tyEnum (List._∷_ 111 (List._∷_ 117 (List._∷_ 116 (List._∷_ 99 (List._∷_ 111 (List._∷_ 109 (List._∷_ 101 (List._∷_ 58 (List._∷_ 58 (List._∷_ 79 (List._∷_ 117 (List._∷_ 116 (List._∷_ 99 (List._∷_ 111 (List._∷_ 109 (List._∷_ 101 List.[])))))))))))))))) (Syntax.ttcons Syntax.tnil (Syntax.ttcons Syntax.tnil (Syntax.ttcons (Syntax.tcons (Syntax.tyInt Syntax.w64) (Syntax.tcons (Syntax.tyInt Syntax.w64) Syntax.tnil)) (Syntax.ttcons Syntax.tnil (Syntax.ttcons (Syntax.tcons (Syntax.tyInt Syntax.w16) Syntax.tnil) (Syntax.ttcons Syntax.tnil (Syntax.ttcons (Syntax.tcons (Syntax.tyInt Syntax.w64) Syntax.tnil) (Syntax.ttcons Syntax.tnil (Syntax.ttcons (Syntax.tcons (Syntax.tyInt Syntax.w16) Syntax.tnil) Syntax.ttnil)))))))))) (Syntax.tcons (Syntax.tyStruct (List._∷_ 115 (List._∷_ 113 (List._∷_ 108 (List._∷_ 99 (List._∷_ 97 (List._∷_ 114 (List._∷_ 100 (List._∷_ 58 (List._∷_ 58 (List._∷_ 83 (List._∷_ 113 (List._∷_ 108 (List._∷_ 67 (List._∷_ 97 (List._∷_ 114 (List._∷_ 100 List.[])))))))))))))))) (Syntax.tcons Syntax.tyBool (Syntax.tcons (Syntax.tyInt Syntax.w32) (Syntax.tcons (Syntax.tyArray (Syntax.tyInt Syntax.w8) 5) (Syntax.tcons (Syntax.tyArray (Syntax.tyInt Syntax.w8) 8) (Syntax.tcons (Syntax.tyInt Syntax.w8) (Syntax.tcons (Syntax.tyArray (Syntax.tyInt Syntax.w32) 6) (Syntax.tcons (Syntax.tyInt Syntax.w64) (Syntax.tcons (Syntax.tyInt Syntax.w32) (Syntax.tcons (Syntax.tyArray (Syntax.tyInt Syntax.w8) 11) (Syntax.tcons (Syntax.tyInt Syntax.w64) (Syntax.tcons (Syntax.tyInt Syntax.w64) Syntax.tnil)))))))))))) (Syntax.tcons (Syntax.tyInt Syntax.w64) Syntax.tnil))))) (List._∷_ (5, Rows'.any-gone (Syntax.tyInt Syntax.w64)) (List._∷_ (6, Rows'.any-gone (Syntax.tyInt Syntax.w64)) (List._∷_ (7, Rows'.any-gone (ColumnMetadataRow.ty)) (List._∷_ (8, Rows'.any-gone (Syntax.tyRef Syntax.erased Syntax.mut (Syntax.tyArray ColumnMetadataRow.named 16))) (List._∷_ (9, Rows'.any-gone (Syntax.tyStruct (List._∷_ 38 (List._∷_ 91 (List._∷_ 93 List.[]))) (Syntax.tcons (Syntax.tyRef Syntax.erased Syntax.mut ColumnMetadataRow.named) (Syntax.tcons (Syntax.tyInt Syntax.w64) Syntax.tnil)))) (List._∷_ (10, Rows'.any-gone Syntax.tyUnit) (List._∷_ (11, Rows'.any-gone Syntax.tyBool) (List._∷_ (12, Rows'.any-gone (Syntax.tyInt Syntax.w64)) (List._∷_ (13, Rows'.any-gone Syntax.tyPtr) (List._∷_ (14, Rows'.any-gone Syntax.tyPtr) (List._∷_ (15, Rows'.any-gone (ColumnMetadataRow.ty)) List.[])))))))))))))))
+t4 = List._∷_ (0, Rows'.any-gone Syntax.tyUnit) (List._∷_ (1, Rows'.sslice (Referent.rtF (Referent.fInt Syntax.w8)) (Syntax.tyRef (Syntax.named 0) Syntax.imm (Syntax.tyInt Syntax.w8)) 0) (List._∷_ (2, ColumnMetadataRow.row) (List._∷_ (3, Rows'.whole (Array'.Array (ColumnMetadataRow.RT) 16)) (List._∷_ (4, Rows'.any-gone (Syntax.tyStruct (List._∷_ 112 (List._∷_ 108 (List._∷_ 97 (List._∷_ 110 (List._∷_ 58 (List._∷_ 58 (List._∷_ 83 (List._∷_ 113 (List._∷_ 108 (List._∷_ 100 (List._∷_ 97 (List._∷_ 114 (List._∷_ 100 (List._∷_ 65 (List._∷_ 110 (List._∷_ 115 (List._∷_ 119 (List._∷_ 101 (List._∷_ 114 List.[]))))))))))))))))))) (Syntax.tcons (Syntax.tyEnum (List._∷_ 111 (List._∷_ 117 (List._∷_ 116 (List._∷_ 99 (List._∷_ 111 (List._∷_ 109 (List._∷_ 101 (List._∷_ 58 (List._∷_ 58 (List._∷_ 79 (List._∷_ 117 (List._∷_ 116 (List._∷_ 99 (List._∷_ 111 (List._∷_ 109 (List._∷_ 101 List.[])))))))))))))))) (Syntax.ttcons Syntax.tnil (Syntax.ttcons Syntax.tnil (Syntax.ttcons (Syntax.tcons (Syntax.tyInt Syntax.w64) (Syntax.tcons (Syntax.tyInt Syntax.w64) Syntax.tnil)) (Syntax.ttcons Syntax.tnil (Syntax.ttcons (Syntax.tcons (Syntax.tyInt Syntax.w16) Syntax.tnil) (Syntax.ttcons Syntax.tnil (Syntax.ttcons (Syntax.tcons (Syntax.tyInt Syntax.w64) Syntax.tnil) (Syntax.ttcons Syntax.tnil (Syntax.ttcons (Syntax.tcons (Syntax.tyInt Syntax.w16) Syntax.tnil) Syntax.ttnil)))))))))) (Syntax.tcons (Syntax.tyStruct (List._∷_ 115 (List._∷_ 113 (List._∷_ 108 (List._∷_ 99 (List._∷_ 97 (List._∷_ 114 (List._∷_ 100 (List._∷_ 58 (List._∷_ 58 (List._∷_ 83 (List._∷_ 113 (List._∷_ 108 (List._∷_ 67 (List._∷_ 97 (List._∷_ 114 (List._∷_ 100 List.[])))))))))))))))) (Syntax.tcons Syntax.tyBool (Syntax.tcons (Syntax.tyInt Syntax.w32) (Syntax.tcons (Syntax.tyArray (Syntax.tyInt Syntax.w8) 5) (Syntax.tcons (Syntax.tyArray (Syntax.tyInt Syntax.w8) 8) (Syntax.tcons (Syntax.tyInt Syntax.w8) (Syntax.tcons (Syntax.tyArray (Syntax.tyInt Syntax.w32) 6) (Syntax.tcons (Syntax.tyInt Syntax.w64) (Syntax.tcons (Syntax.tyInt Syntax.w32) (Syntax.tcons (Syntax.tyArray (Syntax.tyInt Syntax.w8) 11) (Syntax.tcons (Syntax.tyInt Syntax.w64) (Syntax.tcons (Syntax.tyInt Syntax.w64) Syntax.tnil)))))))))))) (Syntax.tcons (Syntax.tyInt Syntax.w64) Syntax.tnil))))) (List._∷_ (5, Rows'.any-gone (Syntax.tyInt Syntax.w64)) (List._∷_ (6, Rows'.any-gone (Syntax.tyInt Syntax.w64)) (List._∷_ (7, Rows'.any-gone (ColumnMetadataRow.ty)) (List._∷_ (8, Rows'.any-gone (Syntax.tyRef Syntax.erased Syntax.mut (Syntax.tyArray ColumnMetadataRow.named 16))) (List._∷_ (9, Rows'.any-gone (Syntax.tyStruct (List._∷_ 38 (List._∷_ 91 (List._∷_ 93 List.[]))) (Syntax.tcons (Syntax.tyRef Syntax.erased Syntax.mut ColumnMetadataRow.named) (Syntax.tcons (Syntax.tyInt Syntax.w64) Syntax.tnil)))) (List._∷_ (10, Rows'.any-gone Syntax.tyUnit) (List._∷_ (11, Rows'.any-gone Syntax.tyBool) (List._∷_ (12, Rows'.any-gone (Syntax.tyInt Syntax.w64)) (List._∷_ (13, Rows'.any-gone Syntax.tyPtr) (List._∷_ (14, Rows'.any-gone Syntax.tyPtr) (List._∷_ (15, Rows'.any-gone (ColumnMetadataRow.ty)) List.[])))))))))))))))
 
 abbrev pub t5 : List.List Row.Entry
-t5 = List._∷_ (0, Rows'.any-gone Syntax.tyUnit) (List._∷_ (1, Rows'.sslice (Referent.rtF (Referent.fInt Syntax.w8)) (Syntax.tyRef (Syntax.named 0) Syntax.imm (Syntax.tyInt Syntax.w8)) 0) (List._∷_ (2, ColumnMetadataRow.row) (List._∷_ (3, Rows.arrF (ColumnMetadataRow.RT) 16 0) (List._∷_ (4, Rows'.any-gone (Syntax.tyStruct (List._∷_ 115 (List._∷_ 113 (List._∷_ 108 (List._∷_ 100 (List._∷_ 97 (List._∷_ 114 (List._∷_ 100 (List._∷_ 58 (List._∷_ 58 (List._∷_ 83 (List._∷_ 113 (List._∷_ 108 (List._∷_ 100 (List._∷_ 97 (List._∷_ 114 (List._∷_ 100 (List._∷_ 65 (List._∷_ 110 (List._∷_ 115 (List._∷_ 119 (List._∷_ 101 (List._∷_ 114 List.[])))))))))))))))))))))) (Syntax.tcons (Syntax.tyEnum (List._∷_ 111 (List._∷_ 117 (List._∷_ 116 (List._∷_ 99 (List._∷_ 111 (List._∷_ 109 (List._∷_ 101 (List._∷_ 58 (List._∷_ 58 (List._∷_ 79 (List._∷_ 117 (List._∷_ 116 (List._∷_ 99 (List._∷_ 111 (List._∷_ 109 (List._∷_ 101 List.[])))))))))))))))) (Syntax.ttcons Syntax.tnil (Syntax.ttcons Syntax.tnil (Syntax.ttcons (Syntax.tcons (Syntax.tyInt Syntax.w64) (Syntax.tcons (Syntax.tyInt Syntax.w64) Syntax.tnil)) (Syntax.ttcons Syntax.tnil (Syntax.ttcons (Syntax.tcons (Syntax.tyInt Syntax.w16) Syntax.tnil) (Syntax.ttcons Syntax.tnil (Syntax.ttcons (Syntax.tcons (Syntax.tyInt Syntax.w64) Syntax.tnil) (Syntax.ttcons Syntax.tnil (Syntax.ttcons (Syntax.tcons (Syntax.tyInt Syntax.w16) Syntax.tnil) Syntax.ttnil)))))))))) (Syntax.tcons (Syntax.tyStruct (List._∷_ 115 (List._∷_ 113 (List._∷_ 108 (List._∷_ 99 (List._∷_ 97 (List._∷_ 114 (List._∷_ 100 (List._∷_ 58 (List._∷_ 58 (List._∷_ 83 (List._∷_ 113 (List._∷_ 108 (List._∷_ 67 (List._∷_ 97 (List._∷_ 114 (List._∷_ 100 List.[])))))))))))))))) (Syntax.tcons Syntax.tyBool (Syntax.tcons (Syntax.tyInt Syntax.w32) (Syntax.tcons (Syntax.tyArray (Syntax.tyInt Syntax.w8) 5) (Syntax.tcons (Syntax.tyArray (Syntax.tyInt Syntax.w8) 8) (Syntax.tcons (Syntax.tyInt Syntax.w8) (Syntax.tcons (Syntax.tyArray (Syntax.tyInt Syntax.w32) 6) (Syntax.tcons (Syntax.tyInt Syntax.w64) (Syntax.tcons (Syntax.tyInt Syntax.w32) (Syntax.tcons (Syntax.tyArray (Syntax.tyInt Syntax.w8) 11) (Syntax.tcons (Syntax.tyInt Syntax.w64) (Syntax.tcons (Syntax.tyInt Syntax.w64) Syntax.tnil)))))))))))) (Syntax.tcons (Syntax.tyInt Syntax.w64) Syntax.tnil))))) (List._∷_ (5, Rows'.any-gone (Syntax.tyInt Syntax.w64)) (List._∷_ (6, Rows'.any-gone (Syntax.tyInt Syntax.w64)) (List._∷_ (7, Rows'.any-gone (ColumnMetadataRow.ty)) (List._∷_ (8, Rows'.any-gone (Syntax.tyRef Syntax.erased Syntax.mut (Syntax.tyArray ColumnMetadataRow.named 16))) (List._∷_ (9, Rows'.any-gone (Syntax.tyStruct (List._∷_ 38 (List._∷_ 91 (List._∷_ 93 List.[]))) (Syntax.tcons (Syntax.tyRef Syntax.erased Syntax.mut ColumnMetadataRow.named) (Syntax.tcons (Syntax.tyInt Syntax.w64) Syntax.tnil)))) (List._∷_ (10, Rows'.any-gone Syntax.tyUnit) (List._∷_ (11, Rows'.any-gone Syntax.tyBool) (List._∷_ (12, Rows'.any-gone (Syntax.tyInt Syntax.w64)) (List._∷_ (13, Rows'.any-gone Syntax.tyPtr) (List._∷_ (14, Rows'.any-gone Syntax.tyPtr) (List._∷_ (15, Rows'.any-gone (ColumnMetadataRow.ty)) List.[])))))))))))))))
+t5 = List._∷_ (0, Rows'.any-gone Syntax.tyUnit) (List._∷_ (1, Rows'.sslice (Referent.rtF (Referent.fInt Syntax.w8)) (Syntax.tyRef (Syntax.named 0) Syntax.imm (Syntax.tyInt Syntax.w8)) 0) (List._∷_ (2, ColumnMetadataRow.row) (List._∷_ (3, Rows.arrF (ColumnMetadataRow.RT) 16 0) (List._∷_ (4, Rows'.any-gone (Syntax.tyStruct (List._∷_ 112 (List._∷_ 108 (List._∷_ 97 (List._∷_ 110 (List._∷_ 58 (List._∷_ 58 (List._∷_ 83 (List._∷_ 113 (List._∷_ 108 (List._∷_ 100 (List._∷_ 97 (List._∷_ 114 (List._∷_ 100 (List._∷_ 65 (List._∷_ 110 (List._∷_ 115 (List._∷_ 119 (List._∷_ 101 (List._∷_ 114 List.[]))))))))))))))))))) (Syntax.tcons (Syntax.tyEnum (List._∷_ 111 (List._∷_ 117 (List._∷_ 116 (List._∷_ 99 (List._∷_ 111 (List._∷_ 109 (List._∷_ 101 (List._∷_ 58 (List._∷_ 58 (List._∷_ 79 (List._∷_ 117 (List._∷_ 116 (List._∷_ 99 (List._∷_ 111 (List._∷_ 109 (List._∷_ 101 List.[])))))))))))))))) (Syntax.ttcons Syntax.tnil (Syntax.ttcons Syntax.tnil (Syntax.ttcons (Syntax.tcons (Syntax.tyInt Syntax.w64) (Syntax.tcons (Syntax.tyInt Syntax.w64) Syntax.tnil)) (Syntax.ttcons Syntax.tnil (Syntax.ttcons (Syntax.tcons (Syntax.tyInt Syntax.w16) Syntax.tnil) (Syntax.ttcons Syntax.tnil (Syntax.ttcons (Syntax.tcons (Syntax.tyInt Syntax.w64) Syntax.tnil) (Syntax.ttcons Syntax.tnil (Syntax.ttcons (Syntax.tcons (Syntax.tyInt Syntax.w16) Syntax.tnil) Syntax.ttnil)))))))))) (Syntax.tcons (Syntax.tyStruct (List._∷_ 115 (List._∷_ 113 (List._∷_ 108 (List._∷_ 99 (List._∷_ 97 (List._∷_ 114 (List._∷_ 100 (List._∷_ 58 (List._∷_ 58 (List._∷_ 83 (List._∷_ 113 (List._∷_ 108 (List._∷_ 67 (List._∷_ 97 (List._∷_ 114 (List._∷_ 100 List.[])))))))))))))))) (Syntax.tcons Syntax.tyBool (Syntax.tcons (Syntax.tyInt Syntax.w32) (Syntax.tcons (Syntax.tyArray (Syntax.tyInt Syntax.w8) 5) (Syntax.tcons (Syntax.tyArray (Syntax.tyInt Syntax.w8) 8) (Syntax.tcons (Syntax.tyInt Syntax.w8) (Syntax.tcons (Syntax.tyArray (Syntax.tyInt Syntax.w32) 6) (Syntax.tcons (Syntax.tyInt Syntax.w64) (Syntax.tcons (Syntax.tyInt Syntax.w32) (Syntax.tcons (Syntax.tyArray (Syntax.tyInt Syntax.w8) 11) (Syntax.tcons (Syntax.tyInt Syntax.w64) (Syntax.tcons (Syntax.tyInt Syntax.w64) Syntax.tnil)))))))))))) (Syntax.tcons (Syntax.tyInt Syntax.w64) Syntax.tnil))))) (List._∷_ (5, Rows'.any-gone (Syntax.tyInt Syntax.w64)) (List._∷_ (6, Rows'.any-gone (Syntax.tyInt Syntax.w64)) (List._∷_ (7, Rows'.any-gone (ColumnMetadataRow.ty)) (List._∷_ (8, Rows'.any-gone (Syntax.tyRef Syntax.erased Syntax.mut (Syntax.tyArray ColumnMetadataRow.named 16))) (List._∷_ (9, Rows'.any-gone (Syntax.tyStruct (List._∷_ 38 (List._∷_ 91 (List._∷_ 93 List.[]))) (Syntax.tcons (Syntax.tyRef Syntax.erased Syntax.mut ColumnMetadataRow.named) (Syntax.tcons (Syntax.tyInt Syntax.w64) Syntax.tnil)))) (List._∷_ (10, Rows'.any-gone Syntax.tyUnit) (List._∷_ (11, Rows'.any-gone Syntax.tyBool) (List._∷_ (12, Rows'.any-gone (Syntax.tyInt Syntax.w64)) (List._∷_ (13, Rows'.any-gone Syntax.tyPtr) (List._∷_ (14, Rows'.any-gone Syntax.tyPtr) (List._∷_ (15, Rows'.any-gone (ColumnMetadataRow.ty)) List.[])))))))))))))))
 
 abbrev pub t6 : List.List Row.Entry
-t6 = List._∷_ (0, Rows'.any-gone Syntax.tyUnit) (List._∷_ (1, Rows'.sslice (Referent.rtF (Referent.fInt Syntax.w8)) (Syntax.tyRef (Syntax.named 0) Syntax.imm (Syntax.tyInt Syntax.w8)) 0) (List._∷_ (2, Rows'.any-gone (ColumnMetadataRow.ty)) (List._∷_ (3, Rows.arrF (ColumnMetadataRow.RT) 16 0) (List._∷_ (4, Rows'.any-gone (Syntax.tyStruct (List._∷_ 115 (List._∷_ 113 (List._∷_ 108 (List._∷_ 100 (List._∷_ 97 (List._∷_ 114 (List._∷_ 100 (List._∷_ 58 (List._∷_ 58 (List._∷_ 83 (List._∷_ 113 (List._∷_ 108 (List._∷_ 100 (List._∷_ 97 (List._∷_ 114 (List._∷_ 100 (List._∷_ 65 (List._∷_ 110 (List._∷_ 115 (List._∷_ 119 (List._∷_ 101 (List._∷_ 114 List.[])))))))))))))))))))))) (Syntax.tcons (Syntax.tyEnum (List._∷_ 111 (List._∷_ 117 (List._∷_ 116 (List._∷_ 99 (List._∷_ 111 (List._∷_ 109 (List._∷_ 101 (List._∷_ 58 (List._∷_ 58 (List._∷_ 79 (List._∷_ 117 (List._∷_ 116 (List._∷_ 99 (List._∷_ 111 (List._∷_ 109 (List._∷_ 101 List.[])))))))))))))))) (Syntax.ttcons Syntax.tnil (Syntax.ttcons Syntax.tnil (Syntax.ttcons (Syntax.tcons (Syntax.tyInt Syntax.w64) (Syntax.tcons (Syntax.tyInt Syntax.w64) Syntax.tnil)) (Syntax.ttcons Syntax.tnil (Syntax.ttcons (Syntax.tcons (Syntax.tyInt Syntax.w16) Syntax.tnil) (Syntax.ttcons Syntax.tnil (Syntax.ttcons (Syntax.tcons (Syntax.tyInt Syntax.w64) Syntax.tnil) (Syntax.ttcons Syntax.tnil (Syntax.ttcons (Syntax.tcons (Syntax.tyInt Syntax.w16) Syntax.tnil) Syntax.ttnil)))))))))) (Syntax.tcons (Syntax.tyStruct (List._∷_ 115 (List._∷_ 113 (List._∷_ 108 (List._∷_ 99 (List._∷_ 97 (List._∷_ 114 (List._∷_ 100 (List._∷_ 58 (List._∷_ 58 (List._∷_ 83 (List._∷_ 113 (List._∷_ 108 (List._∷_ 67 (List._∷_ 97 (List._∷_ 114 (List._∷_ 100 List.[])))))))))))))))) (Syntax.tcons Syntax.tyBool (Syntax.tcons (Syntax.tyInt Syntax.w32) (Syntax.tcons (Syntax.tyArray (Syntax.tyInt Syntax.w8) 5) (Syntax.tcons (Syntax.tyArray (Syntax.tyInt Syntax.w8) 8) (Syntax.tcons (Syntax.tyInt Syntax.w8) (Syntax.tcons (Syntax.tyArray (Syntax.tyInt Syntax.w32) 6) (Syntax.tcons (Syntax.tyInt Syntax.w64) (Syntax.tcons (Syntax.tyInt Syntax.w32) (Syntax.tcons (Syntax.tyArray (Syntax.tyInt Syntax.w8) 11) (Syntax.tcons (Syntax.tyInt Syntax.w64) (Syntax.tcons (Syntax.tyInt Syntax.w64) Syntax.tnil)))))))))))) (Syntax.tcons (Syntax.tyInt Syntax.w64) Syntax.tnil))))) (List._∷_ (5, Rows'.any-gone (Syntax.tyInt Syntax.w64)) (List._∷_ (6, Rows'.any-gone (Syntax.tyInt Syntax.w64)) (List._∷_ (7, Rows'.any-gone (ColumnMetadataRow.ty)) (List._∷_ (8, Rows'.any-gone (Syntax.tyRef Syntax.erased Syntax.mut (Syntax.tyArray ColumnMetadataRow.named 16))) (List._∷_ (9, Rows'.any-gone (Syntax.tyStruct (List._∷_ 38 (List._∷_ 91 (List._∷_ 93 List.[]))) (Syntax.tcons (Syntax.tyRef Syntax.erased Syntax.mut ColumnMetadataRow.named) (Syntax.tcons (Syntax.tyInt Syntax.w64) Syntax.tnil)))) (List._∷_ (10, Rows'.any-gone Syntax.tyUnit) (List._∷_ (11, Rows'.any-gone Syntax.tyBool) (List._∷_ (12, Rows'.any-gone (Syntax.tyInt Syntax.w64)) (List._∷_ (13, Rows'.any-gone Syntax.tyPtr) (List._∷_ (14, Rows'.any-gone Syntax.tyPtr) (List._∷_ (15, Rows'.any-gone (ColumnMetadataRow.ty)) List.[])))))))))))))))
+t6 = List._∷_ (0, Rows'.any-gone Syntax.tyUnit) (List._∷_ (1, Rows'.sslice (Referent.rtF (Referent.fInt Syntax.w8)) (Syntax.tyRef (Syntax.named 0) Syntax.imm (Syntax.tyInt Syntax.w8)) 0) (List._∷_ (2, Rows'.any-gone (ColumnMetadataRow.ty)) (List._∷_ (3, Rows.arrF (ColumnMetadataRow.RT) 16 0) (List._∷_ (4, Rows'.any-gone (Syntax.tyStruct (List._∷_ 112 (List._∷_ 108 (List._∷_ 97 (List._∷_ 110 (List._∷_ 58 (List._∷_ 58 (List._∷_ 83 (List._∷_ 113 (List._∷_ 108 (List._∷_ 100 (List._∷_ 97 (List._∷_ 114 (List._∷_ 100 (List._∷_ 65 (List._∷_ 110 (List._∷_ 115 (List._∷_ 119 (List._∷_ 101 (List._∷_ 114 List.[]))))))))))))))))))) (Syntax.tcons (Syntax.tyEnum (List._∷_ 111 (List._∷_ 117 (List._∷_ 116 (List._∷_ 99 (List._∷_ 111 (List._∷_ 109 (List._∷_ 101 (List._∷_ 58 (List._∷_ 58 (List._∷_ 79 (List._∷_ 117 (List._∷_ 116 (List._∷_ 99 (List._∷_ 111 (List._∷_ 109 (List._∷_ 101 List.[])))))))))))))))) (Syntax.ttcons Syntax.tnil (Syntax.ttcons Syntax.tnil (Syntax.ttcons (Syntax.tcons (Syntax.tyInt Syntax.w64) (Syntax.tcons (Syntax.tyInt Syntax.w64) Syntax.tnil)) (Syntax.ttcons Syntax.tnil (Syntax.ttcons (Syntax.tcons (Syntax.tyInt Syntax.w16) Syntax.tnil) (Syntax.ttcons Syntax.tnil (Syntax.ttcons (Syntax.tcons (Syntax.tyInt Syntax.w64) Syntax.tnil) (Syntax.ttcons Syntax.tnil (Syntax.ttcons (Syntax.tcons (Syntax.tyInt Syntax.w16) Syntax.tnil) Syntax.ttnil)))))))))) (Syntax.tcons (Syntax.tyStruct (List._∷_ 115 (List._∷_ 113 (List._∷_ 108 (List._∷_ 99 (List._∷_ 97 (List._∷_ 114 (List._∷_ 100 (List._∷_ 58 (List._∷_ 58 (List._∷_ 83 (List._∷_ 113 (List._∷_ 108 (List._∷_ 67 (List._∷_ 97 (List._∷_ 114 (List._∷_ 100 List.[])))))))))))))))) (Syntax.tcons Syntax.tyBool (Syntax.tcons (Syntax.tyInt Syntax.w32) (Syntax.tcons (Syntax.tyArray (Syntax.tyInt Syntax.w8) 5) (Syntax.tcons (Syntax.tyArray (Syntax.tyInt Syntax.w8) 8) (Syntax.tcons (Syntax.tyInt Syntax.w8) (Syntax.tcons (Syntax.tyArray (Syntax.tyInt Syntax.w32) 6) (Syntax.tcons (Syntax.tyInt Syntax.w64) (Syntax.tcons (Syntax.tyInt Syntax.w32) (Syntax.tcons (Syntax.tyArray (Syntax.tyInt Syntax.w8) 11) (Syntax.tcons (Syntax.tyInt Syntax.w64) (Syntax.tcons (Syntax.tyInt Syntax.w64) Syntax.tnil)))))))))))) (Syntax.tcons (Syntax.tyInt Syntax.w64) Syntax.tnil))))) (List._∷_ (5, Rows'.any-gone (Syntax.tyInt Syntax.w64)) (List._∷_ (6, Rows'.any-gone (Syntax.tyInt Syntax.w64)) (List._∷_ (7, Rows'.any-gone (ColumnMetadataRow.ty)) (List._∷_ (8, Rows'.any-gone (Syntax.tyRef Syntax.erased Syntax.mut (Syntax.tyArray ColumnMetadataRow.named 16))) (List._∷_ (9, Rows'.any-gone (Syntax.tyStruct (List._∷_ 38 (List._∷_ 91 (List._∷_ 93 List.[]))) (Syntax.tcons (Syntax.tyRef Syntax.erased Syntax.mut ColumnMetadataRow.named) (Syntax.tcons (Syntax.tyInt Syntax.w64) Syntax.tnil)))) (List._∷_ (10, Rows'.any-gone Syntax.tyUnit) (List._∷_ (11, Rows'.any-gone Syntax.tyBool) (List._∷_ (12, Rows'.any-gone (Syntax.tyInt Syntax.w64)) (List._∷_ (13, Rows'.any-gone Syntax.tyPtr) (List._∷_ (14, Rows'.any-gone Syntax.tyPtr) (List._∷_ (15, Rows'.any-gone (ColumnMetadataRow.ty)) List.[])))))))))))))))
 
 abbrev pub t7 : List.List Row.Entry
-t7 = List._∷_ (0, Rows'.any-gone Syntax.tyUnit) (List._∷_ (1, Rows'.sslice (Referent.rtF (Referent.fInt Syntax.w8)) (Syntax.tyRef (Syntax.named 0) Syntax.imm (Syntax.tyInt Syntax.w8)) 0) (List._∷_ (2, Rows'.any-gone (ColumnMetadataRow.ty)) (List._∷_ (3, Rows.arr-owed (ColumnMetadataRow.RT) 16 1) (List._∷_ (4, Rows'.any-gone (Syntax.tyStruct (List._∷_ 115 (List._∷_ 113 (List._∷_ 108 (List._∷_ 100 (List._∷_ 97 (List._∷_ 114 (List._∷_ 100 (List._∷_ 58 (List._∷_ 58 (List._∷_ 83 (List._∷_ 113 (List._∷_ 108 (List._∷_ 100 (List._∷_ 97 (List._∷_ 114 (List._∷_ 100 (List._∷_ 65 (List._∷_ 110 (List._∷_ 115 (List._∷_ 119 (List._∷_ 101 (List._∷_ 114 List.[])))))))))))))))))))))) (Syntax.tcons (Syntax.tyEnum (List._∷_ 111 (List._∷_ 117 (List._∷_ 116 (List._∷_ 99 (List._∷_ 111 (List._∷_ 109 (List._∷_ 101 (List._∷_ 58 (List._∷_ 58 (List._∷_ 79 (List._∷_ 117 (List._∷_ 116 (List._∷_ 99 (List._∷_ 111 (List._∷_ 109 (List._∷_ 101 List.[])))))))))))))))) (Syntax.ttcons Syntax.tnil (Syntax.ttcons Syntax.tnil (Syntax.ttcons (Syntax.tcons (Syntax.tyInt Syntax.w64) (Syntax.tcons (Syntax.tyInt Syntax.w64) Syntax.tnil)) (Syntax.ttcons Syntax.tnil (Syntax.ttcons (Syntax.tcons (Syntax.tyInt Syntax.w16) Syntax.tnil) (Syntax.ttcons Syntax.tnil (Syntax.ttcons (Syntax.tcons (Syntax.tyInt Syntax.w64) Syntax.tnil) (Syntax.ttcons Syntax.tnil (Syntax.ttcons (Syntax.tcons (Syntax.tyInt Syntax.w16) Syntax.tnil) Syntax.ttnil)))))))))) (Syntax.tcons (Syntax.tyStruct (List._∷_ 115 (List._∷_ 113 (List._∷_ 108 (List._∷_ 99 (List._∷_ 97 (List._∷_ 114 (List._∷_ 100 (List._∷_ 58 (List._∷_ 58 (List._∷_ 83 (List._∷_ 113 (List._∷_ 108 (List._∷_ 67 (List._∷_ 97 (List._∷_ 114 (List._∷_ 100 List.[])))))))))))))))) (Syntax.tcons Syntax.tyBool (Syntax.tcons (Syntax.tyInt Syntax.w32) (Syntax.tcons (Syntax.tyArray (Syntax.tyInt Syntax.w8) 5) (Syntax.tcons (Syntax.tyArray (Syntax.tyInt Syntax.w8) 8) (Syntax.tcons (Syntax.tyInt Syntax.w8) (Syntax.tcons (Syntax.tyArray (Syntax.tyInt Syntax.w32) 6) (Syntax.tcons (Syntax.tyInt Syntax.w64) (Syntax.tcons (Syntax.tyInt Syntax.w32) (Syntax.tcons (Syntax.tyArray (Syntax.tyInt Syntax.w8) 11) (Syntax.tcons (Syntax.tyInt Syntax.w64) (Syntax.tcons (Syntax.tyInt Syntax.w64) Syntax.tnil)))))))))))) (Syntax.tcons (Syntax.tyInt Syntax.w64) Syntax.tnil))))) (List._∷_ (5, Rows'.any-gone (Syntax.tyInt Syntax.w64)) (List._∷_ (6, Rows'.any-gone (Syntax.tyInt Syntax.w64)) (List._∷_ (7, Rows'.any-gone (ColumnMetadataRow.ty)) (List._∷_ (8, Relend.msptr (ColumnMetadataRow.RT) (Syntax.tyRef Syntax.erased Syntax.mut (Syntax.tyArray ColumnMetadataRow.named 16)) 1) (List._∷_ (9, Rows'.any-gone (Syntax.tyStruct (List._∷_ 38 (List._∷_ 91 (List._∷_ 93 List.[]))) (Syntax.tcons (Syntax.tyRef Syntax.erased Syntax.mut ColumnMetadataRow.named) (Syntax.tcons (Syntax.tyInt Syntax.w64) Syntax.tnil)))) (List._∷_ (10, Rows'.any-gone Syntax.tyUnit) (List._∷_ (11, Rows'.any-gone Syntax.tyBool) (List._∷_ (12, Rows'.any-gone (Syntax.tyInt Syntax.w64)) (List._∷_ (13, Rows'.any-gone Syntax.tyPtr) (List._∷_ (14, Rows'.any-gone Syntax.tyPtr) (List._∷_ (15, Rows'.any-gone (ColumnMetadataRow.ty)) List.[])))))))))))))))
+t7 = List._∷_ (0, Rows'.any-gone Syntax.tyUnit) (List._∷_ (1, Rows'.sslice (Referent.rtF (Referent.fInt Syntax.w8)) (Syntax.tyRef (Syntax.named 0) Syntax.imm (Syntax.tyInt Syntax.w8)) 0) (List._∷_ (2, Rows'.any-gone (ColumnMetadataRow.ty)) (List._∷_ (3, Rows.arr-owed (ColumnMetadataRow.RT) 16 1) (List._∷_ (4, Rows'.any-gone (Syntax.tyStruct (List._∷_ 112 (List._∷_ 108 (List._∷_ 97 (List._∷_ 110 (List._∷_ 58 (List._∷_ 58 (List._∷_ 83 (List._∷_ 113 (List._∷_ 108 (List._∷_ 100 (List._∷_ 97 (List._∷_ 114 (List._∷_ 100 (List._∷_ 65 (List._∷_ 110 (List._∷_ 115 (List._∷_ 119 (List._∷_ 101 (List._∷_ 114 List.[]))))))))))))))))))) (Syntax.tcons (Syntax.tyEnum (List._∷_ 111 (List._∷_ 117 (List._∷_ 116 (List._∷_ 99 (List._∷_ 111 (List._∷_ 109 (List._∷_ 101 (List._∷_ 58 (List._∷_ 58 (List._∷_ 79 (List._∷_ 117 (List._∷_ 116 (List._∷_ 99 (List._∷_ 111 (List._∷_ 109 (List._∷_ 101 List.[])))))))))))))))) (Syntax.ttcons Syntax.tnil (Syntax.ttcons Syntax.tnil (Syntax.ttcons (Syntax.tcons (Syntax.tyInt Syntax.w64) (Syntax.tcons (Syntax.tyInt Syntax.w64) Syntax.tnil)) (Syntax.ttcons Syntax.tnil (Syntax.ttcons (Syntax.tcons (Syntax.tyInt Syntax.w16) Syntax.tnil) (Syntax.ttcons Syntax.tnil (Syntax.ttcons (Syntax.tcons (Syntax.tyInt Syntax.w64) Syntax.tnil) (Syntax.ttcons Syntax.tnil (Syntax.ttcons (Syntax.tcons (Syntax.tyInt Syntax.w16) Syntax.tnil) Syntax.ttnil)))))))))) (Syntax.tcons (Syntax.tyStruct (List._∷_ 115 (List._∷_ 113 (List._∷_ 108 (List._∷_ 99 (List._∷_ 97 (List._∷_ 114 (List._∷_ 100 (List._∷_ 58 (List._∷_ 58 (List._∷_ 83 (List._∷_ 113 (List._∷_ 108 (List._∷_ 67 (List._∷_ 97 (List._∷_ 114 (List._∷_ 100 List.[])))))))))))))))) (Syntax.tcons Syntax.tyBool (Syntax.tcons (Syntax.tyInt Syntax.w32) (Syntax.tcons (Syntax.tyArray (Syntax.tyInt Syntax.w8) 5) (Syntax.tcons (Syntax.tyArray (Syntax.tyInt Syntax.w8) 8) (Syntax.tcons (Syntax.tyInt Syntax.w8) (Syntax.tcons (Syntax.tyArray (Syntax.tyInt Syntax.w32) 6) (Syntax.tcons (Syntax.tyInt Syntax.w64) (Syntax.tcons (Syntax.tyInt Syntax.w32) (Syntax.tcons (Syntax.tyArray (Syntax.tyInt Syntax.w8) 11) (Syntax.tcons (Syntax.tyInt Syntax.w64) (Syntax.tcons (Syntax.tyInt Syntax.w64) Syntax.tnil)))))))))))) (Syntax.tcons (Syntax.tyInt Syntax.w64) Syntax.tnil))))) (List._∷_ (5, Rows'.any-gone (Syntax.tyInt Syntax.w64)) (List._∷_ (6, Rows'.any-gone (Syntax.tyInt Syntax.w64)) (List._∷_ (7, Rows'.any-gone (ColumnMetadataRow.ty)) (List._∷_ (8, Relend.msptr (ColumnMetadataRow.RT) (Syntax.tyRef Syntax.erased Syntax.mut (Syntax.tyArray ColumnMetadataRow.named 16)) 1) (List._∷_ (9, Rows'.any-gone (Syntax.tyStruct (List._∷_ 38 (List._∷_ 91 (List._∷_ 93 List.[]))) (Syntax.tcons (Syntax.tyRef Syntax.erased Syntax.mut ColumnMetadataRow.named) (Syntax.tcons (Syntax.tyInt Syntax.w64) Syntax.tnil)))) (List._∷_ (10, Rows'.any-gone Syntax.tyUnit) (List._∷_ (11, Rows'.any-gone Syntax.tyBool) (List._∷_ (12, Rows'.any-gone (Syntax.tyInt Syntax.w64)) (List._∷_ (13, Rows'.any-gone Syntax.tyPtr) (List._∷_ (14, Rows'.any-gone Syntax.tyPtr) (List._∷_ (15, Rows'.any-gone (ColumnMetadataRow.ty)) List.[])))))))))))))))
 
 abbrev pub t8 : List.List Row.Entry
-t8 = List._∷_ (0, Rows'.any-gone Syntax.tyUnit) (List._∷_ (1, Rows'.sslice (Referent.rtF (Referent.fInt Syntax.w8)) (Syntax.tyRef (Syntax.named 0) Syntax.imm (Syntax.tyInt Syntax.w8)) 0) (List._∷_ (2, Rows'.any-gone (ColumnMetadataRow.ty)) (List._∷_ (3, Rows.arr-owed (ColumnMetadataRow.RT) 16 1) (List._∷_ (4, Rows'.any-gone (Syntax.tyStruct (List._∷_ 115 (List._∷_ 113 (List._∷_ 108 (List._∷_ 100 (List._∷_ 97 (List._∷_ 114 (List._∷_ 100 (List._∷_ 58 (List._∷_ 58 (List._∷_ 83 (List._∷_ 113 (List._∷_ 108 (List._∷_ 100 (List._∷_ 97 (List._∷_ 114 (List._∷_ 100 (List._∷_ 65 (List._∷_ 110 (List._∷_ 115 (List._∷_ 119 (List._∷_ 101 (List._∷_ 114 List.[])))))))))))))))))))))) (Syntax.tcons (Syntax.tyEnum (List._∷_ 111 (List._∷_ 117 (List._∷_ 116 (List._∷_ 99 (List._∷_ 111 (List._∷_ 109 (List._∷_ 101 (List._∷_ 58 (List._∷_ 58 (List._∷_ 79 (List._∷_ 117 (List._∷_ 116 (List._∷_ 99 (List._∷_ 111 (List._∷_ 109 (List._∷_ 101 List.[])))))))))))))))) (Syntax.ttcons Syntax.tnil (Syntax.ttcons Syntax.tnil (Syntax.ttcons (Syntax.tcons (Syntax.tyInt Syntax.w64) (Syntax.tcons (Syntax.tyInt Syntax.w64) Syntax.tnil)) (Syntax.ttcons Syntax.tnil (Syntax.ttcons (Syntax.tcons (Syntax.tyInt Syntax.w16) Syntax.tnil) (Syntax.ttcons Syntax.tnil (Syntax.ttcons (Syntax.tcons (Syntax.tyInt Syntax.w64) Syntax.tnil) (Syntax.ttcons Syntax.tnil (Syntax.ttcons (Syntax.tcons (Syntax.tyInt Syntax.w16) Syntax.tnil) Syntax.ttnil)))))))))) (Syntax.tcons (Syntax.tyStruct (List._∷_ 115 (List._∷_ 113 (List._∷_ 108 (List._∷_ 99 (List._∷_ 97 (List._∷_ 114 (List._∷_ 100 (List._∷_ 58 (List._∷_ 58 (List._∷_ 83 (List._∷_ 113 (List._∷_ 108 (List._∷_ 67 (List._∷_ 97 (List._∷_ 114 (List._∷_ 100 List.[])))))))))))))))) (Syntax.tcons Syntax.tyBool (Syntax.tcons (Syntax.tyInt Syntax.w32) (Syntax.tcons (Syntax.tyArray (Syntax.tyInt Syntax.w8) 5) (Syntax.tcons (Syntax.tyArray (Syntax.tyInt Syntax.w8) 8) (Syntax.tcons (Syntax.tyInt Syntax.w8) (Syntax.tcons (Syntax.tyArray (Syntax.tyInt Syntax.w32) 6) (Syntax.tcons (Syntax.tyInt Syntax.w64) (Syntax.tcons (Syntax.tyInt Syntax.w32) (Syntax.tcons (Syntax.tyArray (Syntax.tyInt Syntax.w8) 11) (Syntax.tcons (Syntax.tyInt Syntax.w64) (Syntax.tcons (Syntax.tyInt Syntax.w64) Syntax.tnil)))))))))))) (Syntax.tcons (Syntax.tyInt Syntax.w64) Syntax.tnil))))) (List._∷_ (5, Rows'.any-gone (Syntax.tyInt Syntax.w64)) (List._∷_ (6, Rows'.any-gone (Syntax.tyInt Syntax.w64)) (List._∷_ (7, Rows'.any-gone (ColumnMetadataRow.ty)) (List._∷_ (8, Rows'.any-gone (Syntax.tyRef Syntax.erased Syntax.mut (Syntax.tyArray ColumnMetadataRow.named 16))) (List._∷_ (9, Mut.mslice (ColumnMetadataRow.RT) (Syntax.tyRef Syntax.erased Syntax.mut ColumnMetadataRow.named) 1) (List._∷_ (10, Rows'.any-gone Syntax.tyUnit) (List._∷_ (11, Rows'.any-gone Syntax.tyBool) (List._∷_ (12, Rows'.any-gone (Syntax.tyInt Syntax.w64)) (List._∷_ (13, Rows'.any-gone Syntax.tyPtr) (List._∷_ (14, Rows'.any-gone Syntax.tyPtr) (List._∷_ (15, Rows'.any-gone (ColumnMetadataRow.ty)) List.[])))))))))))))))
+t8 = List._∷_ (0, Rows'.any-gone Syntax.tyUnit) (List._∷_ (1, Rows'.sslice (Referent.rtF (Referent.fInt Syntax.w8)) (Syntax.tyRef (Syntax.named 0) Syntax.imm (Syntax.tyInt Syntax.w8)) 0) (List._∷_ (2, Rows'.any-gone (ColumnMetadataRow.ty)) (List._∷_ (3, Rows.arr-owed (ColumnMetadataRow.RT) 16 1) (List._∷_ (4, Rows'.any-gone (Syntax.tyStruct (List._∷_ 112 (List._∷_ 108 (List._∷_ 97 (List._∷_ 110 (List._∷_ 58 (List._∷_ 58 (List._∷_ 83 (List._∷_ 113 (List._∷_ 108 (List._∷_ 100 (List._∷_ 97 (List._∷_ 114 (List._∷_ 100 (List._∷_ 65 (List._∷_ 110 (List._∷_ 115 (List._∷_ 119 (List._∷_ 101 (List._∷_ 114 List.[]))))))))))))))))))) (Syntax.tcons (Syntax.tyEnum (List._∷_ 111 (List._∷_ 117 (List._∷_ 116 (List._∷_ 99 (List._∷_ 111 (List._∷_ 109 (List._∷_ 101 (List._∷_ 58 (List._∷_ 58 (List._∷_ 79 (List._∷_ 117 (List._∷_ 116 (List._∷_ 99 (List._∷_ 111 (List._∷_ 109 (List._∷_ 101 List.[])))))))))))))))) (Syntax.ttcons Syntax.tnil (Syntax.ttcons Syntax.tnil (Syntax.ttcons (Syntax.tcons (Syntax.tyInt Syntax.w64) (Syntax.tcons (Syntax.tyInt Syntax.w64) Syntax.tnil)) (Syntax.ttcons Syntax.tnil (Syntax.ttcons (Syntax.tcons (Syntax.tyInt Syntax.w16) Syntax.tnil) (Syntax.ttcons Syntax.tnil (Syntax.ttcons (Syntax.tcons (Syntax.tyInt Syntax.w64) Syntax.tnil) (Syntax.ttcons Syntax.tnil (Syntax.ttcons (Syntax.tcons (Syntax.tyInt Syntax.w16) Syntax.tnil) Syntax.ttnil)))))))))) (Syntax.tcons (Syntax.tyStruct (List._∷_ 115 (List._∷_ 113 (List._∷_ 108 (List._∷_ 99 (List._∷_ 97 (List._∷_ 114 (List._∷_ 100 (List._∷_ 58 (List._∷_ 58 (List._∷_ 83 (List._∷_ 113 (List._∷_ 108 (List._∷_ 67 (List._∷_ 97 (List._∷_ 114 (List._∷_ 100 List.[])))))))))))))))) (Syntax.tcons Syntax.tyBool (Syntax.tcons (Syntax.tyInt Syntax.w32) (Syntax.tcons (Syntax.tyArray (Syntax.tyInt Syntax.w8) 5) (Syntax.tcons (Syntax.tyArray (Syntax.tyInt Syntax.w8) 8) (Syntax.tcons (Syntax.tyInt Syntax.w8) (Syntax.tcons (Syntax.tyArray (Syntax.tyInt Syntax.w32) 6) (Syntax.tcons (Syntax.tyInt Syntax.w64) (Syntax.tcons (Syntax.tyInt Syntax.w32) (Syntax.tcons (Syntax.tyArray (Syntax.tyInt Syntax.w8) 11) (Syntax.tcons (Syntax.tyInt Syntax.w64) (Syntax.tcons (Syntax.tyInt Syntax.w64) Syntax.tnil)))))))))))) (Syntax.tcons (Syntax.tyInt Syntax.w64) Syntax.tnil))))) (List._∷_ (5, Rows'.any-gone (Syntax.tyInt Syntax.w64)) (List._∷_ (6, Rows'.any-gone (Syntax.tyInt Syntax.w64)) (List._∷_ (7, Rows'.any-gone (ColumnMetadataRow.ty)) (List._∷_ (8, Rows'.any-gone (Syntax.tyRef Syntax.erased Syntax.mut (Syntax.tyArray ColumnMetadataRow.named 16))) (List._∷_ (9, Mut.mslice (ColumnMetadataRow.RT) (Syntax.tyRef Syntax.erased Syntax.mut ColumnMetadataRow.named) 1) (List._∷_ (10, Rows'.any-gone Syntax.tyUnit) (List._∷_ (11, Rows'.any-gone Syntax.tyBool) (List._∷_ (12, Rows'.any-gone (Syntax.tyInt Syntax.w64)) (List._∷_ (13, Rows'.any-gone Syntax.tyPtr) (List._∷_ (14, Rows'.any-gone Syntax.tyPtr) (List._∷_ (15, Rows'.any-gone (ColumnMetadataRow.ty)) List.[])))))))))))))))
 
 abbrev pub t9 : List.List Row.Entry
 t9 = List._∷_ (0, Rows'.any-gone Syntax.tyUnit) (List._∷_ (1, Rows'.sslice (Referent.rtF (Referent.fInt Syntax.w8)) (Syntax.tyRef (Syntax.named 0) Syntax.imm (Syntax.tyInt Syntax.w8)) 0) (List._∷_ (2, Rows'.any-gone (ColumnMetadataRow.ty)) (List._∷_ (3, Rows.arr-owed (ColumnMetadataRow.RT) 16 1) (List._∷_ (4, Rows'.whole (Declared.row SqldardAnswer.the-type)) (List._∷_ (5, Rows'.any-gone (Syntax.tyInt Syntax.w64)) (List._∷_ (6, Rows'.any-gone (Syntax.tyInt Syntax.w64)) (List._∷_ (7, Rows'.any-gone (ColumnMetadataRow.ty)) (List._∷_ (8, Rows'.any-gone (Syntax.tyRef Syntax.erased Syntax.mut (Syntax.tyArray ColumnMetadataRow.named 16))) (List._∷_ (9, Mut.msleft (ColumnMetadataRow.RT) (Syntax.tyRef Syntax.erased Syntax.mut ColumnMetadataRow.named)) (List._∷_ (10, Rows'.any-gone Syntax.tyUnit) (List._∷_ (11, Rows'.any-gone Syntax.tyBool) (List._∷_ (12, Rows'.any-gone (Syntax.tyInt Syntax.w64)) (List._∷_ (13, Rows'.any-gone Syntax.tyPtr) (List._∷_ (14, Rows'.any-gone Syntax.tyPtr) (List._∷_ (15, Rows'.any-gone (ColumnMetadataRow.ty)) List.[])))))))))))))))
@@ -284,61 +284,61 @@ abbrev pub t12 : List.List Row.Entry
 t12 = List._∷_ (0, Rows'.any-gone Syntax.tyUnit) (List._∷_ (1, Rows'.sslice (Referent.rtF (Referent.fInt Syntax.w8)) (Syntax.tyRef (Syntax.named 0) Syntax.imm (Syntax.tyInt Syntax.w8)) 0) (List._∷_ (2, Rows'.any-gone (ColumnMetadataRow.ty)) (List._∷_ (3, Rows.arrF (ColumnMetadataRow.RT) 16 0) (List._∷_ (4, Rows'.whole (Declared.row SqldardAnswer.the-type)) (List._∷_ (5, Rows'.sc-here (Row.sInt Syntax.w64)) (List._∷_ (6, Rows'.any-gone (Syntax.tyInt Syntax.w64)) (List._∷_ (7, Rows'.any-gone (ColumnMetadataRow.ty)) (List._∷_ (8, Rows'.any-gone (Syntax.tyRef Syntax.erased Syntax.mut (Syntax.tyArray ColumnMetadataRow.named 16))) (List._∷_ (9, Rows'.any-gone (Syntax.tyStruct (List._∷_ 38 (List._∷_ 91 (List._∷_ 93 List.[]))) (Syntax.tcons (Syntax.tyRef Syntax.erased Syntax.mut ColumnMetadataRow.named) (Syntax.tcons (Syntax.tyInt Syntax.w64) Syntax.tnil)))) (List._∷_ (10, Rows'.sc-here Row.sUnit) (List._∷_ (11, Rows'.any-gone Syntax.tyBool) (List._∷_ (12, Rows'.any-gone (Syntax.tyInt Syntax.w64)) (List._∷_ (13, Rows'.any-gone Syntax.tyPtr) (List._∷_ (14, Rows'.any-gone Syntax.tyPtr) (List._∷_ (15, Rows'.any-gone (ColumnMetadataRow.ty)) List.[])))))))))))))))
 
 abbrev pub t13 : List.List Row.Entry
-t13 = List._∷_ (0, Rows'.any-gone Syntax.tyUnit) (List._∷_ (1, Rows'.sslice (Referent.rtF (Referent.fInt Syntax.w8)) (Syntax.tyRef (Syntax.named 0) Syntax.imm (Syntax.tyInt Syntax.w8)) 0) (List._∷_ (2, Rows'.any-gone (ColumnMetadataRow.ty)) (List._∷_ (3, Rows.arrF (ColumnMetadataRow.RT) 16 0) (List._∷_ (4, Rows'.any-gone (Syntax.tyStruct (List._∷_ 115 (List._∷_ 113 (List._∷_ 108 (List._∷_ 100 (List._∷_ 97 (List._∷_ 114 (List._∷_ 100 (List._∷_ 58 (List._∷_ 58 (List._∷_ 83 (List._∷_ 113 (List._∷_ 108 (List._∷_ 100 (List._∷_ 97 (List._∷_ 114 (List._∷_ 100 (List._∷_ 65 (List._∷_ 110 (List._∷_ 115 (List._∷_ 119 (List._∷_ 101 (List._∷_ 114 List.[])))))))))))))))))))))) (Syntax.tcons (Syntax.tyEnum (List._∷_ 111 (List._∷_ 117 (List._∷_ 116 (List._∷_ 99 (List._∷_ 111 (List._∷_ 109 (List._∷_ 101 (List._∷_ 58 (List._∷_ 58 (List._∷_ 79 (List._∷_ 117 (List._∷_ 116 (List._∷_ 99 (List._∷_ 111 (List._∷_ 109 (List._∷_ 101 List.[])))))))))))))))) (Syntax.ttcons Syntax.tnil (Syntax.ttcons Syntax.tnil (Syntax.ttcons (Syntax.tcons (Syntax.tyInt Syntax.w64) (Syntax.tcons (Syntax.tyInt Syntax.w64) Syntax.tnil)) (Syntax.ttcons Syntax.tnil (Syntax.ttcons (Syntax.tcons (Syntax.tyInt Syntax.w16) Syntax.tnil) (Syntax.ttcons Syntax.tnil (Syntax.ttcons (Syntax.tcons (Syntax.tyInt Syntax.w64) Syntax.tnil) (Syntax.ttcons Syntax.tnil (Syntax.ttcons (Syntax.tcons (Syntax.tyInt Syntax.w16) Syntax.tnil) Syntax.ttnil)))))))))) (Syntax.tcons (Syntax.tyStruct (List._∷_ 115 (List._∷_ 113 (List._∷_ 108 (List._∷_ 99 (List._∷_ 97 (List._∷_ 114 (List._∷_ 100 (List._∷_ 58 (List._∷_ 58 (List._∷_ 83 (List._∷_ 113 (List._∷_ 108 (List._∷_ 67 (List._∷_ 97 (List._∷_ 114 (List._∷_ 100 List.[])))))))))))))))) (Syntax.tcons Syntax.tyBool (Syntax.tcons (Syntax.tyInt Syntax.w32) (Syntax.tcons (Syntax.tyArray (Syntax.tyInt Syntax.w8) 5) (Syntax.tcons (Syntax.tyArray (Syntax.tyInt Syntax.w8) 8) (Syntax.tcons (Syntax.tyInt Syntax.w8) (Syntax.tcons (Syntax.tyArray (Syntax.tyInt Syntax.w32) 6) (Syntax.tcons (Syntax.tyInt Syntax.w64) (Syntax.tcons (Syntax.tyInt Syntax.w32) (Syntax.tcons (Syntax.tyArray (Syntax.tyInt Syntax.w8) 11) (Syntax.tcons (Syntax.tyInt Syntax.w64) (Syntax.tcons (Syntax.tyInt Syntax.w64) Syntax.tnil)))))))))))) (Syntax.tcons (Syntax.tyInt Syntax.w64) Syntax.tnil))))) (List._∷_ (5, Rows'.sc-here (Row.sInt Syntax.w64)) (List._∷_ (6, Rows'.any-gone (Syntax.tyInt Syntax.w64)) (List._∷_ (7, Rows'.any-gone (ColumnMetadataRow.ty)) (List._∷_ (8, Rows'.any-gone (Syntax.tyRef Syntax.erased Syntax.mut (Syntax.tyArray ColumnMetadataRow.named 16))) (List._∷_ (9, Rows'.any-gone (Syntax.tyStruct (List._∷_ 38 (List._∷_ 91 (List._∷_ 93 List.[]))) (Syntax.tcons (Syntax.tyRef Syntax.erased Syntax.mut ColumnMetadataRow.named) (Syntax.tcons (Syntax.tyInt Syntax.w64) Syntax.tnil)))) (List._∷_ (10, Rows'.sc-here Row.sUnit) (List._∷_ (11, Rows'.any-gone Syntax.tyBool) (List._∷_ (12, Rows'.any-gone (Syntax.tyInt Syntax.w64)) (List._∷_ (13, Rows'.any-gone Syntax.tyPtr) (List._∷_ (14, Rows'.any-gone Syntax.tyPtr) (List._∷_ (15, Rows'.any-gone (ColumnMetadataRow.ty)) List.[])))))))))))))))
+t13 = List._∷_ (0, Rows'.any-gone Syntax.tyUnit) (List._∷_ (1, Rows'.sslice (Referent.rtF (Referent.fInt Syntax.w8)) (Syntax.tyRef (Syntax.named 0) Syntax.imm (Syntax.tyInt Syntax.w8)) 0) (List._∷_ (2, Rows'.any-gone (ColumnMetadataRow.ty)) (List._∷_ (3, Rows.arrF (ColumnMetadataRow.RT) 16 0) (List._∷_ (4, Rows'.any-gone (Syntax.tyStruct (List._∷_ 112 (List._∷_ 108 (List._∷_ 97 (List._∷_ 110 (List._∷_ 58 (List._∷_ 58 (List._∷_ 83 (List._∷_ 113 (List._∷_ 108 (List._∷_ 100 (List._∷_ 97 (List._∷_ 114 (List._∷_ 100 (List._∷_ 65 (List._∷_ 110 (List._∷_ 115 (List._∷_ 119 (List._∷_ 101 (List._∷_ 114 List.[]))))))))))))))))))) (Syntax.tcons (Syntax.tyEnum (List._∷_ 111 (List._∷_ 117 (List._∷_ 116 (List._∷_ 99 (List._∷_ 111 (List._∷_ 109 (List._∷_ 101 (List._∷_ 58 (List._∷_ 58 (List._∷_ 79 (List._∷_ 117 (List._∷_ 116 (List._∷_ 99 (List._∷_ 111 (List._∷_ 109 (List._∷_ 101 List.[])))))))))))))))) (Syntax.ttcons Syntax.tnil (Syntax.ttcons Syntax.tnil (Syntax.ttcons (Syntax.tcons (Syntax.tyInt Syntax.w64) (Syntax.tcons (Syntax.tyInt Syntax.w64) Syntax.tnil)) (Syntax.ttcons Syntax.tnil (Syntax.ttcons (Syntax.tcons (Syntax.tyInt Syntax.w16) Syntax.tnil) (Syntax.ttcons Syntax.tnil (Syntax.ttcons (Syntax.tcons (Syntax.tyInt Syntax.w64) Syntax.tnil) (Syntax.ttcons Syntax.tnil (Syntax.ttcons (Syntax.tcons (Syntax.tyInt Syntax.w16) Syntax.tnil) Syntax.ttnil)))))))))) (Syntax.tcons (Syntax.tyStruct (List._∷_ 115 (List._∷_ 113 (List._∷_ 108 (List._∷_ 99 (List._∷_ 97 (List._∷_ 114 (List._∷_ 100 (List._∷_ 58 (List._∷_ 58 (List._∷_ 83 (List._∷_ 113 (List._∷_ 108 (List._∷_ 67 (List._∷_ 97 (List._∷_ 114 (List._∷_ 100 List.[])))))))))))))))) (Syntax.tcons Syntax.tyBool (Syntax.tcons (Syntax.tyInt Syntax.w32) (Syntax.tcons (Syntax.tyArray (Syntax.tyInt Syntax.w8) 5) (Syntax.tcons (Syntax.tyArray (Syntax.tyInt Syntax.w8) 8) (Syntax.tcons (Syntax.tyInt Syntax.w8) (Syntax.tcons (Syntax.tyArray (Syntax.tyInt Syntax.w32) 6) (Syntax.tcons (Syntax.tyInt Syntax.w64) (Syntax.tcons (Syntax.tyInt Syntax.w32) (Syntax.tcons (Syntax.tyArray (Syntax.tyInt Syntax.w8) 11) (Syntax.tcons (Syntax.tyInt Syntax.w64) (Syntax.tcons (Syntax.tyInt Syntax.w64) Syntax.tnil)))))))))))) (Syntax.tcons (Syntax.tyInt Syntax.w64) Syntax.tnil))))) (List._∷_ (5, Rows'.sc-here (Row.sInt Syntax.w64)) (List._∷_ (6, Rows'.any-gone (Syntax.tyInt Syntax.w64)) (List._∷_ (7, Rows'.any-gone (ColumnMetadataRow.ty)) (List._∷_ (8, Rows'.any-gone (Syntax.tyRef Syntax.erased Syntax.mut (Syntax.tyArray ColumnMetadataRow.named 16))) (List._∷_ (9, Rows'.any-gone (Syntax.tyStruct (List._∷_ 38 (List._∷_ 91 (List._∷_ 93 List.[]))) (Syntax.tcons (Syntax.tyRef Syntax.erased Syntax.mut ColumnMetadataRow.named) (Syntax.tcons (Syntax.tyInt Syntax.w64) Syntax.tnil)))) (List._∷_ (10, Rows'.sc-here Row.sUnit) (List._∷_ (11, Rows'.any-gone Syntax.tyBool) (List._∷_ (12, Rows'.any-gone (Syntax.tyInt Syntax.w64)) (List._∷_ (13, Rows'.any-gone Syntax.tyPtr) (List._∷_ (14, Rows'.any-gone Syntax.tyPtr) (List._∷_ (15, Rows'.any-gone (ColumnMetadataRow.ty)) List.[])))))))))))))))
 
 abbrev pub t14 : List.List Row.Entry
-t14 = List._∷_ (0, Rows'.any-gone Syntax.tyUnit) (List._∷_ (1, Rows'.sslice (Referent.rtF (Referent.fInt Syntax.w8)) (Syntax.tyRef (Syntax.named 0) Syntax.imm (Syntax.tyInt Syntax.w8)) 0) (List._∷_ (2, Rows'.any-gone (ColumnMetadataRow.ty)) (List._∷_ (3, Rows.arrF (ColumnMetadataRow.RT) 16 0) (List._∷_ (4, Rows'.any-gone (Syntax.tyStruct (List._∷_ 115 (List._∷_ 113 (List._∷_ 108 (List._∷_ 100 (List._∷_ 97 (List._∷_ 114 (List._∷_ 100 (List._∷_ 58 (List._∷_ 58 (List._∷_ 83 (List._∷_ 113 (List._∷_ 108 (List._∷_ 100 (List._∷_ 97 (List._∷_ 114 (List._∷_ 100 (List._∷_ 65 (List._∷_ 110 (List._∷_ 115 (List._∷_ 119 (List._∷_ 101 (List._∷_ 114 List.[])))))))))))))))))))))) (Syntax.tcons (Syntax.tyEnum (List._∷_ 111 (List._∷_ 117 (List._∷_ 116 (List._∷_ 99 (List._∷_ 111 (List._∷_ 109 (List._∷_ 101 (List._∷_ 58 (List._∷_ 58 (List._∷_ 79 (List._∷_ 117 (List._∷_ 116 (List._∷_ 99 (List._∷_ 111 (List._∷_ 109 (List._∷_ 101 List.[])))))))))))))))) (Syntax.ttcons Syntax.tnil (Syntax.ttcons Syntax.tnil (Syntax.ttcons (Syntax.tcons (Syntax.tyInt Syntax.w64) (Syntax.tcons (Syntax.tyInt Syntax.w64) Syntax.tnil)) (Syntax.ttcons Syntax.tnil (Syntax.ttcons (Syntax.tcons (Syntax.tyInt Syntax.w16) Syntax.tnil) (Syntax.ttcons Syntax.tnil (Syntax.ttcons (Syntax.tcons (Syntax.tyInt Syntax.w64) Syntax.tnil) (Syntax.ttcons Syntax.tnil (Syntax.ttcons (Syntax.tcons (Syntax.tyInt Syntax.w16) Syntax.tnil) Syntax.ttnil)))))))))) (Syntax.tcons (Syntax.tyStruct (List._∷_ 115 (List._∷_ 113 (List._∷_ 108 (List._∷_ 99 (List._∷_ 97 (List._∷_ 114 (List._∷_ 100 (List._∷_ 58 (List._∷_ 58 (List._∷_ 83 (List._∷_ 113 (List._∷_ 108 (List._∷_ 67 (List._∷_ 97 (List._∷_ 114 (List._∷_ 100 List.[])))))))))))))))) (Syntax.tcons Syntax.tyBool (Syntax.tcons (Syntax.tyInt Syntax.w32) (Syntax.tcons (Syntax.tyArray (Syntax.tyInt Syntax.w8) 5) (Syntax.tcons (Syntax.tyArray (Syntax.tyInt Syntax.w8) 8) (Syntax.tcons (Syntax.tyInt Syntax.w8) (Syntax.tcons (Syntax.tyArray (Syntax.tyInt Syntax.w32) 6) (Syntax.tcons (Syntax.tyInt Syntax.w64) (Syntax.tcons (Syntax.tyInt Syntax.w32) (Syntax.tcons (Syntax.tyArray (Syntax.tyInt Syntax.w8) 11) (Syntax.tcons (Syntax.tyInt Syntax.w64) (Syntax.tcons (Syntax.tyInt Syntax.w64) Syntax.tnil)))))))))))) (Syntax.tcons (Syntax.tyInt Syntax.w64) Syntax.tnil))))) (List._∷_ (5, Rows'.sc-here (Row.sInt Syntax.w64)) (List._∷_ (6, Rows'.any-gone (Syntax.tyInt Syntax.w64)) (List._∷_ (7, Rows'.any-gone (ColumnMetadataRow.ty)) (List._∷_ (8, Rows'.any-gone (Syntax.tyRef Syntax.erased Syntax.mut (Syntax.tyArray ColumnMetadataRow.named 16))) (List._∷_ (9, Rows'.any-gone (Syntax.tyStruct (List._∷_ 38 (List._∷_ 91 (List._∷_ 93 List.[]))) (Syntax.tcons (Syntax.tyRef Syntax.erased Syntax.mut ColumnMetadataRow.named) (Syntax.tcons (Syntax.tyInt Syntax.w64) Syntax.tnil)))) (List._∷_ (10, Rows'.any-gone Syntax.tyUnit) (List._∷_ (11, Rows'.any-gone Syntax.tyBool) (List._∷_ (12, Rows'.any-gone (Syntax.tyInt Syntax.w64)) (List._∷_ (13, Rows'.any-gone Syntax.tyPtr) (List._∷_ (14, Rows'.any-gone Syntax.tyPtr) (List._∷_ (15, Rows'.any-gone (ColumnMetadataRow.ty)) List.[])))))))))))))))
+t14 = List._∷_ (0, Rows'.any-gone Syntax.tyUnit) (List._∷_ (1, Rows'.sslice (Referent.rtF (Referent.fInt Syntax.w8)) (Syntax.tyRef (Syntax.named 0) Syntax.imm (Syntax.tyInt Syntax.w8)) 0) (List._∷_ (2, Rows'.any-gone (ColumnMetadataRow.ty)) (List._∷_ (3, Rows.arrF (ColumnMetadataRow.RT) 16 0) (List._∷_ (4, Rows'.any-gone (Syntax.tyStruct (List._∷_ 112 (List._∷_ 108 (List._∷_ 97 (List._∷_ 110 (List._∷_ 58 (List._∷_ 58 (List._∷_ 83 (List._∷_ 113 (List._∷_ 108 (List._∷_ 100 (List._∷_ 97 (List._∷_ 114 (List._∷_ 100 (List._∷_ 65 (List._∷_ 110 (List._∷_ 115 (List._∷_ 119 (List._∷_ 101 (List._∷_ 114 List.[]))))))))))))))))))) (Syntax.tcons (Syntax.tyEnum (List._∷_ 111 (List._∷_ 117 (List._∷_ 116 (List._∷_ 99 (List._∷_ 111 (List._∷_ 109 (List._∷_ 101 (List._∷_ 58 (List._∷_ 58 (List._∷_ 79 (List._∷_ 117 (List._∷_ 116 (List._∷_ 99 (List._∷_ 111 (List._∷_ 109 (List._∷_ 101 List.[])))))))))))))))) (Syntax.ttcons Syntax.tnil (Syntax.ttcons Syntax.tnil (Syntax.ttcons (Syntax.tcons (Syntax.tyInt Syntax.w64) (Syntax.tcons (Syntax.tyInt Syntax.w64) Syntax.tnil)) (Syntax.ttcons Syntax.tnil (Syntax.ttcons (Syntax.tcons (Syntax.tyInt Syntax.w16) Syntax.tnil) (Syntax.ttcons Syntax.tnil (Syntax.ttcons (Syntax.tcons (Syntax.tyInt Syntax.w64) Syntax.tnil) (Syntax.ttcons Syntax.tnil (Syntax.ttcons (Syntax.tcons (Syntax.tyInt Syntax.w16) Syntax.tnil) Syntax.ttnil)))))))))) (Syntax.tcons (Syntax.tyStruct (List._∷_ 115 (List._∷_ 113 (List._∷_ 108 (List._∷_ 99 (List._∷_ 97 (List._∷_ 114 (List._∷_ 100 (List._∷_ 58 (List._∷_ 58 (List._∷_ 83 (List._∷_ 113 (List._∷_ 108 (List._∷_ 67 (List._∷_ 97 (List._∷_ 114 (List._∷_ 100 List.[])))))))))))))))) (Syntax.tcons Syntax.tyBool (Syntax.tcons (Syntax.tyInt Syntax.w32) (Syntax.tcons (Syntax.tyArray (Syntax.tyInt Syntax.w8) 5) (Syntax.tcons (Syntax.tyArray (Syntax.tyInt Syntax.w8) 8) (Syntax.tcons (Syntax.tyInt Syntax.w8) (Syntax.tcons (Syntax.tyArray (Syntax.tyInt Syntax.w32) 6) (Syntax.tcons (Syntax.tyInt Syntax.w64) (Syntax.tcons (Syntax.tyInt Syntax.w32) (Syntax.tcons (Syntax.tyArray (Syntax.tyInt Syntax.w8) 11) (Syntax.tcons (Syntax.tyInt Syntax.w64) (Syntax.tcons (Syntax.tyInt Syntax.w64) Syntax.tnil)))))))))))) (Syntax.tcons (Syntax.tyInt Syntax.w64) Syntax.tnil))))) (List._∷_ (5, Rows'.sc-here (Row.sInt Syntax.w64)) (List._∷_ (6, Rows'.any-gone (Syntax.tyInt Syntax.w64)) (List._∷_ (7, Rows'.any-gone (ColumnMetadataRow.ty)) (List._∷_ (8, Rows'.any-gone (Syntax.tyRef Syntax.erased Syntax.mut (Syntax.tyArray ColumnMetadataRow.named 16))) (List._∷_ (9, Rows'.any-gone (Syntax.tyStruct (List._∷_ 38 (List._∷_ 91 (List._∷_ 93 List.[]))) (Syntax.tcons (Syntax.tyRef Syntax.erased Syntax.mut ColumnMetadataRow.named) (Syntax.tcons (Syntax.tyInt Syntax.w64) Syntax.tnil)))) (List._∷_ (10, Rows'.any-gone Syntax.tyUnit) (List._∷_ (11, Rows'.any-gone Syntax.tyBool) (List._∷_ (12, Rows'.any-gone (Syntax.tyInt Syntax.w64)) (List._∷_ (13, Rows'.any-gone Syntax.tyPtr) (List._∷_ (14, Rows'.any-gone Syntax.tyPtr) (List._∷_ (15, Rows'.any-gone (ColumnMetadataRow.ty)) List.[])))))))))))))))
 
 abbrev pub t15 : List.List Row.Entry
-t15 = List._∷_ (0, Rows'.any-gone Syntax.tyUnit) (List._∷_ (1, Rows'.sslice (Referent.rtF (Referent.fInt Syntax.w8)) (Syntax.tyRef (Syntax.named 0) Syntax.imm (Syntax.tyInt Syntax.w8)) 0) (List._∷_ (2, Rows'.any-gone (ColumnMetadataRow.ty)) (List._∷_ (3, Rows.arrF (ColumnMetadataRow.RT) 16 0) (List._∷_ (4, Rows'.any-gone (Syntax.tyStruct (List._∷_ 115 (List._∷_ 113 (List._∷_ 108 (List._∷_ 100 (List._∷_ 97 (List._∷_ 114 (List._∷_ 100 (List._∷_ 58 (List._∷_ 58 (List._∷_ 83 (List._∷_ 113 (List._∷_ 108 (List._∷_ 100 (List._∷_ 97 (List._∷_ 114 (List._∷_ 100 (List._∷_ 65 (List._∷_ 110 (List._∷_ 115 (List._∷_ 119 (List._∷_ 101 (List._∷_ 114 List.[])))))))))))))))))))))) (Syntax.tcons (Syntax.tyEnum (List._∷_ 111 (List._∷_ 117 (List._∷_ 116 (List._∷_ 99 (List._∷_ 111 (List._∷_ 109 (List._∷_ 101 (List._∷_ 58 (List._∷_ 58 (List._∷_ 79 (List._∷_ 117 (List._∷_ 116 (List._∷_ 99 (List._∷_ 111 (List._∷_ 109 (List._∷_ 101 List.[])))))))))))))))) (Syntax.ttcons Syntax.tnil (Syntax.ttcons Syntax.tnil (Syntax.ttcons (Syntax.tcons (Syntax.tyInt Syntax.w64) (Syntax.tcons (Syntax.tyInt Syntax.w64) Syntax.tnil)) (Syntax.ttcons Syntax.tnil (Syntax.ttcons (Syntax.tcons (Syntax.tyInt Syntax.w16) Syntax.tnil) (Syntax.ttcons Syntax.tnil (Syntax.ttcons (Syntax.tcons (Syntax.tyInt Syntax.w64) Syntax.tnil) (Syntax.ttcons Syntax.tnil (Syntax.ttcons (Syntax.tcons (Syntax.tyInt Syntax.w16) Syntax.tnil) Syntax.ttnil)))))))))) (Syntax.tcons (Syntax.tyStruct (List._∷_ 115 (List._∷_ 113 (List._∷_ 108 (List._∷_ 99 (List._∷_ 97 (List._∷_ 114 (List._∷_ 100 (List._∷_ 58 (List._∷_ 58 (List._∷_ 83 (List._∷_ 113 (List._∷_ 108 (List._∷_ 67 (List._∷_ 97 (List._∷_ 114 (List._∷_ 100 List.[])))))))))))))))) (Syntax.tcons Syntax.tyBool (Syntax.tcons (Syntax.tyInt Syntax.w32) (Syntax.tcons (Syntax.tyArray (Syntax.tyInt Syntax.w8) 5) (Syntax.tcons (Syntax.tyArray (Syntax.tyInt Syntax.w8) 8) (Syntax.tcons (Syntax.tyInt Syntax.w8) (Syntax.tcons (Syntax.tyArray (Syntax.tyInt Syntax.w32) 6) (Syntax.tcons (Syntax.tyInt Syntax.w64) (Syntax.tcons (Syntax.tyInt Syntax.w32) (Syntax.tcons (Syntax.tyArray (Syntax.tyInt Syntax.w8) 11) (Syntax.tcons (Syntax.tyInt Syntax.w64) (Syntax.tcons (Syntax.tyInt Syntax.w64) Syntax.tnil)))))))))))) (Syntax.tcons (Syntax.tyInt Syntax.w64) Syntax.tnil))))) (List._∷_ (5, Rows'.sc-here (Row.sInt Syntax.w64)) (List._∷_ (6, Rows'.sc-here (Row.sInt Syntax.w64)) (List._∷_ (7, Rows'.any-gone (ColumnMetadataRow.ty)) (List._∷_ (8, Rows'.any-gone (Syntax.tyRef Syntax.erased Syntax.mut (Syntax.tyArray ColumnMetadataRow.named 16))) (List._∷_ (9, Rows'.any-gone (Syntax.tyStruct (List._∷_ 38 (List._∷_ 91 (List._∷_ 93 List.[]))) (Syntax.tcons (Syntax.tyRef Syntax.erased Syntax.mut ColumnMetadataRow.named) (Syntax.tcons (Syntax.tyInt Syntax.w64) Syntax.tnil)))) (List._∷_ (10, Rows'.any-gone Syntax.tyUnit) (List._∷_ (11, Rows'.any-gone Syntax.tyBool) (List._∷_ (12, Rows'.any-gone (Syntax.tyInt Syntax.w64)) (List._∷_ (13, Rows'.any-gone Syntax.tyPtr) (List._∷_ (14, Rows'.any-gone Syntax.tyPtr) (List._∷_ (15, Rows'.any-gone (ColumnMetadataRow.ty)) List.[])))))))))))))))
+t15 = List._∷_ (0, Rows'.any-gone Syntax.tyUnit) (List._∷_ (1, Rows'.sslice (Referent.rtF (Referent.fInt Syntax.w8)) (Syntax.tyRef (Syntax.named 0) Syntax.imm (Syntax.tyInt Syntax.w8)) 0) (List._∷_ (2, Rows'.any-gone (ColumnMetadataRow.ty)) (List._∷_ (3, Rows.arrF (ColumnMetadataRow.RT) 16 0) (List._∷_ (4, Rows'.any-gone (Syntax.tyStruct (List._∷_ 112 (List._∷_ 108 (List._∷_ 97 (List._∷_ 110 (List._∷_ 58 (List._∷_ 58 (List._∷_ 83 (List._∷_ 113 (List._∷_ 108 (List._∷_ 100 (List._∷_ 97 (List._∷_ 114 (List._∷_ 100 (List._∷_ 65 (List._∷_ 110 (List._∷_ 115 (List._∷_ 119 (List._∷_ 101 (List._∷_ 114 List.[]))))))))))))))))))) (Syntax.tcons (Syntax.tyEnum (List._∷_ 111 (List._∷_ 117 (List._∷_ 116 (List._∷_ 99 (List._∷_ 111 (List._∷_ 109 (List._∷_ 101 (List._∷_ 58 (List._∷_ 58 (List._∷_ 79 (List._∷_ 117 (List._∷_ 116 (List._∷_ 99 (List._∷_ 111 (List._∷_ 109 (List._∷_ 101 List.[])))))))))))))))) (Syntax.ttcons Syntax.tnil (Syntax.ttcons Syntax.tnil (Syntax.ttcons (Syntax.tcons (Syntax.tyInt Syntax.w64) (Syntax.tcons (Syntax.tyInt Syntax.w64) Syntax.tnil)) (Syntax.ttcons Syntax.tnil (Syntax.ttcons (Syntax.tcons (Syntax.tyInt Syntax.w16) Syntax.tnil) (Syntax.ttcons Syntax.tnil (Syntax.ttcons (Syntax.tcons (Syntax.tyInt Syntax.w64) Syntax.tnil) (Syntax.ttcons Syntax.tnil (Syntax.ttcons (Syntax.tcons (Syntax.tyInt Syntax.w16) Syntax.tnil) Syntax.ttnil)))))))))) (Syntax.tcons (Syntax.tyStruct (List._∷_ 115 (List._∷_ 113 (List._∷_ 108 (List._∷_ 99 (List._∷_ 97 (List._∷_ 114 (List._∷_ 100 (List._∷_ 58 (List._∷_ 58 (List._∷_ 83 (List._∷_ 113 (List._∷_ 108 (List._∷_ 67 (List._∷_ 97 (List._∷_ 114 (List._∷_ 100 List.[])))))))))))))))) (Syntax.tcons Syntax.tyBool (Syntax.tcons (Syntax.tyInt Syntax.w32) (Syntax.tcons (Syntax.tyArray (Syntax.tyInt Syntax.w8) 5) (Syntax.tcons (Syntax.tyArray (Syntax.tyInt Syntax.w8) 8) (Syntax.tcons (Syntax.tyInt Syntax.w8) (Syntax.tcons (Syntax.tyArray (Syntax.tyInt Syntax.w32) 6) (Syntax.tcons (Syntax.tyInt Syntax.w64) (Syntax.tcons (Syntax.tyInt Syntax.w32) (Syntax.tcons (Syntax.tyArray (Syntax.tyInt Syntax.w8) 11) (Syntax.tcons (Syntax.tyInt Syntax.w64) (Syntax.tcons (Syntax.tyInt Syntax.w64) Syntax.tnil)))))))))))) (Syntax.tcons (Syntax.tyInt Syntax.w64) Syntax.tnil))))) (List._∷_ (5, Rows'.sc-here (Row.sInt Syntax.w64)) (List._∷_ (6, Rows'.sc-here (Row.sInt Syntax.w64)) (List._∷_ (7, Rows'.any-gone (ColumnMetadataRow.ty)) (List._∷_ (8, Rows'.any-gone (Syntax.tyRef Syntax.erased Syntax.mut (Syntax.tyArray ColumnMetadataRow.named 16))) (List._∷_ (9, Rows'.any-gone (Syntax.tyStruct (List._∷_ 38 (List._∷_ 91 (List._∷_ 93 List.[]))) (Syntax.tcons (Syntax.tyRef Syntax.erased Syntax.mut ColumnMetadataRow.named) (Syntax.tcons (Syntax.tyInt Syntax.w64) Syntax.tnil)))) (List._∷_ (10, Rows'.any-gone Syntax.tyUnit) (List._∷_ (11, Rows'.any-gone Syntax.tyBool) (List._∷_ (12, Rows'.any-gone (Syntax.tyInt Syntax.w64)) (List._∷_ (13, Rows'.any-gone Syntax.tyPtr) (List._∷_ (14, Rows'.any-gone Syntax.tyPtr) (List._∷_ (15, Rows'.any-gone (ColumnMetadataRow.ty)) List.[])))))))))))))))
 
 abbrev pub t16 : List.List Row.Entry
-t16 = List._∷_ (0, Rows'.any-gone Syntax.tyUnit) (List._∷_ (1, Rows'.sslice (Referent.rtF (Referent.fInt Syntax.w8)) (Syntax.tyRef (Syntax.named 0) Syntax.imm (Syntax.tyInt Syntax.w8)) 0) (List._∷_ (2, Rows'.any-gone (ColumnMetadataRow.ty)) (List._∷_ (3, Rows'.any-gone (Syntax.tyArray (ColumnMetadataRow.ty) 16)) (List._∷_ (4, Rows'.any-gone (Syntax.tyStruct (List._∷_ 115 (List._∷_ 113 (List._∷_ 108 (List._∷_ 100 (List._∷_ 97 (List._∷_ 114 (List._∷_ 100 (List._∷_ 58 (List._∷_ 58 (List._∷_ 83 (List._∷_ 113 (List._∷_ 108 (List._∷_ 100 (List._∷_ 97 (List._∷_ 114 (List._∷_ 100 (List._∷_ 65 (List._∷_ 110 (List._∷_ 115 (List._∷_ 119 (List._∷_ 101 (List._∷_ 114 List.[])))))))))))))))))))))) (Syntax.tcons (Syntax.tyEnum (List._∷_ 111 (List._∷_ 117 (List._∷_ 116 (List._∷_ 99 (List._∷_ 111 (List._∷_ 109 (List._∷_ 101 (List._∷_ 58 (List._∷_ 58 (List._∷_ 79 (List._∷_ 117 (List._∷_ 116 (List._∷_ 99 (List._∷_ 111 (List._∷_ 109 (List._∷_ 101 List.[])))))))))))))))) (Syntax.ttcons Syntax.tnil (Syntax.ttcons Syntax.tnil (Syntax.ttcons (Syntax.tcons (Syntax.tyInt Syntax.w64) (Syntax.tcons (Syntax.tyInt Syntax.w64) Syntax.tnil)) (Syntax.ttcons Syntax.tnil (Syntax.ttcons (Syntax.tcons (Syntax.tyInt Syntax.w16) Syntax.tnil) (Syntax.ttcons Syntax.tnil (Syntax.ttcons (Syntax.tcons (Syntax.tyInt Syntax.w64) Syntax.tnil) (Syntax.ttcons Syntax.tnil (Syntax.ttcons (Syntax.tcons (Syntax.tyInt Syntax.w16) Syntax.tnil) Syntax.ttnil)))))))))) (Syntax.tcons (Syntax.tyStruct (List._∷_ 115 (List._∷_ 113 (List._∷_ 108 (List._∷_ 99 (List._∷_ 97 (List._∷_ 114 (List._∷_ 100 (List._∷_ 58 (List._∷_ 58 (List._∷_ 83 (List._∷_ 113 (List._∷_ 108 (List._∷_ 67 (List._∷_ 97 (List._∷_ 114 (List._∷_ 100 List.[])))))))))))))))) (Syntax.tcons Syntax.tyBool (Syntax.tcons (Syntax.tyInt Syntax.w32) (Syntax.tcons (Syntax.tyArray (Syntax.tyInt Syntax.w8) 5) (Syntax.tcons (Syntax.tyArray (Syntax.tyInt Syntax.w8) 8) (Syntax.tcons (Syntax.tyInt Syntax.w8) (Syntax.tcons (Syntax.tyArray (Syntax.tyInt Syntax.w32) 6) (Syntax.tcons (Syntax.tyInt Syntax.w64) (Syntax.tcons (Syntax.tyInt Syntax.w32) (Syntax.tcons (Syntax.tyArray (Syntax.tyInt Syntax.w8) 11) (Syntax.tcons (Syntax.tyInt Syntax.w64) (Syntax.tcons (Syntax.tyInt Syntax.w64) Syntax.tnil)))))))))))) (Syntax.tcons (Syntax.tyInt Syntax.w64) Syntax.tnil))))) (List._∷_ (5, Rows'.sc-here (Row.sInt Syntax.w64)) (List._∷_ (6, Rows'.sc-here (Row.sInt Syntax.w64)) (List._∷_ (7, Rows'.any-gone (ColumnMetadataRow.ty)) (List._∷_ (8, Rows'.any-gone (Syntax.tyRef Syntax.erased Syntax.mut (Syntax.tyArray ColumnMetadataRow.named 16))) (List._∷_ (9, Rows'.any-gone (Syntax.tyStruct (List._∷_ 38 (List._∷_ 91 (List._∷_ 93 List.[]))) (Syntax.tcons (Syntax.tyRef Syntax.erased Syntax.mut ColumnMetadataRow.named) (Syntax.tcons (Syntax.tyInt Syntax.w64) Syntax.tnil)))) (List._∷_ (10, Rows'.any-gone Syntax.tyUnit) (List._∷_ (11, Rows'.any-gone Syntax.tyBool) (List._∷_ (12, Rows'.any-gone (Syntax.tyInt Syntax.w64)) (List._∷_ (13, Rows'.any-gone Syntax.tyPtr) (List._∷_ (14, Rows'.any-gone Syntax.tyPtr) (List._∷_ (15, Rows'.any-gone (ColumnMetadataRow.ty)) List.[])))))))))))))))
+t16 = List._∷_ (0, Rows'.any-gone Syntax.tyUnit) (List._∷_ (1, Rows'.sslice (Referent.rtF (Referent.fInt Syntax.w8)) (Syntax.tyRef (Syntax.named 0) Syntax.imm (Syntax.tyInt Syntax.w8)) 0) (List._∷_ (2, Rows'.any-gone (ColumnMetadataRow.ty)) (List._∷_ (3, Rows'.any-gone (Syntax.tyArray (ColumnMetadataRow.ty) 16)) (List._∷_ (4, Rows'.any-gone (Syntax.tyStruct (List._∷_ 112 (List._∷_ 108 (List._∷_ 97 (List._∷_ 110 (List._∷_ 58 (List._∷_ 58 (List._∷_ 83 (List._∷_ 113 (List._∷_ 108 (List._∷_ 100 (List._∷_ 97 (List._∷_ 114 (List._∷_ 100 (List._∷_ 65 (List._∷_ 110 (List._∷_ 115 (List._∷_ 119 (List._∷_ 101 (List._∷_ 114 List.[]))))))))))))))))))) (Syntax.tcons (Syntax.tyEnum (List._∷_ 111 (List._∷_ 117 (List._∷_ 116 (List._∷_ 99 (List._∷_ 111 (List._∷_ 109 (List._∷_ 101 (List._∷_ 58 (List._∷_ 58 (List._∷_ 79 (List._∷_ 117 (List._∷_ 116 (List._∷_ 99 (List._∷_ 111 (List._∷_ 109 (List._∷_ 101 List.[])))))))))))))))) (Syntax.ttcons Syntax.tnil (Syntax.ttcons Syntax.tnil (Syntax.ttcons (Syntax.tcons (Syntax.tyInt Syntax.w64) (Syntax.tcons (Syntax.tyInt Syntax.w64) Syntax.tnil)) (Syntax.ttcons Syntax.tnil (Syntax.ttcons (Syntax.tcons (Syntax.tyInt Syntax.w16) Syntax.tnil) (Syntax.ttcons Syntax.tnil (Syntax.ttcons (Syntax.tcons (Syntax.tyInt Syntax.w64) Syntax.tnil) (Syntax.ttcons Syntax.tnil (Syntax.ttcons (Syntax.tcons (Syntax.tyInt Syntax.w16) Syntax.tnil) Syntax.ttnil)))))))))) (Syntax.tcons (Syntax.tyStruct (List._∷_ 115 (List._∷_ 113 (List._∷_ 108 (List._∷_ 99 (List._∷_ 97 (List._∷_ 114 (List._∷_ 100 (List._∷_ 58 (List._∷_ 58 (List._∷_ 83 (List._∷_ 113 (List._∷_ 108 (List._∷_ 67 (List._∷_ 97 (List._∷_ 114 (List._∷_ 100 List.[])))))))))))))))) (Syntax.tcons Syntax.tyBool (Syntax.tcons (Syntax.tyInt Syntax.w32) (Syntax.tcons (Syntax.tyArray (Syntax.tyInt Syntax.w8) 5) (Syntax.tcons (Syntax.tyArray (Syntax.tyInt Syntax.w8) 8) (Syntax.tcons (Syntax.tyInt Syntax.w8) (Syntax.tcons (Syntax.tyArray (Syntax.tyInt Syntax.w32) 6) (Syntax.tcons (Syntax.tyInt Syntax.w64) (Syntax.tcons (Syntax.tyInt Syntax.w32) (Syntax.tcons (Syntax.tyArray (Syntax.tyInt Syntax.w8) 11) (Syntax.tcons (Syntax.tyInt Syntax.w64) (Syntax.tcons (Syntax.tyInt Syntax.w64) Syntax.tnil)))))))))))) (Syntax.tcons (Syntax.tyInt Syntax.w64) Syntax.tnil))))) (List._∷_ (5, Rows'.sc-here (Row.sInt Syntax.w64)) (List._∷_ (6, Rows'.sc-here (Row.sInt Syntax.w64)) (List._∷_ (7, Rows'.any-gone (ColumnMetadataRow.ty)) (List._∷_ (8, Rows'.any-gone (Syntax.tyRef Syntax.erased Syntax.mut (Syntax.tyArray ColumnMetadataRow.named 16))) (List._∷_ (9, Rows'.any-gone (Syntax.tyStruct (List._∷_ 38 (List._∷_ 91 (List._∷_ 93 List.[]))) (Syntax.tcons (Syntax.tyRef Syntax.erased Syntax.mut ColumnMetadataRow.named) (Syntax.tcons (Syntax.tyInt Syntax.w64) Syntax.tnil)))) (List._∷_ (10, Rows'.any-gone Syntax.tyUnit) (List._∷_ (11, Rows'.any-gone Syntax.tyBool) (List._∷_ (12, Rows'.any-gone (Syntax.tyInt Syntax.w64)) (List._∷_ (13, Rows'.any-gone Syntax.tyPtr) (List._∷_ (14, Rows'.any-gone Syntax.tyPtr) (List._∷_ (15, Rows'.any-gone (ColumnMetadataRow.ty)) List.[])))))))))))))))
 
 abbrev pub t17 : List.List Row.Entry
-t17 = List._∷_ (0, Rows'.any-gone Syntax.tyUnit) (List._∷_ (1, Rows'.sslice (Referent.rtF (Referent.fInt Syntax.w8)) (Syntax.tyRef (Syntax.named 0) Syntax.imm (Syntax.tyInt Syntax.w8)) 0) (List._∷_ (2, Rows'.any-gone (ColumnMetadataRow.ty)) (List._∷_ (3, Rows.arrF (ColumnMetadataRow.RT) 16 0) (List._∷_ (4, Rows'.any-gone (Syntax.tyStruct (List._∷_ 115 (List._∷_ 113 (List._∷_ 108 (List._∷_ 100 (List._∷_ 97 (List._∷_ 114 (List._∷_ 100 (List._∷_ 58 (List._∷_ 58 (List._∷_ 83 (List._∷_ 113 (List._∷_ 108 (List._∷_ 100 (List._∷_ 97 (List._∷_ 114 (List._∷_ 100 (List._∷_ 65 (List._∷_ 110 (List._∷_ 115 (List._∷_ 119 (List._∷_ 101 (List._∷_ 114 List.[])))))))))))))))))))))) (Syntax.tcons (Syntax.tyEnum (List._∷_ 111 (List._∷_ 117 (List._∷_ 116 (List._∷_ 99 (List._∷_ 111 (List._∷_ 109 (List._∷_ 101 (List._∷_ 58 (List._∷_ 58 (List._∷_ 79 (List._∷_ 117 (List._∷_ 116 (List._∷_ 99 (List._∷_ 111 (List._∷_ 109 (List._∷_ 101 List.[])))))))))))))))) (Syntax.ttcons Syntax.tnil (Syntax.ttcons Syntax.tnil (Syntax.ttcons (Syntax.tcons (Syntax.tyInt Syntax.w64) (Syntax.tcons (Syntax.tyInt Syntax.w64) Syntax.tnil)) (Syntax.ttcons Syntax.tnil (Syntax.ttcons (Syntax.tcons (Syntax.tyInt Syntax.w16) Syntax.tnil) (Syntax.ttcons Syntax.tnil (Syntax.ttcons (Syntax.tcons (Syntax.tyInt Syntax.w64) Syntax.tnil) (Syntax.ttcons Syntax.tnil (Syntax.ttcons (Syntax.tcons (Syntax.tyInt Syntax.w16) Syntax.tnil) Syntax.ttnil)))))))))) (Syntax.tcons (Syntax.tyStruct (List._∷_ 115 (List._∷_ 113 (List._∷_ 108 (List._∷_ 99 (List._∷_ 97 (List._∷_ 114 (List._∷_ 100 (List._∷_ 58 (List._∷_ 58 (List._∷_ 83 (List._∷_ 113 (List._∷_ 108 (List._∷_ 67 (List._∷_ 97 (List._∷_ 114 (List._∷_ 100 List.[])))))))))))))))) (Syntax.tcons Syntax.tyBool (Syntax.tcons (Syntax.tyInt Syntax.w32) (Syntax.tcons (Syntax.tyArray (Syntax.tyInt Syntax.w8) 5) (Syntax.tcons (Syntax.tyArray (Syntax.tyInt Syntax.w8) 8) (Syntax.tcons (Syntax.tyInt Syntax.w8) (Syntax.tcons (Syntax.tyArray (Syntax.tyInt Syntax.w32) 6) (Syntax.tcons (Syntax.tyInt Syntax.w64) (Syntax.tcons (Syntax.tyInt Syntax.w32) (Syntax.tcons (Syntax.tyArray (Syntax.tyInt Syntax.w8) 11) (Syntax.tcons (Syntax.tyInt Syntax.w64) (Syntax.tcons (Syntax.tyInt Syntax.w64) Syntax.tnil)))))))))))) (Syntax.tcons (Syntax.tyInt Syntax.w64) Syntax.tnil))))) (List._∷_ (5, Rows'.sc-here (Row.sInt Syntax.w64)) (List._∷_ (6, Rows'.sc-here (Row.sInt Syntax.w64)) (List._∷_ (7, Rows'.any-gone (ColumnMetadataRow.ty)) (List._∷_ (8, Rows'.any-gone (Syntax.tyRef Syntax.erased Syntax.mut (Syntax.tyArray ColumnMetadataRow.named 16))) (List._∷_ (9, Rows'.any-gone (Syntax.tyStruct (List._∷_ 38 (List._∷_ 91 (List._∷_ 93 List.[]))) (Syntax.tcons (Syntax.tyRef Syntax.erased Syntax.mut ColumnMetadataRow.named) (Syntax.tcons (Syntax.tyInt Syntax.w64) Syntax.tnil)))) (List._∷_ (10, Rows'.any-gone Syntax.tyUnit) (List._∷_ (11, Rows'.sc-here Row.sBool) (List._∷_ (12, Rows'.any-gone (Syntax.tyInt Syntax.w64)) (List._∷_ (13, Rows'.any-gone Syntax.tyPtr) (List._∷_ (14, Rows'.any-gone Syntax.tyPtr) (List._∷_ (15, Rows'.any-gone (ColumnMetadataRow.ty)) List.[])))))))))))))))
+t17 = List._∷_ (0, Rows'.any-gone Syntax.tyUnit) (List._∷_ (1, Rows'.sslice (Referent.rtF (Referent.fInt Syntax.w8)) (Syntax.tyRef (Syntax.named 0) Syntax.imm (Syntax.tyInt Syntax.w8)) 0) (List._∷_ (2, Rows'.any-gone (ColumnMetadataRow.ty)) (List._∷_ (3, Rows.arrF (ColumnMetadataRow.RT) 16 0) (List._∷_ (4, Rows'.any-gone (Syntax.tyStruct (List._∷_ 112 (List._∷_ 108 (List._∷_ 97 (List._∷_ 110 (List._∷_ 58 (List._∷_ 58 (List._∷_ 83 (List._∷_ 113 (List._∷_ 108 (List._∷_ 100 (List._∷_ 97 (List._∷_ 114 (List._∷_ 100 (List._∷_ 65 (List._∷_ 110 (List._∷_ 115 (List._∷_ 119 (List._∷_ 101 (List._∷_ 114 List.[]))))))))))))))))))) (Syntax.tcons (Syntax.tyEnum (List._∷_ 111 (List._∷_ 117 (List._∷_ 116 (List._∷_ 99 (List._∷_ 111 (List._∷_ 109 (List._∷_ 101 (List._∷_ 58 (List._∷_ 58 (List._∷_ 79 (List._∷_ 117 (List._∷_ 116 (List._∷_ 99 (List._∷_ 111 (List._∷_ 109 (List._∷_ 101 List.[])))))))))))))))) (Syntax.ttcons Syntax.tnil (Syntax.ttcons Syntax.tnil (Syntax.ttcons (Syntax.tcons (Syntax.tyInt Syntax.w64) (Syntax.tcons (Syntax.tyInt Syntax.w64) Syntax.tnil)) (Syntax.ttcons Syntax.tnil (Syntax.ttcons (Syntax.tcons (Syntax.tyInt Syntax.w16) Syntax.tnil) (Syntax.ttcons Syntax.tnil (Syntax.ttcons (Syntax.tcons (Syntax.tyInt Syntax.w64) Syntax.tnil) (Syntax.ttcons Syntax.tnil (Syntax.ttcons (Syntax.tcons (Syntax.tyInt Syntax.w16) Syntax.tnil) Syntax.ttnil)))))))))) (Syntax.tcons (Syntax.tyStruct (List._∷_ 115 (List._∷_ 113 (List._∷_ 108 (List._∷_ 99 (List._∷_ 97 (List._∷_ 114 (List._∷_ 100 (List._∷_ 58 (List._∷_ 58 (List._∷_ 83 (List._∷_ 113 (List._∷_ 108 (List._∷_ 67 (List._∷_ 97 (List._∷_ 114 (List._∷_ 100 List.[])))))))))))))))) (Syntax.tcons Syntax.tyBool (Syntax.tcons (Syntax.tyInt Syntax.w32) (Syntax.tcons (Syntax.tyArray (Syntax.tyInt Syntax.w8) 5) (Syntax.tcons (Syntax.tyArray (Syntax.tyInt Syntax.w8) 8) (Syntax.tcons (Syntax.tyInt Syntax.w8) (Syntax.tcons (Syntax.tyArray (Syntax.tyInt Syntax.w32) 6) (Syntax.tcons (Syntax.tyInt Syntax.w64) (Syntax.tcons (Syntax.tyInt Syntax.w32) (Syntax.tcons (Syntax.tyArray (Syntax.tyInt Syntax.w8) 11) (Syntax.tcons (Syntax.tyInt Syntax.w64) (Syntax.tcons (Syntax.tyInt Syntax.w64) Syntax.tnil)))))))))))) (Syntax.tcons (Syntax.tyInt Syntax.w64) Syntax.tnil))))) (List._∷_ (5, Rows'.sc-here (Row.sInt Syntax.w64)) (List._∷_ (6, Rows'.sc-here (Row.sInt Syntax.w64)) (List._∷_ (7, Rows'.any-gone (ColumnMetadataRow.ty)) (List._∷_ (8, Rows'.any-gone (Syntax.tyRef Syntax.erased Syntax.mut (Syntax.tyArray ColumnMetadataRow.named 16))) (List._∷_ (9, Rows'.any-gone (Syntax.tyStruct (List._∷_ 38 (List._∷_ 91 (List._∷_ 93 List.[]))) (Syntax.tcons (Syntax.tyRef Syntax.erased Syntax.mut ColumnMetadataRow.named) (Syntax.tcons (Syntax.tyInt Syntax.w64) Syntax.tnil)))) (List._∷_ (10, Rows'.any-gone Syntax.tyUnit) (List._∷_ (11, Rows'.sc-here Row.sBool) (List._∷_ (12, Rows'.any-gone (Syntax.tyInt Syntax.w64)) (List._∷_ (13, Rows'.any-gone Syntax.tyPtr) (List._∷_ (14, Rows'.any-gone Syntax.tyPtr) (List._∷_ (15, Rows'.any-gone (ColumnMetadataRow.ty)) List.[])))))))))))))))
 
 abbrev pub t18 : List.List Row.Entry
-t18 = List._∷_ (0, Rows'.any-gone Syntax.tyUnit) (List._∷_ (1, Rows'.sslice (Referent.rtF (Referent.fInt Syntax.w8)) (Syntax.tyRef (Syntax.named 0) Syntax.imm (Syntax.tyInt Syntax.w8)) 0) (List._∷_ (2, Rows'.any-gone (ColumnMetadataRow.ty)) (List._∷_ (3, Rows'.any-gone (Syntax.tyArray (ColumnMetadataRow.ty) 16)) (List._∷_ (4, Rows'.any-gone (Syntax.tyStruct (List._∷_ 115 (List._∷_ 113 (List._∷_ 108 (List._∷_ 100 (List._∷_ 97 (List._∷_ 114 (List._∷_ 100 (List._∷_ 58 (List._∷_ 58 (List._∷_ 83 (List._∷_ 113 (List._∷_ 108 (List._∷_ 100 (List._∷_ 97 (List._∷_ 114 (List._∷_ 100 (List._∷_ 65 (List._∷_ 110 (List._∷_ 115 (List._∷_ 119 (List._∷_ 101 (List._∷_ 114 List.[])))))))))))))))))))))) (Syntax.tcons (Syntax.tyEnum (List._∷_ 111 (List._∷_ 117 (List._∷_ 116 (List._∷_ 99 (List._∷_ 111 (List._∷_ 109 (List._∷_ 101 (List._∷_ 58 (List._∷_ 58 (List._∷_ 79 (List._∷_ 117 (List._∷_ 116 (List._∷_ 99 (List._∷_ 111 (List._∷_ 109 (List._∷_ 101 List.[])))))))))))))))) (Syntax.ttcons Syntax.tnil (Syntax.ttcons Syntax.tnil (Syntax.ttcons (Syntax.tcons (Syntax.tyInt Syntax.w64) (Syntax.tcons (Syntax.tyInt Syntax.w64) Syntax.tnil)) (Syntax.ttcons Syntax.tnil (Syntax.ttcons (Syntax.tcons (Syntax.tyInt Syntax.w16) Syntax.tnil) (Syntax.ttcons Syntax.tnil (Syntax.ttcons (Syntax.tcons (Syntax.tyInt Syntax.w64) Syntax.tnil) (Syntax.ttcons Syntax.tnil (Syntax.ttcons (Syntax.tcons (Syntax.tyInt Syntax.w16) Syntax.tnil) Syntax.ttnil)))))))))) (Syntax.tcons (Syntax.tyStruct (List._∷_ 115 (List._∷_ 113 (List._∷_ 108 (List._∷_ 99 (List._∷_ 97 (List._∷_ 114 (List._∷_ 100 (List._∷_ 58 (List._∷_ 58 (List._∷_ 83 (List._∷_ 113 (List._∷_ 108 (List._∷_ 67 (List._∷_ 97 (List._∷_ 114 (List._∷_ 100 List.[])))))))))))))))) (Syntax.tcons Syntax.tyBool (Syntax.tcons (Syntax.tyInt Syntax.w32) (Syntax.tcons (Syntax.tyArray (Syntax.tyInt Syntax.w8) 5) (Syntax.tcons (Syntax.tyArray (Syntax.tyInt Syntax.w8) 8) (Syntax.tcons (Syntax.tyInt Syntax.w8) (Syntax.tcons (Syntax.tyArray (Syntax.tyInt Syntax.w32) 6) (Syntax.tcons (Syntax.tyInt Syntax.w64) (Syntax.tcons (Syntax.tyInt Syntax.w32) (Syntax.tcons (Syntax.tyArray (Syntax.tyInt Syntax.w8) 11) (Syntax.tcons (Syntax.tyInt Syntax.w64) (Syntax.tcons (Syntax.tyInt Syntax.w64) Syntax.tnil)))))))))))) (Syntax.tcons (Syntax.tyInt Syntax.w64) Syntax.tnil))))) (List._∷_ (5, Rows'.sc-here (Row.sInt Syntax.w64)) (List._∷_ (6, Rows'.sc-here (Row.sInt Syntax.w64)) (List._∷_ (7, Rows'.any-gone (ColumnMetadataRow.ty)) (List._∷_ (8, Rows'.any-gone (Syntax.tyRef Syntax.erased Syntax.mut (Syntax.tyArray ColumnMetadataRow.named 16))) (List._∷_ (9, Rows'.any-gone (Syntax.tyStruct (List._∷_ 38 (List._∷_ 91 (List._∷_ 93 List.[]))) (Syntax.tcons (Syntax.tyRef Syntax.erased Syntax.mut ColumnMetadataRow.named) (Syntax.tcons (Syntax.tyInt Syntax.w64) Syntax.tnil)))) (List._∷_ (10, Rows'.any-gone Syntax.tyUnit) (List._∷_ (11, Rows'.sc-here Row.sBool) (List._∷_ (12, Rows'.any-gone (Syntax.tyInt Syntax.w64)) (List._∷_ (13, Rows'.any-gone Syntax.tyPtr) (List._∷_ (14, Rows'.any-gone Syntax.tyPtr) (List._∷_ (15, Rows'.any-gone (ColumnMetadataRow.ty)) List.[])))))))))))))))
+t18 = List._∷_ (0, Rows'.any-gone Syntax.tyUnit) (List._∷_ (1, Rows'.sslice (Referent.rtF (Referent.fInt Syntax.w8)) (Syntax.tyRef (Syntax.named 0) Syntax.imm (Syntax.tyInt Syntax.w8)) 0) (List._∷_ (2, Rows'.any-gone (ColumnMetadataRow.ty)) (List._∷_ (3, Rows'.any-gone (Syntax.tyArray (ColumnMetadataRow.ty) 16)) (List._∷_ (4, Rows'.any-gone (Syntax.tyStruct (List._∷_ 112 (List._∷_ 108 (List._∷_ 97 (List._∷_ 110 (List._∷_ 58 (List._∷_ 58 (List._∷_ 83 (List._∷_ 113 (List._∷_ 108 (List._∷_ 100 (List._∷_ 97 (List._∷_ 114 (List._∷_ 100 (List._∷_ 65 (List._∷_ 110 (List._∷_ 115 (List._∷_ 119 (List._∷_ 101 (List._∷_ 114 List.[]))))))))))))))))))) (Syntax.tcons (Syntax.tyEnum (List._∷_ 111 (List._∷_ 117 (List._∷_ 116 (List._∷_ 99 (List._∷_ 111 (List._∷_ 109 (List._∷_ 101 (List._∷_ 58 (List._∷_ 58 (List._∷_ 79 (List._∷_ 117 (List._∷_ 116 (List._∷_ 99 (List._∷_ 111 (List._∷_ 109 (List._∷_ 101 List.[])))))))))))))))) (Syntax.ttcons Syntax.tnil (Syntax.ttcons Syntax.tnil (Syntax.ttcons (Syntax.tcons (Syntax.tyInt Syntax.w64) (Syntax.tcons (Syntax.tyInt Syntax.w64) Syntax.tnil)) (Syntax.ttcons Syntax.tnil (Syntax.ttcons (Syntax.tcons (Syntax.tyInt Syntax.w16) Syntax.tnil) (Syntax.ttcons Syntax.tnil (Syntax.ttcons (Syntax.tcons (Syntax.tyInt Syntax.w64) Syntax.tnil) (Syntax.ttcons Syntax.tnil (Syntax.ttcons (Syntax.tcons (Syntax.tyInt Syntax.w16) Syntax.tnil) Syntax.ttnil)))))))))) (Syntax.tcons (Syntax.tyStruct (List._∷_ 115 (List._∷_ 113 (List._∷_ 108 (List._∷_ 99 (List._∷_ 97 (List._∷_ 114 (List._∷_ 100 (List._∷_ 58 (List._∷_ 58 (List._∷_ 83 (List._∷_ 113 (List._∷_ 108 (List._∷_ 67 (List._∷_ 97 (List._∷_ 114 (List._∷_ 100 List.[])))))))))))))))) (Syntax.tcons Syntax.tyBool (Syntax.tcons (Syntax.tyInt Syntax.w32) (Syntax.tcons (Syntax.tyArray (Syntax.tyInt Syntax.w8) 5) (Syntax.tcons (Syntax.tyArray (Syntax.tyInt Syntax.w8) 8) (Syntax.tcons (Syntax.tyInt Syntax.w8) (Syntax.tcons (Syntax.tyArray (Syntax.tyInt Syntax.w32) 6) (Syntax.tcons (Syntax.tyInt Syntax.w64) (Syntax.tcons (Syntax.tyInt Syntax.w32) (Syntax.tcons (Syntax.tyArray (Syntax.tyInt Syntax.w8) 11) (Syntax.tcons (Syntax.tyInt Syntax.w64) (Syntax.tcons (Syntax.tyInt Syntax.w64) Syntax.tnil)))))))))))) (Syntax.tcons (Syntax.tyInt Syntax.w64) Syntax.tnil))))) (List._∷_ (5, Rows'.sc-here (Row.sInt Syntax.w64)) (List._∷_ (6, Rows'.sc-here (Row.sInt Syntax.w64)) (List._∷_ (7, Rows'.any-gone (ColumnMetadataRow.ty)) (List._∷_ (8, Rows'.any-gone (Syntax.tyRef Syntax.erased Syntax.mut (Syntax.tyArray ColumnMetadataRow.named 16))) (List._∷_ (9, Rows'.any-gone (Syntax.tyStruct (List._∷_ 38 (List._∷_ 91 (List._∷_ 93 List.[]))) (Syntax.tcons (Syntax.tyRef Syntax.erased Syntax.mut ColumnMetadataRow.named) (Syntax.tcons (Syntax.tyInt Syntax.w64) Syntax.tnil)))) (List._∷_ (10, Rows'.any-gone Syntax.tyUnit) (List._∷_ (11, Rows'.sc-here Row.sBool) (List._∷_ (12, Rows'.any-gone (Syntax.tyInt Syntax.w64)) (List._∷_ (13, Rows'.any-gone Syntax.tyPtr) (List._∷_ (14, Rows'.any-gone Syntax.tyPtr) (List._∷_ (15, Rows'.any-gone (ColumnMetadataRow.ty)) List.[])))))))))))))))
 
 abbrev pub t19 : List.List Row.Entry
-t19 = List._∷_ (0, Rows'.any-gone Syntax.tyUnit) (List._∷_ (1, Rows'.sslice (Referent.rtF (Referent.fInt Syntax.w8)) (Syntax.tyRef (Syntax.named 0) Syntax.imm (Syntax.tyInt Syntax.w8)) 0) (List._∷_ (2, Rows'.any-gone (ColumnMetadataRow.ty)) (List._∷_ (3, Rows.arrF (ColumnMetadataRow.RT) 16 0) (List._∷_ (4, Rows'.any-gone (Syntax.tyStruct (List._∷_ 115 (List._∷_ 113 (List._∷_ 108 (List._∷_ 100 (List._∷_ 97 (List._∷_ 114 (List._∷_ 100 (List._∷_ 58 (List._∷_ 58 (List._∷_ 83 (List._∷_ 113 (List._∷_ 108 (List._∷_ 100 (List._∷_ 97 (List._∷_ 114 (List._∷_ 100 (List._∷_ 65 (List._∷_ 110 (List._∷_ 115 (List._∷_ 119 (List._∷_ 101 (List._∷_ 114 List.[])))))))))))))))))))))) (Syntax.tcons (Syntax.tyEnum (List._∷_ 111 (List._∷_ 117 (List._∷_ 116 (List._∷_ 99 (List._∷_ 111 (List._∷_ 109 (List._∷_ 101 (List._∷_ 58 (List._∷_ 58 (List._∷_ 79 (List._∷_ 117 (List._∷_ 116 (List._∷_ 99 (List._∷_ 111 (List._∷_ 109 (List._∷_ 101 List.[])))))))))))))))) (Syntax.ttcons Syntax.tnil (Syntax.ttcons Syntax.tnil (Syntax.ttcons (Syntax.tcons (Syntax.tyInt Syntax.w64) (Syntax.tcons (Syntax.tyInt Syntax.w64) Syntax.tnil)) (Syntax.ttcons Syntax.tnil (Syntax.ttcons (Syntax.tcons (Syntax.tyInt Syntax.w16) Syntax.tnil) (Syntax.ttcons Syntax.tnil (Syntax.ttcons (Syntax.tcons (Syntax.tyInt Syntax.w64) Syntax.tnil) (Syntax.ttcons Syntax.tnil (Syntax.ttcons (Syntax.tcons (Syntax.tyInt Syntax.w16) Syntax.tnil) Syntax.ttnil)))))))))) (Syntax.tcons (Syntax.tyStruct (List._∷_ 115 (List._∷_ 113 (List._∷_ 108 (List._∷_ 99 (List._∷_ 97 (List._∷_ 114 (List._∷_ 100 (List._∷_ 58 (List._∷_ 58 (List._∷_ 83 (List._∷_ 113 (List._∷_ 108 (List._∷_ 67 (List._∷_ 97 (List._∷_ 114 (List._∷_ 100 List.[])))))))))))))))) (Syntax.tcons Syntax.tyBool (Syntax.tcons (Syntax.tyInt Syntax.w32) (Syntax.tcons (Syntax.tyArray (Syntax.tyInt Syntax.w8) 5) (Syntax.tcons (Syntax.tyArray (Syntax.tyInt Syntax.w8) 8) (Syntax.tcons (Syntax.tyInt Syntax.w8) (Syntax.tcons (Syntax.tyArray (Syntax.tyInt Syntax.w32) 6) (Syntax.tcons (Syntax.tyInt Syntax.w64) (Syntax.tcons (Syntax.tyInt Syntax.w32) (Syntax.tcons (Syntax.tyArray (Syntax.tyInt Syntax.w8) 11) (Syntax.tcons (Syntax.tyInt Syntax.w64) (Syntax.tcons (Syntax.tyInt Syntax.w64) Syntax.tnil)))))))))))) (Syntax.tcons (Syntax.tyInt Syntax.w64) Syntax.tnil))))) (List._∷_ (5, Rows'.sc-here (Row.sInt Syntax.w64)) (List._∷_ (6, Rows'.sc-here (Row.sInt Syntax.w64)) (List._∷_ (7, Rows'.any-gone (ColumnMetadataRow.ty)) (List._∷_ (8, Rows'.any-gone (Syntax.tyRef Syntax.erased Syntax.mut (Syntax.tyArray ColumnMetadataRow.named 16))) (List._∷_ (9, Rows'.any-gone (Syntax.tyStruct (List._∷_ 38 (List._∷_ 91 (List._∷_ 93 List.[]))) (Syntax.tcons (Syntax.tyRef Syntax.erased Syntax.mut ColumnMetadataRow.named) (Syntax.tcons (Syntax.tyInt Syntax.w64) Syntax.tnil)))) (List._∷_ (10, Rows'.any-gone Syntax.tyUnit) (List._∷_ (11, Rows'.any-gone Syntax.tyBool) (List._∷_ (12, Rows'.sc-here (Row.sInt Syntax.w64)) (List._∷_ (13, Rows'.any-gone Syntax.tyPtr) (List._∷_ (14, Rows'.any-gone Syntax.tyPtr) (List._∷_ (15, Rows'.any-gone (ColumnMetadataRow.ty)) List.[])))))))))))))))
+t19 = List._∷_ (0, Rows'.any-gone Syntax.tyUnit) (List._∷_ (1, Rows'.sslice (Referent.rtF (Referent.fInt Syntax.w8)) (Syntax.tyRef (Syntax.named 0) Syntax.imm (Syntax.tyInt Syntax.w8)) 0) (List._∷_ (2, Rows'.any-gone (ColumnMetadataRow.ty)) (List._∷_ (3, Rows.arrF (ColumnMetadataRow.RT) 16 0) (List._∷_ (4, Rows'.any-gone (Syntax.tyStruct (List._∷_ 112 (List._∷_ 108 (List._∷_ 97 (List._∷_ 110 (List._∷_ 58 (List._∷_ 58 (List._∷_ 83 (List._∷_ 113 (List._∷_ 108 (List._∷_ 100 (List._∷_ 97 (List._∷_ 114 (List._∷_ 100 (List._∷_ 65 (List._∷_ 110 (List._∷_ 115 (List._∷_ 119 (List._∷_ 101 (List._∷_ 114 List.[]))))))))))))))))))) (Syntax.tcons (Syntax.tyEnum (List._∷_ 111 (List._∷_ 117 (List._∷_ 116 (List._∷_ 99 (List._∷_ 111 (List._∷_ 109 (List._∷_ 101 (List._∷_ 58 (List._∷_ 58 (List._∷_ 79 (List._∷_ 117 (List._∷_ 116 (List._∷_ 99 (List._∷_ 111 (List._∷_ 109 (List._∷_ 101 List.[])))))))))))))))) (Syntax.ttcons Syntax.tnil (Syntax.ttcons Syntax.tnil (Syntax.ttcons (Syntax.tcons (Syntax.tyInt Syntax.w64) (Syntax.tcons (Syntax.tyInt Syntax.w64) Syntax.tnil)) (Syntax.ttcons Syntax.tnil (Syntax.ttcons (Syntax.tcons (Syntax.tyInt Syntax.w16) Syntax.tnil) (Syntax.ttcons Syntax.tnil (Syntax.ttcons (Syntax.tcons (Syntax.tyInt Syntax.w64) Syntax.tnil) (Syntax.ttcons Syntax.tnil (Syntax.ttcons (Syntax.tcons (Syntax.tyInt Syntax.w16) Syntax.tnil) Syntax.ttnil)))))))))) (Syntax.tcons (Syntax.tyStruct (List._∷_ 115 (List._∷_ 113 (List._∷_ 108 (List._∷_ 99 (List._∷_ 97 (List._∷_ 114 (List._∷_ 100 (List._∷_ 58 (List._∷_ 58 (List._∷_ 83 (List._∷_ 113 (List._∷_ 108 (List._∷_ 67 (List._∷_ 97 (List._∷_ 114 (List._∷_ 100 List.[])))))))))))))))) (Syntax.tcons Syntax.tyBool (Syntax.tcons (Syntax.tyInt Syntax.w32) (Syntax.tcons (Syntax.tyArray (Syntax.tyInt Syntax.w8) 5) (Syntax.tcons (Syntax.tyArray (Syntax.tyInt Syntax.w8) 8) (Syntax.tcons (Syntax.tyInt Syntax.w8) (Syntax.tcons (Syntax.tyArray (Syntax.tyInt Syntax.w32) 6) (Syntax.tcons (Syntax.tyInt Syntax.w64) (Syntax.tcons (Syntax.tyInt Syntax.w32) (Syntax.tcons (Syntax.tyArray (Syntax.tyInt Syntax.w8) 11) (Syntax.tcons (Syntax.tyInt Syntax.w64) (Syntax.tcons (Syntax.tyInt Syntax.w64) Syntax.tnil)))))))))))) (Syntax.tcons (Syntax.tyInt Syntax.w64) Syntax.tnil))))) (List._∷_ (5, Rows'.sc-here (Row.sInt Syntax.w64)) (List._∷_ (6, Rows'.sc-here (Row.sInt Syntax.w64)) (List._∷_ (7, Rows'.any-gone (ColumnMetadataRow.ty)) (List._∷_ (8, Rows'.any-gone (Syntax.tyRef Syntax.erased Syntax.mut (Syntax.tyArray ColumnMetadataRow.named 16))) (List._∷_ (9, Rows'.any-gone (Syntax.tyStruct (List._∷_ 38 (List._∷_ 91 (List._∷_ 93 List.[]))) (Syntax.tcons (Syntax.tyRef Syntax.erased Syntax.mut ColumnMetadataRow.named) (Syntax.tcons (Syntax.tyInt Syntax.w64) Syntax.tnil)))) (List._∷_ (10, Rows'.any-gone Syntax.tyUnit) (List._∷_ (11, Rows'.any-gone Syntax.tyBool) (List._∷_ (12, Rows'.sc-here (Row.sInt Syntax.w64)) (List._∷_ (13, Rows'.any-gone Syntax.tyPtr) (List._∷_ (14, Rows'.any-gone Syntax.tyPtr) (List._∷_ (15, Rows'.any-gone (ColumnMetadataRow.ty)) List.[])))))))))))))))
 
 abbrev pub t20 : List.List Row.Entry
-t20 = List._∷_ (0, Rows'.any-gone Syntax.tyUnit) (List._∷_ (1, Rows'.sslice (Referent.rtF (Referent.fInt Syntax.w8)) (Syntax.tyRef (Syntax.named 0) Syntax.imm (Syntax.tyInt Syntax.w8)) 0) (List._∷_ (2, Rows'.any-gone (ColumnMetadataRow.ty)) (List._∷_ (3, Rows.arrF (ColumnMetadataRow.RT) 16 0) (List._∷_ (4, Rows'.any-gone (Syntax.tyStruct (List._∷_ 115 (List._∷_ 113 (List._∷_ 108 (List._∷_ 100 (List._∷_ 97 (List._∷_ 114 (List._∷_ 100 (List._∷_ 58 (List._∷_ 58 (List._∷_ 83 (List._∷_ 113 (List._∷_ 108 (List._∷_ 100 (List._∷_ 97 (List._∷_ 114 (List._∷_ 100 (List._∷_ 65 (List._∷_ 110 (List._∷_ 115 (List._∷_ 119 (List._∷_ 101 (List._∷_ 114 List.[])))))))))))))))))))))) (Syntax.tcons (Syntax.tyEnum (List._∷_ 111 (List._∷_ 117 (List._∷_ 116 (List._∷_ 99 (List._∷_ 111 (List._∷_ 109 (List._∷_ 101 (List._∷_ 58 (List._∷_ 58 (List._∷_ 79 (List._∷_ 117 (List._∷_ 116 (List._∷_ 99 (List._∷_ 111 (List._∷_ 109 (List._∷_ 101 List.[])))))))))))))))) (Syntax.ttcons Syntax.tnil (Syntax.ttcons Syntax.tnil (Syntax.ttcons (Syntax.tcons (Syntax.tyInt Syntax.w64) (Syntax.tcons (Syntax.tyInt Syntax.w64) Syntax.tnil)) (Syntax.ttcons Syntax.tnil (Syntax.ttcons (Syntax.tcons (Syntax.tyInt Syntax.w16) Syntax.tnil) (Syntax.ttcons Syntax.tnil (Syntax.ttcons (Syntax.tcons (Syntax.tyInt Syntax.w64) Syntax.tnil) (Syntax.ttcons Syntax.tnil (Syntax.ttcons (Syntax.tcons (Syntax.tyInt Syntax.w16) Syntax.tnil) Syntax.ttnil)))))))))) (Syntax.tcons (Syntax.tyStruct (List._∷_ 115 (List._∷_ 113 (List._∷_ 108 (List._∷_ 99 (List._∷_ 97 (List._∷_ 114 (List._∷_ 100 (List._∷_ 58 (List._∷_ 58 (List._∷_ 83 (List._∷_ 113 (List._∷_ 108 (List._∷_ 67 (List._∷_ 97 (List._∷_ 114 (List._∷_ 100 List.[])))))))))))))))) (Syntax.tcons Syntax.tyBool (Syntax.tcons (Syntax.tyInt Syntax.w32) (Syntax.tcons (Syntax.tyArray (Syntax.tyInt Syntax.w8) 5) (Syntax.tcons (Syntax.tyArray (Syntax.tyInt Syntax.w8) 8) (Syntax.tcons (Syntax.tyInt Syntax.w8) (Syntax.tcons (Syntax.tyArray (Syntax.tyInt Syntax.w32) 6) (Syntax.tcons (Syntax.tyInt Syntax.w64) (Syntax.tcons (Syntax.tyInt Syntax.w32) (Syntax.tcons (Syntax.tyArray (Syntax.tyInt Syntax.w8) 11) (Syntax.tcons (Syntax.tyInt Syntax.w64) (Syntax.tcons (Syntax.tyInt Syntax.w64) Syntax.tnil)))))))))))) (Syntax.tcons (Syntax.tyInt Syntax.w64) Syntax.tnil))))) (List._∷_ (5, Rows'.sc-here (Row.sInt Syntax.w64)) (List._∷_ (6, Rows'.sc-here (Row.sInt Syntax.w64)) (List._∷_ (7, Rows'.any-gone (ColumnMetadataRow.ty)) (List._∷_ (8, Rows'.any-gone (Syntax.tyRef Syntax.erased Syntax.mut (Syntax.tyArray ColumnMetadataRow.named 16))) (List._∷_ (9, Rows'.any-gone (Syntax.tyStruct (List._∷_ 38 (List._∷_ 91 (List._∷_ 93 List.[]))) (Syntax.tcons (Syntax.tyRef Syntax.erased Syntax.mut ColumnMetadataRow.named) (Syntax.tcons (Syntax.tyInt Syntax.w64) Syntax.tnil)))) (List._∷_ (10, Rows'.any-gone Syntax.tyUnit) (List._∷_ (11, Rows'.any-gone Syntax.tyBool) (List._∷_ (12, Rows'.sc-here (Row.sInt Syntax.w64)) (List._∷_ (13, Rows'.sc-here Row.sPtr) (List._∷_ (14, Rows'.any-gone Syntax.tyPtr) (List._∷_ (15, Rows'.any-gone (ColumnMetadataRow.ty)) List.[])))))))))))))))
+t20 = List._∷_ (0, Rows'.any-gone Syntax.tyUnit) (List._∷_ (1, Rows'.sslice (Referent.rtF (Referent.fInt Syntax.w8)) (Syntax.tyRef (Syntax.named 0) Syntax.imm (Syntax.tyInt Syntax.w8)) 0) (List._∷_ (2, Rows'.any-gone (ColumnMetadataRow.ty)) (List._∷_ (3, Rows.arrF (ColumnMetadataRow.RT) 16 0) (List._∷_ (4, Rows'.any-gone (Syntax.tyStruct (List._∷_ 112 (List._∷_ 108 (List._∷_ 97 (List._∷_ 110 (List._∷_ 58 (List._∷_ 58 (List._∷_ 83 (List._∷_ 113 (List._∷_ 108 (List._∷_ 100 (List._∷_ 97 (List._∷_ 114 (List._∷_ 100 (List._∷_ 65 (List._∷_ 110 (List._∷_ 115 (List._∷_ 119 (List._∷_ 101 (List._∷_ 114 List.[]))))))))))))))))))) (Syntax.tcons (Syntax.tyEnum (List._∷_ 111 (List._∷_ 117 (List._∷_ 116 (List._∷_ 99 (List._∷_ 111 (List._∷_ 109 (List._∷_ 101 (List._∷_ 58 (List._∷_ 58 (List._∷_ 79 (List._∷_ 117 (List._∷_ 116 (List._∷_ 99 (List._∷_ 111 (List._∷_ 109 (List._∷_ 101 List.[])))))))))))))))) (Syntax.ttcons Syntax.tnil (Syntax.ttcons Syntax.tnil (Syntax.ttcons (Syntax.tcons (Syntax.tyInt Syntax.w64) (Syntax.tcons (Syntax.tyInt Syntax.w64) Syntax.tnil)) (Syntax.ttcons Syntax.tnil (Syntax.ttcons (Syntax.tcons (Syntax.tyInt Syntax.w16) Syntax.tnil) (Syntax.ttcons Syntax.tnil (Syntax.ttcons (Syntax.tcons (Syntax.tyInt Syntax.w64) Syntax.tnil) (Syntax.ttcons Syntax.tnil (Syntax.ttcons (Syntax.tcons (Syntax.tyInt Syntax.w16) Syntax.tnil) Syntax.ttnil)))))))))) (Syntax.tcons (Syntax.tyStruct (List._∷_ 115 (List._∷_ 113 (List._∷_ 108 (List._∷_ 99 (List._∷_ 97 (List._∷_ 114 (List._∷_ 100 (List._∷_ 58 (List._∷_ 58 (List._∷_ 83 (List._∷_ 113 (List._∷_ 108 (List._∷_ 67 (List._∷_ 97 (List._∷_ 114 (List._∷_ 100 List.[])))))))))))))))) (Syntax.tcons Syntax.tyBool (Syntax.tcons (Syntax.tyInt Syntax.w32) (Syntax.tcons (Syntax.tyArray (Syntax.tyInt Syntax.w8) 5) (Syntax.tcons (Syntax.tyArray (Syntax.tyInt Syntax.w8) 8) (Syntax.tcons (Syntax.tyInt Syntax.w8) (Syntax.tcons (Syntax.tyArray (Syntax.tyInt Syntax.w32) 6) (Syntax.tcons (Syntax.tyInt Syntax.w64) (Syntax.tcons (Syntax.tyInt Syntax.w32) (Syntax.tcons (Syntax.tyArray (Syntax.tyInt Syntax.w8) 11) (Syntax.tcons (Syntax.tyInt Syntax.w64) (Syntax.tcons (Syntax.tyInt Syntax.w64) Syntax.tnil)))))))))))) (Syntax.tcons (Syntax.tyInt Syntax.w64) Syntax.tnil))))) (List._∷_ (5, Rows'.sc-here (Row.sInt Syntax.w64)) (List._∷_ (6, Rows'.sc-here (Row.sInt Syntax.w64)) (List._∷_ (7, Rows'.any-gone (ColumnMetadataRow.ty)) (List._∷_ (8, Rows'.any-gone (Syntax.tyRef Syntax.erased Syntax.mut (Syntax.tyArray ColumnMetadataRow.named 16))) (List._∷_ (9, Rows'.any-gone (Syntax.tyStruct (List._∷_ 38 (List._∷_ 91 (List._∷_ 93 List.[]))) (Syntax.tcons (Syntax.tyRef Syntax.erased Syntax.mut ColumnMetadataRow.named) (Syntax.tcons (Syntax.tyInt Syntax.w64) Syntax.tnil)))) (List._∷_ (10, Rows'.any-gone Syntax.tyUnit) (List._∷_ (11, Rows'.any-gone Syntax.tyBool) (List._∷_ (12, Rows'.sc-here (Row.sInt Syntax.w64)) (List._∷_ (13, Rows'.sc-here Row.sPtr) (List._∷_ (14, Rows'.any-gone Syntax.tyPtr) (List._∷_ (15, Rows'.any-gone (ColumnMetadataRow.ty)) List.[])))))))))))))))
 
 abbrev pub t21 : List.List Row.Entry
-t21 = List._∷_ (0, Rows'.any-gone Syntax.tyUnit) (List._∷_ (1, Rows'.sslice (Referent.rtF (Referent.fInt Syntax.w8)) (Syntax.tyRef (Syntax.named 0) Syntax.imm (Syntax.tyInt Syntax.w8)) 0) (List._∷_ (2, Rows'.any-gone (ColumnMetadataRow.ty)) (List._∷_ (3, Rows.arrF (ColumnMetadataRow.RT) 16 0) (List._∷_ (4, Rows'.any-gone (Syntax.tyStruct (List._∷_ 115 (List._∷_ 113 (List._∷_ 108 (List._∷_ 100 (List._∷_ 97 (List._∷_ 114 (List._∷_ 100 (List._∷_ 58 (List._∷_ 58 (List._∷_ 83 (List._∷_ 113 (List._∷_ 108 (List._∷_ 100 (List._∷_ 97 (List._∷_ 114 (List._∷_ 100 (List._∷_ 65 (List._∷_ 110 (List._∷_ 115 (List._∷_ 119 (List._∷_ 101 (List._∷_ 114 List.[])))))))))))))))))))))) (Syntax.tcons (Syntax.tyEnum (List._∷_ 111 (List._∷_ 117 (List._∷_ 116 (List._∷_ 99 (List._∷_ 111 (List._∷_ 109 (List._∷_ 101 (List._∷_ 58 (List._∷_ 58 (List._∷_ 79 (List._∷_ 117 (List._∷_ 116 (List._∷_ 99 (List._∷_ 111 (List._∷_ 109 (List._∷_ 101 List.[])))))))))))))))) (Syntax.ttcons Syntax.tnil (Syntax.ttcons Syntax.tnil (Syntax.ttcons (Syntax.tcons (Syntax.tyInt Syntax.w64) (Syntax.tcons (Syntax.tyInt Syntax.w64) Syntax.tnil)) (Syntax.ttcons Syntax.tnil (Syntax.ttcons (Syntax.tcons (Syntax.tyInt Syntax.w16) Syntax.tnil) (Syntax.ttcons Syntax.tnil (Syntax.ttcons (Syntax.tcons (Syntax.tyInt Syntax.w64) Syntax.tnil) (Syntax.ttcons Syntax.tnil (Syntax.ttcons (Syntax.tcons (Syntax.tyInt Syntax.w16) Syntax.tnil) Syntax.ttnil)))))))))) (Syntax.tcons (Syntax.tyStruct (List._∷_ 115 (List._∷_ 113 (List._∷_ 108 (List._∷_ 99 (List._∷_ 97 (List._∷_ 114 (List._∷_ 100 (List._∷_ 58 (List._∷_ 58 (List._∷_ 83 (List._∷_ 113 (List._∷_ 108 (List._∷_ 67 (List._∷_ 97 (List._∷_ 114 (List._∷_ 100 List.[])))))))))))))))) (Syntax.tcons Syntax.tyBool (Syntax.tcons (Syntax.tyInt Syntax.w32) (Syntax.tcons (Syntax.tyArray (Syntax.tyInt Syntax.w8) 5) (Syntax.tcons (Syntax.tyArray (Syntax.tyInt Syntax.w8) 8) (Syntax.tcons (Syntax.tyInt Syntax.w8) (Syntax.tcons (Syntax.tyArray (Syntax.tyInt Syntax.w32) 6) (Syntax.tcons (Syntax.tyInt Syntax.w64) (Syntax.tcons (Syntax.tyInt Syntax.w32) (Syntax.tcons (Syntax.tyArray (Syntax.tyInt Syntax.w8) 11) (Syntax.tcons (Syntax.tyInt Syntax.w64) (Syntax.tcons (Syntax.tyInt Syntax.w64) Syntax.tnil)))))))))))) (Syntax.tcons (Syntax.tyInt Syntax.w64) Syntax.tnil))))) (List._∷_ (5, Rows'.sc-here (Row.sInt Syntax.w64)) (List._∷_ (6, Rows'.sc-here (Row.sInt Syntax.w64)) (List._∷_ (7, Rows'.any-gone (ColumnMetadataRow.ty)) (List._∷_ (8, Rows'.any-gone (Syntax.tyRef Syntax.erased Syntax.mut (Syntax.tyArray ColumnMetadataRow.named 16))) (List._∷_ (9, Rows'.any-gone (Syntax.tyStruct (List._∷_ 38 (List._∷_ 91 (List._∷_ 93 List.[]))) (Syntax.tcons (Syntax.tyRef Syntax.erased Syntax.mut ColumnMetadataRow.named) (Syntax.tcons (Syntax.tyInt Syntax.w64) Syntax.tnil)))) (List._∷_ (10, Rows'.any-gone Syntax.tyUnit) (List._∷_ (11, Rows'.any-gone Syntax.tyBool) (List._∷_ (12, Rows'.sc-here (Row.sInt Syntax.w64)) (List._∷_ (13, Rows'.sc-here Row.sPtr) (List._∷_ (14, Rows'.sc-here Row.sPtr) (List._∷_ (15, Rows'.any-gone (ColumnMetadataRow.ty)) List.[])))))))))))))))
+t21 = List._∷_ (0, Rows'.any-gone Syntax.tyUnit) (List._∷_ (1, Rows'.sslice (Referent.rtF (Referent.fInt Syntax.w8)) (Syntax.tyRef (Syntax.named 0) Syntax.imm (Syntax.tyInt Syntax.w8)) 0) (List._∷_ (2, Rows'.any-gone (ColumnMetadataRow.ty)) (List._∷_ (3, Rows.arrF (ColumnMetadataRow.RT) 16 0) (List._∷_ (4, Rows'.any-gone (Syntax.tyStruct (List._∷_ 112 (List._∷_ 108 (List._∷_ 97 (List._∷_ 110 (List._∷_ 58 (List._∷_ 58 (List._∷_ 83 (List._∷_ 113 (List._∷_ 108 (List._∷_ 100 (List._∷_ 97 (List._∷_ 114 (List._∷_ 100 (List._∷_ 65 (List._∷_ 110 (List._∷_ 115 (List._∷_ 119 (List._∷_ 101 (List._∷_ 114 List.[]))))))))))))))))))) (Syntax.tcons (Syntax.tyEnum (List._∷_ 111 (List._∷_ 117 (List._∷_ 116 (List._∷_ 99 (List._∷_ 111 (List._∷_ 109 (List._∷_ 101 (List._∷_ 58 (List._∷_ 58 (List._∷_ 79 (List._∷_ 117 (List._∷_ 116 (List._∷_ 99 (List._∷_ 111 (List._∷_ 109 (List._∷_ 101 List.[])))))))))))))))) (Syntax.ttcons Syntax.tnil (Syntax.ttcons Syntax.tnil (Syntax.ttcons (Syntax.tcons (Syntax.tyInt Syntax.w64) (Syntax.tcons (Syntax.tyInt Syntax.w64) Syntax.tnil)) (Syntax.ttcons Syntax.tnil (Syntax.ttcons (Syntax.tcons (Syntax.tyInt Syntax.w16) Syntax.tnil) (Syntax.ttcons Syntax.tnil (Syntax.ttcons (Syntax.tcons (Syntax.tyInt Syntax.w64) Syntax.tnil) (Syntax.ttcons Syntax.tnil (Syntax.ttcons (Syntax.tcons (Syntax.tyInt Syntax.w16) Syntax.tnil) Syntax.ttnil)))))))))) (Syntax.tcons (Syntax.tyStruct (List._∷_ 115 (List._∷_ 113 (List._∷_ 108 (List._∷_ 99 (List._∷_ 97 (List._∷_ 114 (List._∷_ 100 (List._∷_ 58 (List._∷_ 58 (List._∷_ 83 (List._∷_ 113 (List._∷_ 108 (List._∷_ 67 (List._∷_ 97 (List._∷_ 114 (List._∷_ 100 List.[])))))))))))))))) (Syntax.tcons Syntax.tyBool (Syntax.tcons (Syntax.tyInt Syntax.w32) (Syntax.tcons (Syntax.tyArray (Syntax.tyInt Syntax.w8) 5) (Syntax.tcons (Syntax.tyArray (Syntax.tyInt Syntax.w8) 8) (Syntax.tcons (Syntax.tyInt Syntax.w8) (Syntax.tcons (Syntax.tyArray (Syntax.tyInt Syntax.w32) 6) (Syntax.tcons (Syntax.tyInt Syntax.w64) (Syntax.tcons (Syntax.tyInt Syntax.w32) (Syntax.tcons (Syntax.tyArray (Syntax.tyInt Syntax.w8) 11) (Syntax.tcons (Syntax.tyInt Syntax.w64) (Syntax.tcons (Syntax.tyInt Syntax.w64) Syntax.tnil)))))))))))) (Syntax.tcons (Syntax.tyInt Syntax.w64) Syntax.tnil))))) (List._∷_ (5, Rows'.sc-here (Row.sInt Syntax.w64)) (List._∷_ (6, Rows'.sc-here (Row.sInt Syntax.w64)) (List._∷_ (7, Rows'.any-gone (ColumnMetadataRow.ty)) (List._∷_ (8, Rows'.any-gone (Syntax.tyRef Syntax.erased Syntax.mut (Syntax.tyArray ColumnMetadataRow.named 16))) (List._∷_ (9, Rows'.any-gone (Syntax.tyStruct (List._∷_ 38 (List._∷_ 91 (List._∷_ 93 List.[]))) (Syntax.tcons (Syntax.tyRef Syntax.erased Syntax.mut ColumnMetadataRow.named) (Syntax.tcons (Syntax.tyInt Syntax.w64) Syntax.tnil)))) (List._∷_ (10, Rows'.any-gone Syntax.tyUnit) (List._∷_ (11, Rows'.any-gone Syntax.tyBool) (List._∷_ (12, Rows'.sc-here (Row.sInt Syntax.w64)) (List._∷_ (13, Rows'.sc-here Row.sPtr) (List._∷_ (14, Rows'.sc-here Row.sPtr) (List._∷_ (15, Rows'.any-gone (ColumnMetadataRow.ty)) List.[])))))))))))))))
 
 abbrev pub t22 : List.List Row.Entry
-t22 = List._∷_ (0, Rows'.any-gone Syntax.tyUnit) (List._∷_ (1, Rows'.sslice (Referent.rtF (Referent.fInt Syntax.w8)) (Syntax.tyRef (Syntax.named 0) Syntax.imm (Syntax.tyInt Syntax.w8)) 0) (List._∷_ (2, Rows'.any-gone (ColumnMetadataRow.ty)) (List._∷_ (3, Rows.arrF (ColumnMetadataRow.RT) 16 0) (List._∷_ (4, Rows'.any-gone (Syntax.tyStruct (List._∷_ 115 (List._∷_ 113 (List._∷_ 108 (List._∷_ 100 (List._∷_ 97 (List._∷_ 114 (List._∷_ 100 (List._∷_ 58 (List._∷_ 58 (List._∷_ 83 (List._∷_ 113 (List._∷_ 108 (List._∷_ 100 (List._∷_ 97 (List._∷_ 114 (List._∷_ 100 (List._∷_ 65 (List._∷_ 110 (List._∷_ 115 (List._∷_ 119 (List._∷_ 101 (List._∷_ 114 List.[])))))))))))))))))))))) (Syntax.tcons (Syntax.tyEnum (List._∷_ 111 (List._∷_ 117 (List._∷_ 116 (List._∷_ 99 (List._∷_ 111 (List._∷_ 109 (List._∷_ 101 (List._∷_ 58 (List._∷_ 58 (List._∷_ 79 (List._∷_ 117 (List._∷_ 116 (List._∷_ 99 (List._∷_ 111 (List._∷_ 109 (List._∷_ 101 List.[])))))))))))))))) (Syntax.ttcons Syntax.tnil (Syntax.ttcons Syntax.tnil (Syntax.ttcons (Syntax.tcons (Syntax.tyInt Syntax.w64) (Syntax.tcons (Syntax.tyInt Syntax.w64) Syntax.tnil)) (Syntax.ttcons Syntax.tnil (Syntax.ttcons (Syntax.tcons (Syntax.tyInt Syntax.w16) Syntax.tnil) (Syntax.ttcons Syntax.tnil (Syntax.ttcons (Syntax.tcons (Syntax.tyInt Syntax.w64) Syntax.tnil) (Syntax.ttcons Syntax.tnil (Syntax.ttcons (Syntax.tcons (Syntax.tyInt Syntax.w16) Syntax.tnil) Syntax.ttnil)))))))))) (Syntax.tcons (Syntax.tyStruct (List._∷_ 115 (List._∷_ 113 (List._∷_ 108 (List._∷_ 99 (List._∷_ 97 (List._∷_ 114 (List._∷_ 100 (List._∷_ 58 (List._∷_ 58 (List._∷_ 83 (List._∷_ 113 (List._∷_ 108 (List._∷_ 67 (List._∷_ 97 (List._∷_ 114 (List._∷_ 100 List.[])))))))))))))))) (Syntax.tcons Syntax.tyBool (Syntax.tcons (Syntax.tyInt Syntax.w32) (Syntax.tcons (Syntax.tyArray (Syntax.tyInt Syntax.w8) 5) (Syntax.tcons (Syntax.tyArray (Syntax.tyInt Syntax.w8) 8) (Syntax.tcons (Syntax.tyInt Syntax.w8) (Syntax.tcons (Syntax.tyArray (Syntax.tyInt Syntax.w32) 6) (Syntax.tcons (Syntax.tyInt Syntax.w64) (Syntax.tcons (Syntax.tyInt Syntax.w32) (Syntax.tcons (Syntax.tyArray (Syntax.tyInt Syntax.w8) 11) (Syntax.tcons (Syntax.tyInt Syntax.w64) (Syntax.tcons (Syntax.tyInt Syntax.w64) Syntax.tnil)))))))))))) (Syntax.tcons (Syntax.tyInt Syntax.w64) Syntax.tnil))))) (List._∷_ (5, Rows'.sc-here (Row.sInt Syntax.w64)) (List._∷_ (6, Rows'.sc-here (Row.sInt Syntax.w64)) (List._∷_ (7, Rows'.any-gone (ColumnMetadataRow.ty)) (List._∷_ (8, Rows'.any-gone (Syntax.tyRef Syntax.erased Syntax.mut (Syntax.tyArray ColumnMetadataRow.named 16))) (List._∷_ (9, Rows'.any-gone (Syntax.tyStruct (List._∷_ 38 (List._∷_ 91 (List._∷_ 93 List.[]))) (Syntax.tcons (Syntax.tyRef Syntax.erased Syntax.mut ColumnMetadataRow.named) (Syntax.tcons (Syntax.tyInt Syntax.w64) Syntax.tnil)))) (List._∷_ (10, Rows'.any-gone Syntax.tyUnit) (List._∷_ (11, Rows'.any-gone Syntax.tyBool) (List._∷_ (12, Rows'.sc-here (Row.sInt Syntax.w64)) (List._∷_ (13, Rows'.any-gone Syntax.tyPtr) (List._∷_ (14, Rows'.sc-here Row.sPtr) (List._∷_ (15, Rows'.any-gone (ColumnMetadataRow.ty)) List.[])))))))))))))))
+t22 = List._∷_ (0, Rows'.any-gone Syntax.tyUnit) (List._∷_ (1, Rows'.sslice (Referent.rtF (Referent.fInt Syntax.w8)) (Syntax.tyRef (Syntax.named 0) Syntax.imm (Syntax.tyInt Syntax.w8)) 0) (List._∷_ (2, Rows'.any-gone (ColumnMetadataRow.ty)) (List._∷_ (3, Rows.arrF (ColumnMetadataRow.RT) 16 0) (List._∷_ (4, Rows'.any-gone (Syntax.tyStruct (List._∷_ 112 (List._∷_ 108 (List._∷_ 97 (List._∷_ 110 (List._∷_ 58 (List._∷_ 58 (List._∷_ 83 (List._∷_ 113 (List._∷_ 108 (List._∷_ 100 (List._∷_ 97 (List._∷_ 114 (List._∷_ 100 (List._∷_ 65 (List._∷_ 110 (List._∷_ 115 (List._∷_ 119 (List._∷_ 101 (List._∷_ 114 List.[]))))))))))))))))))) (Syntax.tcons (Syntax.tyEnum (List._∷_ 111 (List._∷_ 117 (List._∷_ 116 (List._∷_ 99 (List._∷_ 111 (List._∷_ 109 (List._∷_ 101 (List._∷_ 58 (List._∷_ 58 (List._∷_ 79 (List._∷_ 117 (List._∷_ 116 (List._∷_ 99 (List._∷_ 111 (List._∷_ 109 (List._∷_ 101 List.[])))))))))))))))) (Syntax.ttcons Syntax.tnil (Syntax.ttcons Syntax.tnil (Syntax.ttcons (Syntax.tcons (Syntax.tyInt Syntax.w64) (Syntax.tcons (Syntax.tyInt Syntax.w64) Syntax.tnil)) (Syntax.ttcons Syntax.tnil (Syntax.ttcons (Syntax.tcons (Syntax.tyInt Syntax.w16) Syntax.tnil) (Syntax.ttcons Syntax.tnil (Syntax.ttcons (Syntax.tcons (Syntax.tyInt Syntax.w64) Syntax.tnil) (Syntax.ttcons Syntax.tnil (Syntax.ttcons (Syntax.tcons (Syntax.tyInt Syntax.w16) Syntax.tnil) Syntax.ttnil)))))))))) (Syntax.tcons (Syntax.tyStruct (List._∷_ 115 (List._∷_ 113 (List._∷_ 108 (List._∷_ 99 (List._∷_ 97 (List._∷_ 114 (List._∷_ 100 (List._∷_ 58 (List._∷_ 58 (List._∷_ 83 (List._∷_ 113 (List._∷_ 108 (List._∷_ 67 (List._∷_ 97 (List._∷_ 114 (List._∷_ 100 List.[])))))))))))))))) (Syntax.tcons Syntax.tyBool (Syntax.tcons (Syntax.tyInt Syntax.w32) (Syntax.tcons (Syntax.tyArray (Syntax.tyInt Syntax.w8) 5) (Syntax.tcons (Syntax.tyArray (Syntax.tyInt Syntax.w8) 8) (Syntax.tcons (Syntax.tyInt Syntax.w8) (Syntax.tcons (Syntax.tyArray (Syntax.tyInt Syntax.w32) 6) (Syntax.tcons (Syntax.tyInt Syntax.w64) (Syntax.tcons (Syntax.tyInt Syntax.w32) (Syntax.tcons (Syntax.tyArray (Syntax.tyInt Syntax.w8) 11) (Syntax.tcons (Syntax.tyInt Syntax.w64) (Syntax.tcons (Syntax.tyInt Syntax.w64) Syntax.tnil)))))))))))) (Syntax.tcons (Syntax.tyInt Syntax.w64) Syntax.tnil))))) (List._∷_ (5, Rows'.sc-here (Row.sInt Syntax.w64)) (List._∷_ (6, Rows'.sc-here (Row.sInt Syntax.w64)) (List._∷_ (7, Rows'.any-gone (ColumnMetadataRow.ty)) (List._∷_ (8, Rows'.any-gone (Syntax.tyRef Syntax.erased Syntax.mut (Syntax.tyArray ColumnMetadataRow.named 16))) (List._∷_ (9, Rows'.any-gone (Syntax.tyStruct (List._∷_ 38 (List._∷_ 91 (List._∷_ 93 List.[]))) (Syntax.tcons (Syntax.tyRef Syntax.erased Syntax.mut ColumnMetadataRow.named) (Syntax.tcons (Syntax.tyInt Syntax.w64) Syntax.tnil)))) (List._∷_ (10, Rows'.any-gone Syntax.tyUnit) (List._∷_ (11, Rows'.any-gone Syntax.tyBool) (List._∷_ (12, Rows'.sc-here (Row.sInt Syntax.w64)) (List._∷_ (13, Rows'.any-gone Syntax.tyPtr) (List._∷_ (14, Rows'.sc-here Row.sPtr) (List._∷_ (15, Rows'.any-gone (ColumnMetadataRow.ty)) List.[])))))))))))))))
 
 abbrev pub t23 : List.List Row.Entry
-t23 = List._∷_ (0, Rows'.any-gone Syntax.tyUnit) (List._∷_ (1, Rows'.sslice (Referent.rtF (Referent.fInt Syntax.w8)) (Syntax.tyRef (Syntax.named 0) Syntax.imm (Syntax.tyInt Syntax.w8)) 0) (List._∷_ (2, Rows'.any-gone (ColumnMetadataRow.ty)) (List._∷_ (3, Rows.arrF (ColumnMetadataRow.RT) 16 0) (List._∷_ (4, Rows'.any-gone (Syntax.tyStruct (List._∷_ 115 (List._∷_ 113 (List._∷_ 108 (List._∷_ 100 (List._∷_ 97 (List._∷_ 114 (List._∷_ 100 (List._∷_ 58 (List._∷_ 58 (List._∷_ 83 (List._∷_ 113 (List._∷_ 108 (List._∷_ 100 (List._∷_ 97 (List._∷_ 114 (List._∷_ 100 (List._∷_ 65 (List._∷_ 110 (List._∷_ 115 (List._∷_ 119 (List._∷_ 101 (List._∷_ 114 List.[])))))))))))))))))))))) (Syntax.tcons (Syntax.tyEnum (List._∷_ 111 (List._∷_ 117 (List._∷_ 116 (List._∷_ 99 (List._∷_ 111 (List._∷_ 109 (List._∷_ 101 (List._∷_ 58 (List._∷_ 58 (List._∷_ 79 (List._∷_ 117 (List._∷_ 116 (List._∷_ 99 (List._∷_ 111 (List._∷_ 109 (List._∷_ 101 List.[])))))))))))))))) (Syntax.ttcons Syntax.tnil (Syntax.ttcons Syntax.tnil (Syntax.ttcons (Syntax.tcons (Syntax.tyInt Syntax.w64) (Syntax.tcons (Syntax.tyInt Syntax.w64) Syntax.tnil)) (Syntax.ttcons Syntax.tnil (Syntax.ttcons (Syntax.tcons (Syntax.tyInt Syntax.w16) Syntax.tnil) (Syntax.ttcons Syntax.tnil (Syntax.ttcons (Syntax.tcons (Syntax.tyInt Syntax.w64) Syntax.tnil) (Syntax.ttcons Syntax.tnil (Syntax.ttcons (Syntax.tcons (Syntax.tyInt Syntax.w16) Syntax.tnil) Syntax.ttnil)))))))))) (Syntax.tcons (Syntax.tyStruct (List._∷_ 115 (List._∷_ 113 (List._∷_ 108 (List._∷_ 99 (List._∷_ 97 (List._∷_ 114 (List._∷_ 100 (List._∷_ 58 (List._∷_ 58 (List._∷_ 83 (List._∷_ 113 (List._∷_ 108 (List._∷_ 67 (List._∷_ 97 (List._∷_ 114 (List._∷_ 100 List.[])))))))))))))))) (Syntax.tcons Syntax.tyBool (Syntax.tcons (Syntax.tyInt Syntax.w32) (Syntax.tcons (Syntax.tyArray (Syntax.tyInt Syntax.w8) 5) (Syntax.tcons (Syntax.tyArray (Syntax.tyInt Syntax.w8) 8) (Syntax.tcons (Syntax.tyInt Syntax.w8) (Syntax.tcons (Syntax.tyArray (Syntax.tyInt Syntax.w32) 6) (Syntax.tcons (Syntax.tyInt Syntax.w64) (Syntax.tcons (Syntax.tyInt Syntax.w32) (Syntax.tcons (Syntax.tyArray (Syntax.tyInt Syntax.w8) 11) (Syntax.tcons (Syntax.tyInt Syntax.w64) (Syntax.tcons (Syntax.tyInt Syntax.w64) Syntax.tnil)))))))))))) (Syntax.tcons (Syntax.tyInt Syntax.w64) Syntax.tnil))))) (List._∷_ (5, Rows'.sc-here (Row.sInt Syntax.w64)) (List._∷_ (6, Rows'.sc-here (Row.sInt Syntax.w64)) (List._∷_ (7, Rows'.any-gone (ColumnMetadataRow.ty)) (List._∷_ (8, Rows'.any-gone (Syntax.tyRef Syntax.erased Syntax.mut (Syntax.tyArray ColumnMetadataRow.named 16))) (List._∷_ (9, Rows'.any-gone (Syntax.tyStruct (List._∷_ 38 (List._∷_ 91 (List._∷_ 93 List.[]))) (Syntax.tcons (Syntax.tyRef Syntax.erased Syntax.mut ColumnMetadataRow.named) (Syntax.tcons (Syntax.tyInt Syntax.w64) Syntax.tnil)))) (List._∷_ (10, Rows'.any-gone Syntax.tyUnit) (List._∷_ (11, Rows'.any-gone Syntax.tyBool) (List._∷_ (12, Rows'.sc-here (Row.sInt Syntax.w64)) (List._∷_ (13, Rows'.any-gone Syntax.tyPtr) (List._∷_ (14, Rows'.sc-here Row.sPtr) (List._∷_ (15, ColumnMetadataRow.row) List.[])))))))))))))))
+t23 = List._∷_ (0, Rows'.any-gone Syntax.tyUnit) (List._∷_ (1, Rows'.sslice (Referent.rtF (Referent.fInt Syntax.w8)) (Syntax.tyRef (Syntax.named 0) Syntax.imm (Syntax.tyInt Syntax.w8)) 0) (List._∷_ (2, Rows'.any-gone (ColumnMetadataRow.ty)) (List._∷_ (3, Rows.arrF (ColumnMetadataRow.RT) 16 0) (List._∷_ (4, Rows'.any-gone (Syntax.tyStruct (List._∷_ 112 (List._∷_ 108 (List._∷_ 97 (List._∷_ 110 (List._∷_ 58 (List._∷_ 58 (List._∷_ 83 (List._∷_ 113 (List._∷_ 108 (List._∷_ 100 (List._∷_ 97 (List._∷_ 114 (List._∷_ 100 (List._∷_ 65 (List._∷_ 110 (List._∷_ 115 (List._∷_ 119 (List._∷_ 101 (List._∷_ 114 List.[]))))))))))))))))))) (Syntax.tcons (Syntax.tyEnum (List._∷_ 111 (List._∷_ 117 (List._∷_ 116 (List._∷_ 99 (List._∷_ 111 (List._∷_ 109 (List._∷_ 101 (List._∷_ 58 (List._∷_ 58 (List._∷_ 79 (List._∷_ 117 (List._∷_ 116 (List._∷_ 99 (List._∷_ 111 (List._∷_ 109 (List._∷_ 101 List.[])))))))))))))))) (Syntax.ttcons Syntax.tnil (Syntax.ttcons Syntax.tnil (Syntax.ttcons (Syntax.tcons (Syntax.tyInt Syntax.w64) (Syntax.tcons (Syntax.tyInt Syntax.w64) Syntax.tnil)) (Syntax.ttcons Syntax.tnil (Syntax.ttcons (Syntax.tcons (Syntax.tyInt Syntax.w16) Syntax.tnil) (Syntax.ttcons Syntax.tnil (Syntax.ttcons (Syntax.tcons (Syntax.tyInt Syntax.w64) Syntax.tnil) (Syntax.ttcons Syntax.tnil (Syntax.ttcons (Syntax.tcons (Syntax.tyInt Syntax.w16) Syntax.tnil) Syntax.ttnil)))))))))) (Syntax.tcons (Syntax.tyStruct (List._∷_ 115 (List._∷_ 113 (List._∷_ 108 (List._∷_ 99 (List._∷_ 97 (List._∷_ 114 (List._∷_ 100 (List._∷_ 58 (List._∷_ 58 (List._∷_ 83 (List._∷_ 113 (List._∷_ 108 (List._∷_ 67 (List._∷_ 97 (List._∷_ 114 (List._∷_ 100 List.[])))))))))))))))) (Syntax.tcons Syntax.tyBool (Syntax.tcons (Syntax.tyInt Syntax.w32) (Syntax.tcons (Syntax.tyArray (Syntax.tyInt Syntax.w8) 5) (Syntax.tcons (Syntax.tyArray (Syntax.tyInt Syntax.w8) 8) (Syntax.tcons (Syntax.tyInt Syntax.w8) (Syntax.tcons (Syntax.tyArray (Syntax.tyInt Syntax.w32) 6) (Syntax.tcons (Syntax.tyInt Syntax.w64) (Syntax.tcons (Syntax.tyInt Syntax.w32) (Syntax.tcons (Syntax.tyArray (Syntax.tyInt Syntax.w8) 11) (Syntax.tcons (Syntax.tyInt Syntax.w64) (Syntax.tcons (Syntax.tyInt Syntax.w64) Syntax.tnil)))))))))))) (Syntax.tcons (Syntax.tyInt Syntax.w64) Syntax.tnil))))) (List._∷_ (5, Rows'.sc-here (Row.sInt Syntax.w64)) (List._∷_ (6, Rows'.sc-here (Row.sInt Syntax.w64)) (List._∷_ (7, Rows'.any-gone (ColumnMetadataRow.ty)) (List._∷_ (8, Rows'.any-gone (Syntax.tyRef Syntax.erased Syntax.mut (Syntax.tyArray ColumnMetadataRow.named 16))) (List._∷_ (9, Rows'.any-gone (Syntax.tyStruct (List._∷_ 38 (List._∷_ 91 (List._∷_ 93 List.[]))) (Syntax.tcons (Syntax.tyRef Syntax.erased Syntax.mut ColumnMetadataRow.named) (Syntax.tcons (Syntax.tyInt Syntax.w64) Syntax.tnil)))) (List._∷_ (10, Rows'.any-gone Syntax.tyUnit) (List._∷_ (11, Rows'.any-gone Syntax.tyBool) (List._∷_ (12, Rows'.sc-here (Row.sInt Syntax.w64)) (List._∷_ (13, Rows'.any-gone Syntax.tyPtr) (List._∷_ (14, Rows'.sc-here Row.sPtr) (List._∷_ (15, ColumnMetadataRow.row) List.[])))))))))))))))
 
 abbrev pub t24 : List.List Row.Entry
-t24 = List._∷_ (0, Rows'.any-gone Syntax.tyUnit) (List._∷_ (1, Rows'.sslice (Referent.rtF (Referent.fInt Syntax.w8)) (Syntax.tyRef (Syntax.named 0) Syntax.imm (Syntax.tyInt Syntax.w8)) 0) (List._∷_ (2, Rows'.any-gone (ColumnMetadataRow.ty)) (List._∷_ (3, Rows.arrF (ColumnMetadataRow.RT) 16 0) (List._∷_ (4, Rows'.any-gone (Syntax.tyStruct (List._∷_ 115 (List._∷_ 113 (List._∷_ 108 (List._∷_ 100 (List._∷_ 97 (List._∷_ 114 (List._∷_ 100 (List._∷_ 58 (List._∷_ 58 (List._∷_ 83 (List._∷_ 113 (List._∷_ 108 (List._∷_ 100 (List._∷_ 97 (List._∷_ 114 (List._∷_ 100 (List._∷_ 65 (List._∷_ 110 (List._∷_ 115 (List._∷_ 119 (List._∷_ 101 (List._∷_ 114 List.[])))))))))))))))))))))) (Syntax.tcons (Syntax.tyEnum (List._∷_ 111 (List._∷_ 117 (List._∷_ 116 (List._∷_ 99 (List._∷_ 111 (List._∷_ 109 (List._∷_ 101 (List._∷_ 58 (List._∷_ 58 (List._∷_ 79 (List._∷_ 117 (List._∷_ 116 (List._∷_ 99 (List._∷_ 111 (List._∷_ 109 (List._∷_ 101 List.[])))))))))))))))) (Syntax.ttcons Syntax.tnil (Syntax.ttcons Syntax.tnil (Syntax.ttcons (Syntax.tcons (Syntax.tyInt Syntax.w64) (Syntax.tcons (Syntax.tyInt Syntax.w64) Syntax.tnil)) (Syntax.ttcons Syntax.tnil (Syntax.ttcons (Syntax.tcons (Syntax.tyInt Syntax.w16) Syntax.tnil) (Syntax.ttcons Syntax.tnil (Syntax.ttcons (Syntax.tcons (Syntax.tyInt Syntax.w64) Syntax.tnil) (Syntax.ttcons Syntax.tnil (Syntax.ttcons (Syntax.tcons (Syntax.tyInt Syntax.w16) Syntax.tnil) Syntax.ttnil)))))))))) (Syntax.tcons (Syntax.tyStruct (List._∷_ 115 (List._∷_ 113 (List._∷_ 108 (List._∷_ 99 (List._∷_ 97 (List._∷_ 114 (List._∷_ 100 (List._∷_ 58 (List._∷_ 58 (List._∷_ 83 (List._∷_ 113 (List._∷_ 108 (List._∷_ 67 (List._∷_ 97 (List._∷_ 114 (List._∷_ 100 List.[])))))))))))))))) (Syntax.tcons Syntax.tyBool (Syntax.tcons (Syntax.tyInt Syntax.w32) (Syntax.tcons (Syntax.tyArray (Syntax.tyInt Syntax.w8) 5) (Syntax.tcons (Syntax.tyArray (Syntax.tyInt Syntax.w8) 8) (Syntax.tcons (Syntax.tyInt Syntax.w8) (Syntax.tcons (Syntax.tyArray (Syntax.tyInt Syntax.w32) 6) (Syntax.tcons (Syntax.tyInt Syntax.w64) (Syntax.tcons (Syntax.tyInt Syntax.w32) (Syntax.tcons (Syntax.tyArray (Syntax.tyInt Syntax.w8) 11) (Syntax.tcons (Syntax.tyInt Syntax.w64) (Syntax.tcons (Syntax.tyInt Syntax.w64) Syntax.tnil)))))))))))) (Syntax.tcons (Syntax.tyInt Syntax.w64) Syntax.tnil))))) (List._∷_ (5, Rows'.sc-here (Row.sInt Syntax.w64)) (List._∷_ (6, Rows'.sc-here (Row.sInt Syntax.w64)) (List._∷_ (7, Rows'.any-gone (ColumnMetadataRow.ty)) (List._∷_ (8, Rows'.any-gone (Syntax.tyRef Syntax.erased Syntax.mut (Syntax.tyArray ColumnMetadataRow.named 16))) (List._∷_ (9, Rows'.any-gone (Syntax.tyStruct (List._∷_ 38 (List._∷_ 91 (List._∷_ 93 List.[]))) (Syntax.tcons (Syntax.tyRef Syntax.erased Syntax.mut ColumnMetadataRow.named) (Syntax.tcons (Syntax.tyInt Syntax.w64) Syntax.tnil)))) (List._∷_ (10, Rows'.any-gone Syntax.tyUnit) (List._∷_ (11, Rows'.any-gone Syntax.tyBool) (List._∷_ (12, Rows'.any-gone (Syntax.tyInt Syntax.w64)) (List._∷_ (13, Rows'.any-gone Syntax.tyPtr) (List._∷_ (14, Rows'.sc-here Row.sPtr) (List._∷_ (15, ColumnMetadataRow.row) List.[])))))))))))))))
+t24 = List._∷_ (0, Rows'.any-gone Syntax.tyUnit) (List._∷_ (1, Rows'.sslice (Referent.rtF (Referent.fInt Syntax.w8)) (Syntax.tyRef (Syntax.named 0) Syntax.imm (Syntax.tyInt Syntax.w8)) 0) (List._∷_ (2, Rows'.any-gone (ColumnMetadataRow.ty)) (List._∷_ (3, Rows.arrF (ColumnMetadataRow.RT) 16 0) (List._∷_ (4, Rows'.any-gone (Syntax.tyStruct (List._∷_ 112 (List._∷_ 108 (List._∷_ 97 (List._∷_ 110 (List._∷_ 58 (List._∷_ 58 (List._∷_ 83 (List._∷_ 113 (List._∷_ 108 (List._∷_ 100 (List._∷_ 97 (List._∷_ 114 (List._∷_ 100 (List._∷_ 65 (List._∷_ 110 (List._∷_ 115 (List._∷_ 119 (List._∷_ 101 (List._∷_ 114 List.[]))))))))))))))))))) (Syntax.tcons (Syntax.tyEnum (List._∷_ 111 (List._∷_ 117 (List._∷_ 116 (List._∷_ 99 (List._∷_ 111 (List._∷_ 109 (List._∷_ 101 (List._∷_ 58 (List._∷_ 58 (List._∷_ 79 (List._∷_ 117 (List._∷_ 116 (List._∷_ 99 (List._∷_ 111 (List._∷_ 109 (List._∷_ 101 List.[])))))))))))))))) (Syntax.ttcons Syntax.tnil (Syntax.ttcons Syntax.tnil (Syntax.ttcons (Syntax.tcons (Syntax.tyInt Syntax.w64) (Syntax.tcons (Syntax.tyInt Syntax.w64) Syntax.tnil)) (Syntax.ttcons Syntax.tnil (Syntax.ttcons (Syntax.tcons (Syntax.tyInt Syntax.w16) Syntax.tnil) (Syntax.ttcons Syntax.tnil (Syntax.ttcons (Syntax.tcons (Syntax.tyInt Syntax.w64) Syntax.tnil) (Syntax.ttcons Syntax.tnil (Syntax.ttcons (Syntax.tcons (Syntax.tyInt Syntax.w16) Syntax.tnil) Syntax.ttnil)))))))))) (Syntax.tcons (Syntax.tyStruct (List._∷_ 115 (List._∷_ 113 (List._∷_ 108 (List._∷_ 99 (List._∷_ 97 (List._∷_ 114 (List._∷_ 100 (List._∷_ 58 (List._∷_ 58 (List._∷_ 83 (List._∷_ 113 (List._∷_ 108 (List._∷_ 67 (List._∷_ 97 (List._∷_ 114 (List._∷_ 100 List.[])))))))))))))))) (Syntax.tcons Syntax.tyBool (Syntax.tcons (Syntax.tyInt Syntax.w32) (Syntax.tcons (Syntax.tyArray (Syntax.tyInt Syntax.w8) 5) (Syntax.tcons (Syntax.tyArray (Syntax.tyInt Syntax.w8) 8) (Syntax.tcons (Syntax.tyInt Syntax.w8) (Syntax.tcons (Syntax.tyArray (Syntax.tyInt Syntax.w32) 6) (Syntax.tcons (Syntax.tyInt Syntax.w64) (Syntax.tcons (Syntax.tyInt Syntax.w32) (Syntax.tcons (Syntax.tyArray (Syntax.tyInt Syntax.w8) 11) (Syntax.tcons (Syntax.tyInt Syntax.w64) (Syntax.tcons (Syntax.tyInt Syntax.w64) Syntax.tnil)))))))))))) (Syntax.tcons (Syntax.tyInt Syntax.w64) Syntax.tnil))))) (List._∷_ (5, Rows'.sc-here (Row.sInt Syntax.w64)) (List._∷_ (6, Rows'.sc-here (Row.sInt Syntax.w64)) (List._∷_ (7, Rows'.any-gone (ColumnMetadataRow.ty)) (List._∷_ (8, Rows'.any-gone (Syntax.tyRef Syntax.erased Syntax.mut (Syntax.tyArray ColumnMetadataRow.named 16))) (List._∷_ (9, Rows'.any-gone (Syntax.tyStruct (List._∷_ 38 (List._∷_ 91 (List._∷_ 93 List.[]))) (Syntax.tcons (Syntax.tyRef Syntax.erased Syntax.mut ColumnMetadataRow.named) (Syntax.tcons (Syntax.tyInt Syntax.w64) Syntax.tnil)))) (List._∷_ (10, Rows'.any-gone Syntax.tyUnit) (List._∷_ (11, Rows'.any-gone Syntax.tyBool) (List._∷_ (12, Rows'.any-gone (Syntax.tyInt Syntax.w64)) (List._∷_ (13, Rows'.any-gone Syntax.tyPtr) (List._∷_ (14, Rows'.sc-here Row.sPtr) (List._∷_ (15, ColumnMetadataRow.row) List.[])))))))))))))))
 
 abbrev pub t25 : List.List Row.Entry
-t25 = List._∷_ (0, Rows'.any-gone Syntax.tyUnit) (List._∷_ (1, Rows'.sslice (Referent.rtF (Referent.fInt Syntax.w8)) (Syntax.tyRef (Syntax.named 0) Syntax.imm (Syntax.tyInt Syntax.w8)) 0) (List._∷_ (2, Rows'.any-gone (ColumnMetadataRow.ty)) (List._∷_ (3, Rows.arrF (ColumnMetadataRow.RT) 16 0) (List._∷_ (4, Rows'.any-gone (Syntax.tyStruct (List._∷_ 115 (List._∷_ 113 (List._∷_ 108 (List._∷_ 100 (List._∷_ 97 (List._∷_ 114 (List._∷_ 100 (List._∷_ 58 (List._∷_ 58 (List._∷_ 83 (List._∷_ 113 (List._∷_ 108 (List._∷_ 100 (List._∷_ 97 (List._∷_ 114 (List._∷_ 100 (List._∷_ 65 (List._∷_ 110 (List._∷_ 115 (List._∷_ 119 (List._∷_ 101 (List._∷_ 114 List.[])))))))))))))))))))))) (Syntax.tcons (Syntax.tyEnum (List._∷_ 111 (List._∷_ 117 (List._∷_ 116 (List._∷_ 99 (List._∷_ 111 (List._∷_ 109 (List._∷_ 101 (List._∷_ 58 (List._∷_ 58 (List._∷_ 79 (List._∷_ 117 (List._∷_ 116 (List._∷_ 99 (List._∷_ 111 (List._∷_ 109 (List._∷_ 101 List.[])))))))))))))))) (Syntax.ttcons Syntax.tnil (Syntax.ttcons Syntax.tnil (Syntax.ttcons (Syntax.tcons (Syntax.tyInt Syntax.w64) (Syntax.tcons (Syntax.tyInt Syntax.w64) Syntax.tnil)) (Syntax.ttcons Syntax.tnil (Syntax.ttcons (Syntax.tcons (Syntax.tyInt Syntax.w16) Syntax.tnil) (Syntax.ttcons Syntax.tnil (Syntax.ttcons (Syntax.tcons (Syntax.tyInt Syntax.w64) Syntax.tnil) (Syntax.ttcons Syntax.tnil (Syntax.ttcons (Syntax.tcons (Syntax.tyInt Syntax.w16) Syntax.tnil) Syntax.ttnil)))))))))) (Syntax.tcons (Syntax.tyStruct (List._∷_ 115 (List._∷_ 113 (List._∷_ 108 (List._∷_ 99 (List._∷_ 97 (List._∷_ 114 (List._∷_ 100 (List._∷_ 58 (List._∷_ 58 (List._∷_ 83 (List._∷_ 113 (List._∷_ 108 (List._∷_ 67 (List._∷_ 97 (List._∷_ 114 (List._∷_ 100 List.[])))))))))))))))) (Syntax.tcons Syntax.tyBool (Syntax.tcons (Syntax.tyInt Syntax.w32) (Syntax.tcons (Syntax.tyArray (Syntax.tyInt Syntax.w8) 5) (Syntax.tcons (Syntax.tyArray (Syntax.tyInt Syntax.w8) 8) (Syntax.tcons (Syntax.tyInt Syntax.w8) (Syntax.tcons (Syntax.tyArray (Syntax.tyInt Syntax.w32) 6) (Syntax.tcons (Syntax.tyInt Syntax.w64) (Syntax.tcons (Syntax.tyInt Syntax.w32) (Syntax.tcons (Syntax.tyArray (Syntax.tyInt Syntax.w8) 11) (Syntax.tcons (Syntax.tyInt Syntax.w64) (Syntax.tcons (Syntax.tyInt Syntax.w64) Syntax.tnil)))))))))))) (Syntax.tcons (Syntax.tyInt Syntax.w64) Syntax.tnil))))) (List._∷_ (5, Rows'.sc-here (Row.sInt Syntax.w64)) (List._∷_ (6, Rows'.sc-here (Row.sInt Syntax.w64)) (List._∷_ (7, Rows'.any-gone (ColumnMetadataRow.ty)) (List._∷_ (8, Rows'.any-gone (Syntax.tyRef Syntax.erased Syntax.mut (Syntax.tyArray ColumnMetadataRow.named 16))) (List._∷_ (9, Rows'.any-gone (Syntax.tyStruct (List._∷_ 38 (List._∷_ 91 (List._∷_ 93 List.[]))) (Syntax.tcons (Syntax.tyRef Syntax.erased Syntax.mut ColumnMetadataRow.named) (Syntax.tcons (Syntax.tyInt Syntax.w64) Syntax.tnil)))) (List._∷_ (10, Rows'.any-gone Syntax.tyUnit) (List._∷_ (11, Rows'.any-gone Syntax.tyBool) (List._∷_ (12, Rows'.any-gone (Syntax.tyInt Syntax.w64)) (List._∷_ (13, Rows'.any-gone Syntax.tyPtr) (List._∷_ (14, Rows'.any-gone Syntax.tyPtr) (List._∷_ (15, ColumnMetadataRow.row) List.[])))))))))))))))
+t25 = List._∷_ (0, Rows'.any-gone Syntax.tyUnit) (List._∷_ (1, Rows'.sslice (Referent.rtF (Referent.fInt Syntax.w8)) (Syntax.tyRef (Syntax.named 0) Syntax.imm (Syntax.tyInt Syntax.w8)) 0) (List._∷_ (2, Rows'.any-gone (ColumnMetadataRow.ty)) (List._∷_ (3, Rows.arrF (ColumnMetadataRow.RT) 16 0) (List._∷_ (4, Rows'.any-gone (Syntax.tyStruct (List._∷_ 112 (List._∷_ 108 (List._∷_ 97 (List._∷_ 110 (List._∷_ 58 (List._∷_ 58 (List._∷_ 83 (List._∷_ 113 (List._∷_ 108 (List._∷_ 100 (List._∷_ 97 (List._∷_ 114 (List._∷_ 100 (List._∷_ 65 (List._∷_ 110 (List._∷_ 115 (List._∷_ 119 (List._∷_ 101 (List._∷_ 114 List.[]))))))))))))))))))) (Syntax.tcons (Syntax.tyEnum (List._∷_ 111 (List._∷_ 117 (List._∷_ 116 (List._∷_ 99 (List._∷_ 111 (List._∷_ 109 (List._∷_ 101 (List._∷_ 58 (List._∷_ 58 (List._∷_ 79 (List._∷_ 117 (List._∷_ 116 (List._∷_ 99 (List._∷_ 111 (List._∷_ 109 (List._∷_ 101 List.[])))))))))))))))) (Syntax.ttcons Syntax.tnil (Syntax.ttcons Syntax.tnil (Syntax.ttcons (Syntax.tcons (Syntax.tyInt Syntax.w64) (Syntax.tcons (Syntax.tyInt Syntax.w64) Syntax.tnil)) (Syntax.ttcons Syntax.tnil (Syntax.ttcons (Syntax.tcons (Syntax.tyInt Syntax.w16) Syntax.tnil) (Syntax.ttcons Syntax.tnil (Syntax.ttcons (Syntax.tcons (Syntax.tyInt Syntax.w64) Syntax.tnil) (Syntax.ttcons Syntax.tnil (Syntax.ttcons (Syntax.tcons (Syntax.tyInt Syntax.w16) Syntax.tnil) Syntax.ttnil)))))))))) (Syntax.tcons (Syntax.tyStruct (List._∷_ 115 (List._∷_ 113 (List._∷_ 108 (List._∷_ 99 (List._∷_ 97 (List._∷_ 114 (List._∷_ 100 (List._∷_ 58 (List._∷_ 58 (List._∷_ 83 (List._∷_ 113 (List._∷_ 108 (List._∷_ 67 (List._∷_ 97 (List._∷_ 114 (List._∷_ 100 List.[])))))))))))))))) (Syntax.tcons Syntax.tyBool (Syntax.tcons (Syntax.tyInt Syntax.w32) (Syntax.tcons (Syntax.tyArray (Syntax.tyInt Syntax.w8) 5) (Syntax.tcons (Syntax.tyArray (Syntax.tyInt Syntax.w8) 8) (Syntax.tcons (Syntax.tyInt Syntax.w8) (Syntax.tcons (Syntax.tyArray (Syntax.tyInt Syntax.w32) 6) (Syntax.tcons (Syntax.tyInt Syntax.w64) (Syntax.tcons (Syntax.tyInt Syntax.w32) (Syntax.tcons (Syntax.tyArray (Syntax.tyInt Syntax.w8) 11) (Syntax.tcons (Syntax.tyInt Syntax.w64) (Syntax.tcons (Syntax.tyInt Syntax.w64) Syntax.tnil)))))))))))) (Syntax.tcons (Syntax.tyInt Syntax.w64) Syntax.tnil))))) (List._∷_ (5, Rows'.sc-here (Row.sInt Syntax.w64)) (List._∷_ (6, Rows'.sc-here (Row.sInt Syntax.w64)) (List._∷_ (7, Rows'.any-gone (ColumnMetadataRow.ty)) (List._∷_ (8, Rows'.any-gone (Syntax.tyRef Syntax.erased Syntax.mut (Syntax.tyArray ColumnMetadataRow.named 16))) (List._∷_ (9, Rows'.any-gone (Syntax.tyStruct (List._∷_ 38 (List._∷_ 91 (List._∷_ 93 List.[]))) (Syntax.tcons (Syntax.tyRef Syntax.erased Syntax.mut ColumnMetadataRow.named) (Syntax.tcons (Syntax.tyInt Syntax.w64) Syntax.tnil)))) (List._∷_ (10, Rows'.any-gone Syntax.tyUnit) (List._∷_ (11, Rows'.any-gone Syntax.tyBool) (List._∷_ (12, Rows'.any-gone (Syntax.tyInt Syntax.w64)) (List._∷_ (13, Rows'.any-gone Syntax.tyPtr) (List._∷_ (14, Rows'.any-gone Syntax.tyPtr) (List._∷_ (15, ColumnMetadataRow.row) List.[])))))))))))))))
 
 abbrev pub t26 : List.List Row.Entry
-t26 = List._∷_ (0, Rows'.any-gone Syntax.tyUnit) (List._∷_ (1, Rows'.sslice (Referent.rtF (Referent.fInt Syntax.w8)) (Syntax.tyRef (Syntax.named 0) Syntax.imm (Syntax.tyInt Syntax.w8)) 0) (List._∷_ (2, Rows'.any-gone (ColumnMetadataRow.ty)) (List._∷_ (3, Rows.arrF (ColumnMetadataRow.RT) 16 0) (List._∷_ (4, Rows'.any-gone (Syntax.tyStruct (List._∷_ 115 (List._∷_ 113 (List._∷_ 108 (List._∷_ 100 (List._∷_ 97 (List._∷_ 114 (List._∷_ 100 (List._∷_ 58 (List._∷_ 58 (List._∷_ 83 (List._∷_ 113 (List._∷_ 108 (List._∷_ 100 (List._∷_ 97 (List._∷_ 114 (List._∷_ 100 (List._∷_ 65 (List._∷_ 110 (List._∷_ 115 (List._∷_ 119 (List._∷_ 101 (List._∷_ 114 List.[])))))))))))))))))))))) (Syntax.tcons (Syntax.tyEnum (List._∷_ 111 (List._∷_ 117 (List._∷_ 116 (List._∷_ 99 (List._∷_ 111 (List._∷_ 109 (List._∷_ 101 (List._∷_ 58 (List._∷_ 58 (List._∷_ 79 (List._∷_ 117 (List._∷_ 116 (List._∷_ 99 (List._∷_ 111 (List._∷_ 109 (List._∷_ 101 List.[])))))))))))))))) (Syntax.ttcons Syntax.tnil (Syntax.ttcons Syntax.tnil (Syntax.ttcons (Syntax.tcons (Syntax.tyInt Syntax.w64) (Syntax.tcons (Syntax.tyInt Syntax.w64) Syntax.tnil)) (Syntax.ttcons Syntax.tnil (Syntax.ttcons (Syntax.tcons (Syntax.tyInt Syntax.w16) Syntax.tnil) (Syntax.ttcons Syntax.tnil (Syntax.ttcons (Syntax.tcons (Syntax.tyInt Syntax.w64) Syntax.tnil) (Syntax.ttcons Syntax.tnil (Syntax.ttcons (Syntax.tcons (Syntax.tyInt Syntax.w16) Syntax.tnil) Syntax.ttnil)))))))))) (Syntax.tcons (Syntax.tyStruct (List._∷_ 115 (List._∷_ 113 (List._∷_ 108 (List._∷_ 99 (List._∷_ 97 (List._∷_ 114 (List._∷_ 100 (List._∷_ 58 (List._∷_ 58 (List._∷_ 83 (List._∷_ 113 (List._∷_ 108 (List._∷_ 67 (List._∷_ 97 (List._∷_ 114 (List._∷_ 100 List.[])))))))))))))))) (Syntax.tcons Syntax.tyBool (Syntax.tcons (Syntax.tyInt Syntax.w32) (Syntax.tcons (Syntax.tyArray (Syntax.tyInt Syntax.w8) 5) (Syntax.tcons (Syntax.tyArray (Syntax.tyInt Syntax.w8) 8) (Syntax.tcons (Syntax.tyInt Syntax.w8) (Syntax.tcons (Syntax.tyArray (Syntax.tyInt Syntax.w32) 6) (Syntax.tcons (Syntax.tyInt Syntax.w64) (Syntax.tcons (Syntax.tyInt Syntax.w32) (Syntax.tcons (Syntax.tyArray (Syntax.tyInt Syntax.w8) 11) (Syntax.tcons (Syntax.tyInt Syntax.w64) (Syntax.tcons (Syntax.tyInt Syntax.w64) Syntax.tnil)))))))))))) (Syntax.tcons (Syntax.tyInt Syntax.w64) Syntax.tnil))))) (List._∷_ (5, Rows'.sc-here (Row.sInt Syntax.w64)) (List._∷_ (6, Rows'.sc-here (Row.sInt Syntax.w64)) (List._∷_ (7, ColumnMetadataRow.row) (List._∷_ (8, Rows'.any-gone (Syntax.tyRef Syntax.erased Syntax.mut (Syntax.tyArray ColumnMetadataRow.named 16))) (List._∷_ (9, Rows'.any-gone (Syntax.tyStruct (List._∷_ 38 (List._∷_ 91 (List._∷_ 93 List.[]))) (Syntax.tcons (Syntax.tyRef Syntax.erased Syntax.mut ColumnMetadataRow.named) (Syntax.tcons (Syntax.tyInt Syntax.w64) Syntax.tnil)))) (List._∷_ (10, Rows'.any-gone Syntax.tyUnit) (List._∷_ (11, Rows'.any-gone Syntax.tyBool) (List._∷_ (12, Rows'.any-gone (Syntax.tyInt Syntax.w64)) (List._∷_ (13, Rows'.any-gone Syntax.tyPtr) (List._∷_ (14, Rows'.any-gone Syntax.tyPtr) (List._∷_ (15, ColumnMetadataRow.row) List.[])))))))))))))))
+t26 = List._∷_ (0, Rows'.any-gone Syntax.tyUnit) (List._∷_ (1, Rows'.sslice (Referent.rtF (Referent.fInt Syntax.w8)) (Syntax.tyRef (Syntax.named 0) Syntax.imm (Syntax.tyInt Syntax.w8)) 0) (List._∷_ (2, Rows'.any-gone (ColumnMetadataRow.ty)) (List._∷_ (3, Rows.arrF (ColumnMetadataRow.RT) 16 0) (List._∷_ (4, Rows'.any-gone (Syntax.tyStruct (List._∷_ 112 (List._∷_ 108 (List._∷_ 97 (List._∷_ 110 (List._∷_ 58 (List._∷_ 58 (List._∷_ 83 (List._∷_ 113 (List._∷_ 108 (List._∷_ 100 (List._∷_ 97 (List._∷_ 114 (List._∷_ 100 (List._∷_ 65 (List._∷_ 110 (List._∷_ 115 (List._∷_ 119 (List._∷_ 101 (List._∷_ 114 List.[]))))))))))))))))))) (Syntax.tcons (Syntax.tyEnum (List._∷_ 111 (List._∷_ 117 (List._∷_ 116 (List._∷_ 99 (List._∷_ 111 (List._∷_ 109 (List._∷_ 101 (List._∷_ 58 (List._∷_ 58 (List._∷_ 79 (List._∷_ 117 (List._∷_ 116 (List._∷_ 99 (List._∷_ 111 (List._∷_ 109 (List._∷_ 101 List.[])))))))))))))))) (Syntax.ttcons Syntax.tnil (Syntax.ttcons Syntax.tnil (Syntax.ttcons (Syntax.tcons (Syntax.tyInt Syntax.w64) (Syntax.tcons (Syntax.tyInt Syntax.w64) Syntax.tnil)) (Syntax.ttcons Syntax.tnil (Syntax.ttcons (Syntax.tcons (Syntax.tyInt Syntax.w16) Syntax.tnil) (Syntax.ttcons Syntax.tnil (Syntax.ttcons (Syntax.tcons (Syntax.tyInt Syntax.w64) Syntax.tnil) (Syntax.ttcons Syntax.tnil (Syntax.ttcons (Syntax.tcons (Syntax.tyInt Syntax.w16) Syntax.tnil) Syntax.ttnil)))))))))) (Syntax.tcons (Syntax.tyStruct (List._∷_ 115 (List._∷_ 113 (List._∷_ 108 (List._∷_ 99 (List._∷_ 97 (List._∷_ 114 (List._∷_ 100 (List._∷_ 58 (List._∷_ 58 (List._∷_ 83 (List._∷_ 113 (List._∷_ 108 (List._∷_ 67 (List._∷_ 97 (List._∷_ 114 (List._∷_ 100 List.[])))))))))))))))) (Syntax.tcons Syntax.tyBool (Syntax.tcons (Syntax.tyInt Syntax.w32) (Syntax.tcons (Syntax.tyArray (Syntax.tyInt Syntax.w8) 5) (Syntax.tcons (Syntax.tyArray (Syntax.tyInt Syntax.w8) 8) (Syntax.tcons (Syntax.tyInt Syntax.w8) (Syntax.tcons (Syntax.tyArray (Syntax.tyInt Syntax.w32) 6) (Syntax.tcons (Syntax.tyInt Syntax.w64) (Syntax.tcons (Syntax.tyInt Syntax.w32) (Syntax.tcons (Syntax.tyArray (Syntax.tyInt Syntax.w8) 11) (Syntax.tcons (Syntax.tyInt Syntax.w64) (Syntax.tcons (Syntax.tyInt Syntax.w64) Syntax.tnil)))))))))))) (Syntax.tcons (Syntax.tyInt Syntax.w64) Syntax.tnil))))) (List._∷_ (5, Rows'.sc-here (Row.sInt Syntax.w64)) (List._∷_ (6, Rows'.sc-here (Row.sInt Syntax.w64)) (List._∷_ (7, ColumnMetadataRow.row) (List._∷_ (8, Rows'.any-gone (Syntax.tyRef Syntax.erased Syntax.mut (Syntax.tyArray ColumnMetadataRow.named 16))) (List._∷_ (9, Rows'.any-gone (Syntax.tyStruct (List._∷_ 38 (List._∷_ 91 (List._∷_ 93 List.[]))) (Syntax.tcons (Syntax.tyRef Syntax.erased Syntax.mut ColumnMetadataRow.named) (Syntax.tcons (Syntax.tyInt Syntax.w64) Syntax.tnil)))) (List._∷_ (10, Rows'.any-gone Syntax.tyUnit) (List._∷_ (11, Rows'.any-gone Syntax.tyBool) (List._∷_ (12, Rows'.any-gone (Syntax.tyInt Syntax.w64)) (List._∷_ (13, Rows'.any-gone Syntax.tyPtr) (List._∷_ (14, Rows'.any-gone Syntax.tyPtr) (List._∷_ (15, ColumnMetadataRow.row) List.[])))))))))))))))
 
 abbrev pub t27 : List.List Row.Entry
-t27 = List._∷_ (0, Rows'.any-gone Syntax.tyUnit) (List._∷_ (1, Rows'.sslice (Referent.rtF (Referent.fInt Syntax.w8)) (Syntax.tyRef (Syntax.named 0) Syntax.imm (Syntax.tyInt Syntax.w8)) 0) (List._∷_ (2, Rows'.any-gone (ColumnMetadataRow.ty)) (List._∷_ (3, Rows.arrF (ColumnMetadataRow.RT) 16 0) (List._∷_ (4, Rows'.any-gone (Syntax.tyStruct (List._∷_ 115 (List._∷_ 113 (List._∷_ 108 (List._∷_ 100 (List._∷_ 97 (List._∷_ 114 (List._∷_ 100 (List._∷_ 58 (List._∷_ 58 (List._∷_ 83 (List._∷_ 113 (List._∷_ 108 (List._∷_ 100 (List._∷_ 97 (List._∷_ 114 (List._∷_ 100 (List._∷_ 65 (List._∷_ 110 (List._∷_ 115 (List._∷_ 119 (List._∷_ 101 (List._∷_ 114 List.[])))))))))))))))))))))) (Syntax.tcons (Syntax.tyEnum (List._∷_ 111 (List._∷_ 117 (List._∷_ 116 (List._∷_ 99 (List._∷_ 111 (List._∷_ 109 (List._∷_ 101 (List._∷_ 58 (List._∷_ 58 (List._∷_ 79 (List._∷_ 117 (List._∷_ 116 (List._∷_ 99 (List._∷_ 111 (List._∷_ 109 (List._∷_ 101 List.[])))))))))))))))) (Syntax.ttcons Syntax.tnil (Syntax.ttcons Syntax.tnil (Syntax.ttcons (Syntax.tcons (Syntax.tyInt Syntax.w64) (Syntax.tcons (Syntax.tyInt Syntax.w64) Syntax.tnil)) (Syntax.ttcons Syntax.tnil (Syntax.ttcons (Syntax.tcons (Syntax.tyInt Syntax.w16) Syntax.tnil) (Syntax.ttcons Syntax.tnil (Syntax.ttcons (Syntax.tcons (Syntax.tyInt Syntax.w64) Syntax.tnil) (Syntax.ttcons Syntax.tnil (Syntax.ttcons (Syntax.tcons (Syntax.tyInt Syntax.w16) Syntax.tnil) Syntax.ttnil)))))))))) (Syntax.tcons (Syntax.tyStruct (List._∷_ 115 (List._∷_ 113 (List._∷_ 108 (List._∷_ 99 (List._∷_ 97 (List._∷_ 114 (List._∷_ 100 (List._∷_ 58 (List._∷_ 58 (List._∷_ 83 (List._∷_ 113 (List._∷_ 108 (List._∷_ 67 (List._∷_ 97 (List._∷_ 114 (List._∷_ 100 List.[])))))))))))))))) (Syntax.tcons Syntax.tyBool (Syntax.tcons (Syntax.tyInt Syntax.w32) (Syntax.tcons (Syntax.tyArray (Syntax.tyInt Syntax.w8) 5) (Syntax.tcons (Syntax.tyArray (Syntax.tyInt Syntax.w8) 8) (Syntax.tcons (Syntax.tyInt Syntax.w8) (Syntax.tcons (Syntax.tyArray (Syntax.tyInt Syntax.w32) 6) (Syntax.tcons (Syntax.tyInt Syntax.w64) (Syntax.tcons (Syntax.tyInt Syntax.w32) (Syntax.tcons (Syntax.tyArray (Syntax.tyInt Syntax.w8) 11) (Syntax.tcons (Syntax.tyInt Syntax.w64) (Syntax.tcons (Syntax.tyInt Syntax.w64) Syntax.tnil)))))))))))) (Syntax.tcons (Syntax.tyInt Syntax.w64) Syntax.tnil))))) (List._∷_ (5, Rows'.sc-here (Row.sInt Syntax.w64)) (List._∷_ (6, Rows'.sc-here (Row.sInt Syntax.w64)) (List._∷_ (7, ColumnMetadataRow.row) (List._∷_ (8, Rows'.any-gone (Syntax.tyRef Syntax.erased Syntax.mut (Syntax.tyArray ColumnMetadataRow.named 16))) (List._∷_ (9, Rows'.any-gone (Syntax.tyStruct (List._∷_ 38 (List._∷_ 91 (List._∷_ 93 List.[]))) (Syntax.tcons (Syntax.tyRef Syntax.erased Syntax.mut ColumnMetadataRow.named) (Syntax.tcons (Syntax.tyInt Syntax.w64) Syntax.tnil)))) (List._∷_ (10, Rows'.any-gone Syntax.tyUnit) (List._∷_ (11, Rows'.any-gone Syntax.tyBool) (List._∷_ (12, Rows'.any-gone (Syntax.tyInt Syntax.w64)) (List._∷_ (13, Rows'.any-gone Syntax.tyPtr) (List._∷_ (14, Rows'.any-gone Syntax.tyPtr) (List._∷_ (15, Rows'.any-gone (ColumnMetadataRow.ty)) List.[])))))))))))))))
+t27 = List._∷_ (0, Rows'.any-gone Syntax.tyUnit) (List._∷_ (1, Rows'.sslice (Referent.rtF (Referent.fInt Syntax.w8)) (Syntax.tyRef (Syntax.named 0) Syntax.imm (Syntax.tyInt Syntax.w8)) 0) (List._∷_ (2, Rows'.any-gone (ColumnMetadataRow.ty)) (List._∷_ (3, Rows.arrF (ColumnMetadataRow.RT) 16 0) (List._∷_ (4, Rows'.any-gone (Syntax.tyStruct (List._∷_ 112 (List._∷_ 108 (List._∷_ 97 (List._∷_ 110 (List._∷_ 58 (List._∷_ 58 (List._∷_ 83 (List._∷_ 113 (List._∷_ 108 (List._∷_ 100 (List._∷_ 97 (List._∷_ 114 (List._∷_ 100 (List._∷_ 65 (List._∷_ 110 (List._∷_ 115 (List._∷_ 119 (List._∷_ 101 (List._∷_ 114 List.[]))))))))))))))))))) (Syntax.tcons (Syntax.tyEnum (List._∷_ 111 (List._∷_ 117 (List._∷_ 116 (List._∷_ 99 (List._∷_ 111 (List._∷_ 109 (List._∷_ 101 (List._∷_ 58 (List._∷_ 58 (List._∷_ 79 (List._∷_ 117 (List._∷_ 116 (List._∷_ 99 (List._∷_ 111 (List._∷_ 109 (List._∷_ 101 List.[])))))))))))))))) (Syntax.ttcons Syntax.tnil (Syntax.ttcons Syntax.tnil (Syntax.ttcons (Syntax.tcons (Syntax.tyInt Syntax.w64) (Syntax.tcons (Syntax.tyInt Syntax.w64) Syntax.tnil)) (Syntax.ttcons Syntax.tnil (Syntax.ttcons (Syntax.tcons (Syntax.tyInt Syntax.w16) Syntax.tnil) (Syntax.ttcons Syntax.tnil (Syntax.ttcons (Syntax.tcons (Syntax.tyInt Syntax.w64) Syntax.tnil) (Syntax.ttcons Syntax.tnil (Syntax.ttcons (Syntax.tcons (Syntax.tyInt Syntax.w16) Syntax.tnil) Syntax.ttnil)))))))))) (Syntax.tcons (Syntax.tyStruct (List._∷_ 115 (List._∷_ 113 (List._∷_ 108 (List._∷_ 99 (List._∷_ 97 (List._∷_ 114 (List._∷_ 100 (List._∷_ 58 (List._∷_ 58 (List._∷_ 83 (List._∷_ 113 (List._∷_ 108 (List._∷_ 67 (List._∷_ 97 (List._∷_ 114 (List._∷_ 100 List.[])))))))))))))))) (Syntax.tcons Syntax.tyBool (Syntax.tcons (Syntax.tyInt Syntax.w32) (Syntax.tcons (Syntax.tyArray (Syntax.tyInt Syntax.w8) 5) (Syntax.tcons (Syntax.tyArray (Syntax.tyInt Syntax.w8) 8) (Syntax.tcons (Syntax.tyInt Syntax.w8) (Syntax.tcons (Syntax.tyArray (Syntax.tyInt Syntax.w32) 6) (Syntax.tcons (Syntax.tyInt Syntax.w64) (Syntax.tcons (Syntax.tyInt Syntax.w32) (Syntax.tcons (Syntax.tyArray (Syntax.tyInt Syntax.w8) 11) (Syntax.tcons (Syntax.tyInt Syntax.w64) (Syntax.tcons (Syntax.tyInt Syntax.w64) Syntax.tnil)))))))))))) (Syntax.tcons (Syntax.tyInt Syntax.w64) Syntax.tnil))))) (List._∷_ (5, Rows'.sc-here (Row.sInt Syntax.w64)) (List._∷_ (6, Rows'.sc-here (Row.sInt Syntax.w64)) (List._∷_ (7, ColumnMetadataRow.row) (List._∷_ (8, Rows'.any-gone (Syntax.tyRef Syntax.erased Syntax.mut (Syntax.tyArray ColumnMetadataRow.named 16))) (List._∷_ (9, Rows'.any-gone (Syntax.tyStruct (List._∷_ 38 (List._∷_ 91 (List._∷_ 93 List.[]))) (Syntax.tcons (Syntax.tyRef Syntax.erased Syntax.mut ColumnMetadataRow.named) (Syntax.tcons (Syntax.tyInt Syntax.w64) Syntax.tnil)))) (List._∷_ (10, Rows'.any-gone Syntax.tyUnit) (List._∷_ (11, Rows'.any-gone Syntax.tyBool) (List._∷_ (12, Rows'.any-gone (Syntax.tyInt Syntax.w64)) (List._∷_ (13, Rows'.any-gone Syntax.tyPtr) (List._∷_ (14, Rows'.any-gone Syntax.tyPtr) (List._∷_ (15, Rows'.any-gone (ColumnMetadataRow.ty)) List.[])))))))))))))))
 
 abbrev pub t28 : List.List Row.Entry
 t28 = List._∷_ (16, Rows'.sc-here Row.sUnit) List.[]
 
 abbrev pub t29 : List.List Row.Entry
-t29 = List._∷_ (0, Rows'.any-gone Syntax.tyUnit) (List._∷_ (1, Rows'.sslice (Referent.rtF (Referent.fInt Syntax.w8)) (Syntax.tyRef (Syntax.named 0) Syntax.imm (Syntax.tyInt Syntax.w8)) 0) (List._∷_ (2, Rows'.any-gone (ColumnMetadataRow.ty)) (List._∷_ (3, Rows'.any-gone (Syntax.tyArray (ColumnMetadataRow.ty) 16)) (List._∷_ (4, Rows'.any-gone (Syntax.tyStruct (List._∷_ 115 (List._∷_ 113 (List._∷_ 108 (List._∷_ 100 (List._∷_ 97 (List._∷_ 114 (List._∷_ 100 (List._∷_ 58 (List._∷_ 58 (List._∷_ 83 (List._∷_ 113 (List._∷_ 108 (List._∷_ 100 (List._∷_ 97 (List._∷_ 114 (List._∷_ 100 (List._∷_ 65 (List._∷_ 110 (List._∷_ 115 (List._∷_ 119 (List._∷_ 101 (List._∷_ 114 List.[])))))))))))))))))))))) (Syntax.tcons (Syntax.tyEnum (List._∷_ 111 (List._∷_ 117 (List._∷_ 116 (List._∷_ 99 (List._∷_ 111 (List._∷_ 109 (List._∷_ 101 (List._∷_ 58 (List._∷_ 58 (List._∷_ 79 (List._∷_ 117 (List._∷_ 116 (List._∷_ 99 (List._∷_ 111 (List._∷_ 109 (List._∷_ 101 List.[])))))))))))))))) (Syntax.ttcons Syntax.tnil (Syntax.ttcons Syntax.tnil (Syntax.ttcons (Syntax.tcons (Syntax.tyInt Syntax.w64) (Syntax.tcons (Syntax.tyInt Syntax.w64) Syntax.tnil)) (Syntax.ttcons Syntax.tnil (Syntax.ttcons (Syntax.tcons (Syntax.tyInt Syntax.w16) Syntax.tnil) (Syntax.ttcons Syntax.tnil (Syntax.ttcons (Syntax.tcons (Syntax.tyInt Syntax.w64) Syntax.tnil) (Syntax.ttcons Syntax.tnil (Syntax.ttcons (Syntax.tcons (Syntax.tyInt Syntax.w16) Syntax.tnil) Syntax.ttnil)))))))))) (Syntax.tcons (Syntax.tyStruct (List._∷_ 115 (List._∷_ 113 (List._∷_ 108 (List._∷_ 99 (List._∷_ 97 (List._∷_ 114 (List._∷_ 100 (List._∷_ 58 (List._∷_ 58 (List._∷_ 83 (List._∷_ 113 (List._∷_ 108 (List._∷_ 67 (List._∷_ 97 (List._∷_ 114 (List._∷_ 100 List.[])))))))))))))))) (Syntax.tcons Syntax.tyBool (Syntax.tcons (Syntax.tyInt Syntax.w32) (Syntax.tcons (Syntax.tyArray (Syntax.tyInt Syntax.w8) 5) (Syntax.tcons (Syntax.tyArray (Syntax.tyInt Syntax.w8) 8) (Syntax.tcons (Syntax.tyInt Syntax.w8) (Syntax.tcons (Syntax.tyArray (Syntax.tyInt Syntax.w32) 6) (Syntax.tcons (Syntax.tyInt Syntax.w64) (Syntax.tcons (Syntax.tyInt Syntax.w32) (Syntax.tcons (Syntax.tyArray (Syntax.tyInt Syntax.w8) 11) (Syntax.tcons (Syntax.tyInt Syntax.w64) (Syntax.tcons (Syntax.tyInt Syntax.w64) Syntax.tnil)))))))))))) (Syntax.tcons (Syntax.tyInt Syntax.w64) Syntax.tnil))))) (List._∷_ (5, Rows'.sc-here (Row.sInt Syntax.w64)) (List._∷_ (6, Rows'.sc-here (Row.sInt Syntax.w64)) (List._∷_ (7, Rows'.any-gone (ColumnMetadataRow.ty)) (List._∷_ (8, Rows'.any-gone (Syntax.tyRef Syntax.erased Syntax.mut (Syntax.tyArray ColumnMetadataRow.named 16))) (List._∷_ (9, Rows'.any-gone (Syntax.tyStruct (List._∷_ 38 (List._∷_ 91 (List._∷_ 93 List.[]))) (Syntax.tcons (Syntax.tyRef Syntax.erased Syntax.mut ColumnMetadataRow.named) (Syntax.tcons (Syntax.tyInt Syntax.w64) Syntax.tnil)))) (List._∷_ (10, Rows'.sc-here Row.sUnit) (List._∷_ (11, Rows'.any-gone Syntax.tyBool) (List._∷_ (12, Rows'.any-gone (Syntax.tyInt Syntax.w64)) (List._∷_ (13, Rows'.any-gone Syntax.tyPtr) (List._∷_ (14, Rows'.any-gone Syntax.tyPtr) (List._∷_ (15, Rows'.any-gone (ColumnMetadataRow.ty)) List.[])))))))))))))))
+t29 = List._∷_ (0, Rows'.any-gone Syntax.tyUnit) (List._∷_ (1, Rows'.sslice (Referent.rtF (Referent.fInt Syntax.w8)) (Syntax.tyRef (Syntax.named 0) Syntax.imm (Syntax.tyInt Syntax.w8)) 0) (List._∷_ (2, Rows'.any-gone (ColumnMetadataRow.ty)) (List._∷_ (3, Rows'.any-gone (Syntax.tyArray (ColumnMetadataRow.ty) 16)) (List._∷_ (4, Rows'.any-gone (Syntax.tyStruct (List._∷_ 112 (List._∷_ 108 (List._∷_ 97 (List._∷_ 110 (List._∷_ 58 (List._∷_ 58 (List._∷_ 83 (List._∷_ 113 (List._∷_ 108 (List._∷_ 100 (List._∷_ 97 (List._∷_ 114 (List._∷_ 100 (List._∷_ 65 (List._∷_ 110 (List._∷_ 115 (List._∷_ 119 (List._∷_ 101 (List._∷_ 114 List.[]))))))))))))))))))) (Syntax.tcons (Syntax.tyEnum (List._∷_ 111 (List._∷_ 117 (List._∷_ 116 (List._∷_ 99 (List._∷_ 111 (List._∷_ 109 (List._∷_ 101 (List._∷_ 58 (List._∷_ 58 (List._∷_ 79 (List._∷_ 117 (List._∷_ 116 (List._∷_ 99 (List._∷_ 111 (List._∷_ 109 (List._∷_ 101 List.[])))))))))))))))) (Syntax.ttcons Syntax.tnil (Syntax.ttcons Syntax.tnil (Syntax.ttcons (Syntax.tcons (Syntax.tyInt Syntax.w64) (Syntax.tcons (Syntax.tyInt Syntax.w64) Syntax.tnil)) (Syntax.ttcons Syntax.tnil (Syntax.ttcons (Syntax.tcons (Syntax.tyInt Syntax.w16) Syntax.tnil) (Syntax.ttcons Syntax.tnil (Syntax.ttcons (Syntax.tcons (Syntax.tyInt Syntax.w64) Syntax.tnil) (Syntax.ttcons Syntax.tnil (Syntax.ttcons (Syntax.tcons (Syntax.tyInt Syntax.w16) Syntax.tnil) Syntax.ttnil)))))))))) (Syntax.tcons (Syntax.tyStruct (List._∷_ 115 (List._∷_ 113 (List._∷_ 108 (List._∷_ 99 (List._∷_ 97 (List._∷_ 114 (List._∷_ 100 (List._∷_ 58 (List._∷_ 58 (List._∷_ 83 (List._∷_ 113 (List._∷_ 108 (List._∷_ 67 (List._∷_ 97 (List._∷_ 114 (List._∷_ 100 List.[])))))))))))))))) (Syntax.tcons Syntax.tyBool (Syntax.tcons (Syntax.tyInt Syntax.w32) (Syntax.tcons (Syntax.tyArray (Syntax.tyInt Syntax.w8) 5) (Syntax.tcons (Syntax.tyArray (Syntax.tyInt Syntax.w8) 8) (Syntax.tcons (Syntax.tyInt Syntax.w8) (Syntax.tcons (Syntax.tyArray (Syntax.tyInt Syntax.w32) 6) (Syntax.tcons (Syntax.tyInt Syntax.w64) (Syntax.tcons (Syntax.tyInt Syntax.w32) (Syntax.tcons (Syntax.tyArray (Syntax.tyInt Syntax.w8) 11) (Syntax.tcons (Syntax.tyInt Syntax.w64) (Syntax.tcons (Syntax.tyInt Syntax.w64) Syntax.tnil)))))))))))) (Syntax.tcons (Syntax.tyInt Syntax.w64) Syntax.tnil))))) (List._∷_ (5, Rows'.sc-here (Row.sInt Syntax.w64)) (List._∷_ (6, Rows'.sc-here (Row.sInt Syntax.w64)) (List._∷_ (7, Rows'.any-gone (ColumnMetadataRow.ty)) (List._∷_ (8, Rows'.any-gone (Syntax.tyRef Syntax.erased Syntax.mut (Syntax.tyArray ColumnMetadataRow.named 16))) (List._∷_ (9, Rows'.any-gone (Syntax.tyStruct (List._∷_ 38 (List._∷_ 91 (List._∷_ 93 List.[]))) (Syntax.tcons (Syntax.tyRef Syntax.erased Syntax.mut ColumnMetadataRow.named) (Syntax.tcons (Syntax.tyInt Syntax.w64) Syntax.tnil)))) (List._∷_ (10, Rows'.sc-here Row.sUnit) (List._∷_ (11, Rows'.any-gone Syntax.tyBool) (List._∷_ (12, Rows'.any-gone (Syntax.tyInt Syntax.w64)) (List._∷_ (13, Rows'.any-gone Syntax.tyPtr) (List._∷_ (14, Rows'.any-gone Syntax.tyPtr) (List._∷_ (15, Rows'.any-gone (ColumnMetadataRow.ty)) List.[])))))))))))))))
 
 abbrev pub t30 : List.List Row.Entry
-t30 = List._∷_ (0, Rows'.sc-here Row.sUnit) (List._∷_ (1, Rows'.sslice (Referent.rtF (Referent.fInt Syntax.w8)) (Syntax.tyRef (Syntax.named 0) Syntax.imm (Syntax.tyInt Syntax.w8)) 0) (List._∷_ (2, Rows'.any-gone (ColumnMetadataRow.ty)) (List._∷_ (3, Rows'.any-gone (Syntax.tyArray (ColumnMetadataRow.ty) 16)) (List._∷_ (4, Rows'.any-gone (Syntax.tyStruct (List._∷_ 115 (List._∷_ 113 (List._∷_ 108 (List._∷_ 100 (List._∷_ 97 (List._∷_ 114 (List._∷_ 100 (List._∷_ 58 (List._∷_ 58 (List._∷_ 83 (List._∷_ 113 (List._∷_ 108 (List._∷_ 100 (List._∷_ 97 (List._∷_ 114 (List._∷_ 100 (List._∷_ 65 (List._∷_ 110 (List._∷_ 115 (List._∷_ 119 (List._∷_ 101 (List._∷_ 114 List.[])))))))))))))))))))))) (Syntax.tcons (Syntax.tyEnum (List._∷_ 111 (List._∷_ 117 (List._∷_ 116 (List._∷_ 99 (List._∷_ 111 (List._∷_ 109 (List._∷_ 101 (List._∷_ 58 (List._∷_ 58 (List._∷_ 79 (List._∷_ 117 (List._∷_ 116 (List._∷_ 99 (List._∷_ 111 (List._∷_ 109 (List._∷_ 101 List.[])))))))))))))))) (Syntax.ttcons Syntax.tnil (Syntax.ttcons Syntax.tnil (Syntax.ttcons (Syntax.tcons (Syntax.tyInt Syntax.w64) (Syntax.tcons (Syntax.tyInt Syntax.w64) Syntax.tnil)) (Syntax.ttcons Syntax.tnil (Syntax.ttcons (Syntax.tcons (Syntax.tyInt Syntax.w16) Syntax.tnil) (Syntax.ttcons Syntax.tnil (Syntax.ttcons (Syntax.tcons (Syntax.tyInt Syntax.w64) Syntax.tnil) (Syntax.ttcons Syntax.tnil (Syntax.ttcons (Syntax.tcons (Syntax.tyInt Syntax.w16) Syntax.tnil) Syntax.ttnil)))))))))) (Syntax.tcons (Syntax.tyStruct (List._∷_ 115 (List._∷_ 113 (List._∷_ 108 (List._∷_ 99 (List._∷_ 97 (List._∷_ 114 (List._∷_ 100 (List._∷_ 58 (List._∷_ 58 (List._∷_ 83 (List._∷_ 113 (List._∷_ 108 (List._∷_ 67 (List._∷_ 97 (List._∷_ 114 (List._∷_ 100 List.[])))))))))))))))) (Syntax.tcons Syntax.tyBool (Syntax.tcons (Syntax.tyInt Syntax.w32) (Syntax.tcons (Syntax.tyArray (Syntax.tyInt Syntax.w8) 5) (Syntax.tcons (Syntax.tyArray (Syntax.tyInt Syntax.w8) 8) (Syntax.tcons (Syntax.tyInt Syntax.w8) (Syntax.tcons (Syntax.tyArray (Syntax.tyInt Syntax.w32) 6) (Syntax.tcons (Syntax.tyInt Syntax.w64) (Syntax.tcons (Syntax.tyInt Syntax.w32) (Syntax.tcons (Syntax.tyArray (Syntax.tyInt Syntax.w8) 11) (Syntax.tcons (Syntax.tyInt Syntax.w64) (Syntax.tcons (Syntax.tyInt Syntax.w64) Syntax.tnil)))))))))))) (Syntax.tcons (Syntax.tyInt Syntax.w64) Syntax.tnil))))) (List._∷_ (5, Rows'.sc-here (Row.sInt Syntax.w64)) (List._∷_ (6, Rows'.sc-here (Row.sInt Syntax.w64)) (List._∷_ (7, Rows'.any-gone (ColumnMetadataRow.ty)) (List._∷_ (8, Rows'.any-gone (Syntax.tyRef Syntax.erased Syntax.mut (Syntax.tyArray ColumnMetadataRow.named 16))) (List._∷_ (9, Rows'.any-gone (Syntax.tyStruct (List._∷_ 38 (List._∷_ 91 (List._∷_ 93 List.[]))) (Syntax.tcons (Syntax.tyRef Syntax.erased Syntax.mut ColumnMetadataRow.named) (Syntax.tcons (Syntax.tyInt Syntax.w64) Syntax.tnil)))) (List._∷_ (10, Rows'.any-gone Syntax.tyUnit) (List._∷_ (11, Rows'.any-gone Syntax.tyBool) (List._∷_ (12, Rows'.any-gone (Syntax.tyInt Syntax.w64)) (List._∷_ (13, Rows'.any-gone Syntax.tyPtr) (List._∷_ (14, Rows'.any-gone Syntax.tyPtr) (List._∷_ (15, Rows'.any-gone (ColumnMetadataRow.ty)) List.[])))))))))))))))
+t30 = List._∷_ (0, Rows'.sc-here Row.sUnit) (List._∷_ (1, Rows'.sslice (Referent.rtF (Referent.fInt Syntax.w8)) (Syntax.tyRef (Syntax.named 0) Syntax.imm (Syntax.tyInt Syntax.w8)) 0) (List._∷_ (2, Rows'.any-gone (ColumnMetadataRow.ty)) (List._∷_ (3, Rows'.any-gone (Syntax.tyArray (ColumnMetadataRow.ty) 16)) (List._∷_ (4, Rows'.any-gone (Syntax.tyStruct (List._∷_ 112 (List._∷_ 108 (List._∷_ 97 (List._∷_ 110 (List._∷_ 58 (List._∷_ 58 (List._∷_ 83 (List._∷_ 113 (List._∷_ 108 (List._∷_ 100 (List._∷_ 97 (List._∷_ 114 (List._∷_ 100 (List._∷_ 65 (List._∷_ 110 (List._∷_ 115 (List._∷_ 119 (List._∷_ 101 (List._∷_ 114 List.[]))))))))))))))))))) (Syntax.tcons (Syntax.tyEnum (List._∷_ 111 (List._∷_ 117 (List._∷_ 116 (List._∷_ 99 (List._∷_ 111 (List._∷_ 109 (List._∷_ 101 (List._∷_ 58 (List._∷_ 58 (List._∷_ 79 (List._∷_ 117 (List._∷_ 116 (List._∷_ 99 (List._∷_ 111 (List._∷_ 109 (List._∷_ 101 List.[])))))))))))))))) (Syntax.ttcons Syntax.tnil (Syntax.ttcons Syntax.tnil (Syntax.ttcons (Syntax.tcons (Syntax.tyInt Syntax.w64) (Syntax.tcons (Syntax.tyInt Syntax.w64) Syntax.tnil)) (Syntax.ttcons Syntax.tnil (Syntax.ttcons (Syntax.tcons (Syntax.tyInt Syntax.w16) Syntax.tnil) (Syntax.ttcons Syntax.tnil (Syntax.ttcons (Syntax.tcons (Syntax.tyInt Syntax.w64) Syntax.tnil) (Syntax.ttcons Syntax.tnil (Syntax.ttcons (Syntax.tcons (Syntax.tyInt Syntax.w16) Syntax.tnil) Syntax.ttnil)))))))))) (Syntax.tcons (Syntax.tyStruct (List._∷_ 115 (List._∷_ 113 (List._∷_ 108 (List._∷_ 99 (List._∷_ 97 (List._∷_ 114 (List._∷_ 100 (List._∷_ 58 (List._∷_ 58 (List._∷_ 83 (List._∷_ 113 (List._∷_ 108 (List._∷_ 67 (List._∷_ 97 (List._∷_ 114 (List._∷_ 100 List.[])))))))))))))))) (Syntax.tcons Syntax.tyBool (Syntax.tcons (Syntax.tyInt Syntax.w32) (Syntax.tcons (Syntax.tyArray (Syntax.tyInt Syntax.w8) 5) (Syntax.tcons (Syntax.tyArray (Syntax.tyInt Syntax.w8) 8) (Syntax.tcons (Syntax.tyInt Syntax.w8) (Syntax.tcons (Syntax.tyArray (Syntax.tyInt Syntax.w32) 6) (Syntax.tcons (Syntax.tyInt Syntax.w64) (Syntax.tcons (Syntax.tyInt Syntax.w32) (Syntax.tcons (Syntax.tyArray (Syntax.tyInt Syntax.w8) 11) (Syntax.tcons (Syntax.tyInt Syntax.w64) (Syntax.tcons (Syntax.tyInt Syntax.w64) Syntax.tnil)))))))))))) (Syntax.tcons (Syntax.tyInt Syntax.w64) Syntax.tnil))))) (List._∷_ (5, Rows'.sc-here (Row.sInt Syntax.w64)) (List._∷_ (6, Rows'.sc-here (Row.sInt Syntax.w64)) (List._∷_ (7, Rows'.any-gone (ColumnMetadataRow.ty)) (List._∷_ (8, Rows'.any-gone (Syntax.tyRef Syntax.erased Syntax.mut (Syntax.tyArray ColumnMetadataRow.named 16))) (List._∷_ (9, Rows'.any-gone (Syntax.tyStruct (List._∷_ 38 (List._∷_ 91 (List._∷_ 93 List.[]))) (Syntax.tcons (Syntax.tyRef Syntax.erased Syntax.mut ColumnMetadataRow.named) (Syntax.tcons (Syntax.tyInt Syntax.w64) Syntax.tnil)))) (List._∷_ (10, Rows'.any-gone Syntax.tyUnit) (List._∷_ (11, Rows'.any-gone Syntax.tyBool) (List._∷_ (12, Rows'.any-gone (Syntax.tyInt Syntax.w64)) (List._∷_ (13, Rows'.any-gone Syntax.tyPtr) (List._∷_ (14, Rows'.any-gone Syntax.tyPtr) (List._∷_ (15, Rows'.any-gone (ColumnMetadataRow.ty)) List.[])))))))))))))))
 
 abbrev pub t31 : List.List Row.Entry
-t31 = List._∷_ (0, Rows'.sc-here Row.sUnit) (List._∷_ (1, Rows'.sslice (Referent.rtF (Referent.fInt Syntax.w8)) (Syntax.tyRef (Syntax.named 0) Syntax.imm (Syntax.tyInt Syntax.w8)) 0) (List._∷_ (2, Rows'.any-gone (ColumnMetadataRow.ty)) (List._∷_ (3, Rows'.any-gone (Syntax.tyArray (ColumnMetadataRow.ty) 16)) (List._∷_ (4, Rows'.any-gone (Syntax.tyStruct (List._∷_ 115 (List._∷_ 113 (List._∷_ 108 (List._∷_ 100 (List._∷_ 97 (List._∷_ 114 (List._∷_ 100 (List._∷_ 58 (List._∷_ 58 (List._∷_ 83 (List._∷_ 113 (List._∷_ 108 (List._∷_ 100 (List._∷_ 97 (List._∷_ 114 (List._∷_ 100 (List._∷_ 65 (List._∷_ 110 (List._∷_ 115 (List._∷_ 119 (List._∷_ 101 (List._∷_ 114 List.[])))))))))))))))))))))) (Syntax.tcons (Syntax.tyEnum (List._∷_ 111 (List._∷_ 117 (List._∷_ 116 (List._∷_ 99 (List._∷_ 111 (List._∷_ 109 (List._∷_ 101 (List._∷_ 58 (List._∷_ 58 (List._∷_ 79 (List._∷_ 117 (List._∷_ 116 (List._∷_ 99 (List._∷_ 111 (List._∷_ 109 (List._∷_ 101 List.[])))))))))))))))) (Syntax.ttcons Syntax.tnil (Syntax.ttcons Syntax.tnil (Syntax.ttcons (Syntax.tcons (Syntax.tyInt Syntax.w64) (Syntax.tcons (Syntax.tyInt Syntax.w64) Syntax.tnil)) (Syntax.ttcons Syntax.tnil (Syntax.ttcons (Syntax.tcons (Syntax.tyInt Syntax.w16) Syntax.tnil) (Syntax.ttcons Syntax.tnil (Syntax.ttcons (Syntax.tcons (Syntax.tyInt Syntax.w64) Syntax.tnil) (Syntax.ttcons Syntax.tnil (Syntax.ttcons (Syntax.tcons (Syntax.tyInt Syntax.w16) Syntax.tnil) Syntax.ttnil)))))))))) (Syntax.tcons (Syntax.tyStruct (List._∷_ 115 (List._∷_ 113 (List._∷_ 108 (List._∷_ 99 (List._∷_ 97 (List._∷_ 114 (List._∷_ 100 (List._∷_ 58 (List._∷_ 58 (List._∷_ 83 (List._∷_ 113 (List._∷_ 108 (List._∷_ 67 (List._∷_ 97 (List._∷_ 114 (List._∷_ 100 List.[])))))))))))))))) (Syntax.tcons Syntax.tyBool (Syntax.tcons (Syntax.tyInt Syntax.w32) (Syntax.tcons (Syntax.tyArray (Syntax.tyInt Syntax.w8) 5) (Syntax.tcons (Syntax.tyArray (Syntax.tyInt Syntax.w8) 8) (Syntax.tcons (Syntax.tyInt Syntax.w8) (Syntax.tcons (Syntax.tyArray (Syntax.tyInt Syntax.w32) 6) (Syntax.tcons (Syntax.tyInt Syntax.w64) (Syntax.tcons (Syntax.tyInt Syntax.w32) (Syntax.tcons (Syntax.tyArray (Syntax.tyInt Syntax.w8) 11) (Syntax.tcons (Syntax.tyInt Syntax.w64) (Syntax.tcons (Syntax.tyInt Syntax.w64) Syntax.tnil)))))))))))) (Syntax.tcons (Syntax.tyInt Syntax.w64) Syntax.tnil))))) (List._∷_ (5, Rows'.any-gone (Syntax.tyInt Syntax.w64)) (List._∷_ (6, Rows'.sc-here (Row.sInt Syntax.w64)) (List._∷_ (7, Rows'.any-gone (ColumnMetadataRow.ty)) (List._∷_ (8, Rows'.any-gone (Syntax.tyRef Syntax.erased Syntax.mut (Syntax.tyArray ColumnMetadataRow.named 16))) (List._∷_ (9, Rows'.any-gone (Syntax.tyStruct (List._∷_ 38 (List._∷_ 91 (List._∷_ 93 List.[]))) (Syntax.tcons (Syntax.tyRef Syntax.erased Syntax.mut ColumnMetadataRow.named) (Syntax.tcons (Syntax.tyInt Syntax.w64) Syntax.tnil)))) (List._∷_ (10, Rows'.any-gone Syntax.tyUnit) (List._∷_ (11, Rows'.any-gone Syntax.tyBool) (List._∷_ (12, Rows'.any-gone (Syntax.tyInt Syntax.w64)) (List._∷_ (13, Rows'.any-gone Syntax.tyPtr) (List._∷_ (14, Rows'.any-gone Syntax.tyPtr) (List._∷_ (15, Rows'.any-gone (ColumnMetadataRow.ty)) List.[])))))))))))))))
+t31 = List._∷_ (0, Rows'.sc-here Row.sUnit) (List._∷_ (1, Rows'.sslice (Referent.rtF (Referent.fInt Syntax.w8)) (Syntax.tyRef (Syntax.named 0) Syntax.imm (Syntax.tyInt Syntax.w8)) 0) (List._∷_ (2, Rows'.any-gone (ColumnMetadataRow.ty)) (List._∷_ (3, Rows'.any-gone (Syntax.tyArray (ColumnMetadataRow.ty) 16)) (List._∷_ (4, Rows'.any-gone (Syntax.tyStruct (List._∷_ 112 (List._∷_ 108 (List._∷_ 97 (List._∷_ 110 (List._∷_ 58 (List._∷_ 58 (List._∷_ 83 (List._∷_ 113 (List._∷_ 108 (List._∷_ 100 (List._∷_ 97 (List._∷_ 114 (List._∷_ 100 (List._∷_ 65 (List._∷_ 110 (List._∷_ 115 (List._∷_ 119 (List._∷_ 101 (List._∷_ 114 List.[]))))))))))))))))))) (Syntax.tcons (Syntax.tyEnum (List._∷_ 111 (List._∷_ 117 (List._∷_ 116 (List._∷_ 99 (List._∷_ 111 (List._∷_ 109 (List._∷_ 101 (List._∷_ 58 (List._∷_ 58 (List._∷_ 79 (List._∷_ 117 (List._∷_ 116 (List._∷_ 99 (List._∷_ 111 (List._∷_ 109 (List._∷_ 101 List.[])))))))))))))))) (Syntax.ttcons Syntax.tnil (Syntax.ttcons Syntax.tnil (Syntax.ttcons (Syntax.tcons (Syntax.tyInt Syntax.w64) (Syntax.tcons (Syntax.tyInt Syntax.w64) Syntax.tnil)) (Syntax.ttcons Syntax.tnil (Syntax.ttcons (Syntax.tcons (Syntax.tyInt Syntax.w16) Syntax.tnil) (Syntax.ttcons Syntax.tnil (Syntax.ttcons (Syntax.tcons (Syntax.tyInt Syntax.w64) Syntax.tnil) (Syntax.ttcons Syntax.tnil (Syntax.ttcons (Syntax.tcons (Syntax.tyInt Syntax.w16) Syntax.tnil) Syntax.ttnil)))))))))) (Syntax.tcons (Syntax.tyStruct (List._∷_ 115 (List._∷_ 113 (List._∷_ 108 (List._∷_ 99 (List._∷_ 97 (List._∷_ 114 (List._∷_ 100 (List._∷_ 58 (List._∷_ 58 (List._∷_ 83 (List._∷_ 113 (List._∷_ 108 (List._∷_ 67 (List._∷_ 97 (List._∷_ 114 (List._∷_ 100 List.[])))))))))))))))) (Syntax.tcons Syntax.tyBool (Syntax.tcons (Syntax.tyInt Syntax.w32) (Syntax.tcons (Syntax.tyArray (Syntax.tyInt Syntax.w8) 5) (Syntax.tcons (Syntax.tyArray (Syntax.tyInt Syntax.w8) 8) (Syntax.tcons (Syntax.tyInt Syntax.w8) (Syntax.tcons (Syntax.tyArray (Syntax.tyInt Syntax.w32) 6) (Syntax.tcons (Syntax.tyInt Syntax.w64) (Syntax.tcons (Syntax.tyInt Syntax.w32) (Syntax.tcons (Syntax.tyArray (Syntax.tyInt Syntax.w8) 11) (Syntax.tcons (Syntax.tyInt Syntax.w64) (Syntax.tcons (Syntax.tyInt Syntax.w64) Syntax.tnil)))))))))))) (Syntax.tcons (Syntax.tyInt Syntax.w64) Syntax.tnil))))) (List._∷_ (5, Rows'.any-gone (Syntax.tyInt Syntax.w64)) (List._∷_ (6, Rows'.sc-here (Row.sInt Syntax.w64)) (List._∷_ (7, Rows'.any-gone (ColumnMetadataRow.ty)) (List._∷_ (8, Rows'.any-gone (Syntax.tyRef Syntax.erased Syntax.mut (Syntax.tyArray ColumnMetadataRow.named 16))) (List._∷_ (9, Rows'.any-gone (Syntax.tyStruct (List._∷_ 38 (List._∷_ 91 (List._∷_ 93 List.[]))) (Syntax.tcons (Syntax.tyRef Syntax.erased Syntax.mut ColumnMetadataRow.named) (Syntax.tcons (Syntax.tyInt Syntax.w64) Syntax.tnil)))) (List._∷_ (10, Rows'.any-gone Syntax.tyUnit) (List._∷_ (11, Rows'.any-gone Syntax.tyBool) (List._∷_ (12, Rows'.any-gone (Syntax.tyInt Syntax.w64)) (List._∷_ (13, Rows'.any-gone Syntax.tyPtr) (List._∷_ (14, Rows'.any-gone Syntax.tyPtr) (List._∷_ (15, Rows'.any-gone (ColumnMetadataRow.ty)) List.[])))))))))))))))
 
 abbrev pub T0 : Row.Cx
 T0 = record { locals = List._++_ t0 t1; slots = List.[] }
@@ -504,7 +504,7 @@ module _ (claims· : Claims) where
   s7 = λ bs. Relend.k-sl-aggregate (ColumnMetadataRow.RT) (Relend.asMut (ColumnMetadataRow.RT)) T8 8 9 1 (Syntax.tyRef Syntax.erased Syntax.mut (Syntax.tyArray ColumnMetadataRow.named 16)) (Syntax.tyRef Syntax.erased Syntax.mut ColumnMetadataRow.named) (λ x. x) (Scalar.oInt Syntax.w64 16)
 
   abbrev s8 : (bs : List.List Nat.ℕ) → Typed.Both T9 T10
-  s8 = λ bs. Call.callB ps·1 r·1 (claims· .2) (claims· .3) T9 (record { pos = 1; ty = Syntax.tyRef (Syntax.named 0) Syntax.imm (Syntax.tyInt Syntax.w8); ref = λ x. x }, (record { pos = 9; ty = Syntax.tyRef Syntax.erased Syntax.mut ColumnMetadataRow.named; ref = λ x. x }, tt)) 4 (List._∷_ 0 (List._∷_ 1 List.[])) (Syntax.tyStruct (List._∷_ 115 (List._∷_ 113 (List._∷_ 108 (List._∷_ 100 (List._∷_ 97 (List._∷_ 114 (List._∷_ 100 (List._∷_ 58 (List._∷_ 58 (List._∷_ 83 (List._∷_ 113 (List._∷_ 108 (List._∷_ 100 (List._∷_ 97 (List._∷_ 114 (List._∷_ 100 (List._∷_ 65 (List._∷_ 110 (List._∷_ 115 (List._∷_ 119 (List._∷_ 101 (List._∷_ 114 List.[])))))))))))))))))))))) (Syntax.tcons (Syntax.tyEnum (List._∷_ 111 (List._∷_ 117 (List._∷_ 116 (List._∷_ 99 (List._∷_ 111 (List._∷_ 109 (List._∷_ 101 (List._∷_ 58 (List._∷_ 58 (List._∷_ 79 (List._∷_ 117 (List._∷_ 116 (List._∷_ 99 (List._∷_ 111 (List._∷_ 109 (List._∷_ 101 List.[])))))))))))))))) (Syntax.ttcons Syntax.tnil (Syntax.ttcons Syntax.tnil (Syntax.ttcons (Syntax.tcons (Syntax.tyInt Syntax.w64) (Syntax.tcons (Syntax.tyInt Syntax.w64) Syntax.tnil)) (Syntax.ttcons Syntax.tnil (Syntax.ttcons (Syntax.tcons (Syntax.tyInt Syntax.w16) Syntax.tnil) (Syntax.ttcons Syntax.tnil (Syntax.ttcons (Syntax.tcons (Syntax.tyInt Syntax.w64) Syntax.tnil) (Syntax.ttcons Syntax.tnil (Syntax.ttcons (Syntax.tcons (Syntax.tyInt Syntax.w16) Syntax.tnil) Syntax.ttnil)))))))))) (Syntax.tcons (Syntax.tyStruct (List._∷_ 115 (List._∷_ 113 (List._∷_ 108 (List._∷_ 99 (List._∷_ 97 (List._∷_ 114 (List._∷_ 100 (List._∷_ 58 (List._∷_ 58 (List._∷_ 83 (List._∷_ 113 (List._∷_ 108 (List._∷_ 67 (List._∷_ 97 (List._∷_ 114 (List._∷_ 100 List.[])))))))))))))))) (Syntax.tcons Syntax.tyBool (Syntax.tcons (Syntax.tyInt Syntax.w32) (Syntax.tcons (Syntax.tyArray (Syntax.tyInt Syntax.w8) 5) (Syntax.tcons (Syntax.tyArray (Syntax.tyInt Syntax.w8) 8) (Syntax.tcons (Syntax.tyInt Syntax.w8) (Syntax.tcons (Syntax.tyArray (Syntax.tyInt Syntax.w32) 6) (Syntax.tcons (Syntax.tyInt Syntax.w64) (Syntax.tcons (Syntax.tyInt Syntax.w32) (Syntax.tcons (Syntax.tyArray (Syntax.tyInt Syntax.w8) 11) (Syntax.tcons (Syntax.tyInt Syntax.w64) (Syntax.tcons (Syntax.tyInt Syntax.w64) Syntax.tnil)))))))))))) (Syntax.tcons (Syntax.tyInt Syntax.w64) Syntax.tnil))))
+  s8 = λ bs. Call.callB ps·1 r·1 (claims· .2) (claims· .3) T9 (record { pos = 1; ty = Syntax.tyRef (Syntax.named 0) Syntax.imm (Syntax.tyInt Syntax.w8); ref = λ x. x }, (record { pos = 9; ty = Syntax.tyRef Syntax.erased Syntax.mut ColumnMetadataRow.named; ref = λ x. x }, tt)) 4 (List._∷_ 0 (List._∷_ 1 List.[])) (Syntax.tyStruct (List._∷_ 112 (List._∷_ 108 (List._∷_ 97 (List._∷_ 110 (List._∷_ 58 (List._∷_ 58 (List._∷_ 83 (List._∷_ 113 (List._∷_ 108 (List._∷_ 100 (List._∷_ 97 (List._∷_ 114 (List._∷_ 100 (List._∷_ 65 (List._∷_ 110 (List._∷_ 115 (List._∷_ 119 (List._∷_ 101 (List._∷_ 114 List.[]))))))))))))))))))) (Syntax.tcons (Syntax.tyEnum (List._∷_ 111 (List._∷_ 117 (List._∷_ 116 (List._∷_ 99 (List._∷_ 111 (List._∷_ 109 (List._∷_ 101 (List._∷_ 58 (List._∷_ 58 (List._∷_ 79 (List._∷_ 117 (List._∷_ 116 (List._∷_ 99 (List._∷_ 111 (List._∷_ 109 (List._∷_ 101 List.[])))))))))))))))) (Syntax.ttcons Syntax.tnil (Syntax.ttcons Syntax.tnil (Syntax.ttcons (Syntax.tcons (Syntax.tyInt Syntax.w64) (Syntax.tcons (Syntax.tyInt Syntax.w64) Syntax.tnil)) (Syntax.ttcons Syntax.tnil (Syntax.ttcons (Syntax.tcons (Syntax.tyInt Syntax.w16) Syntax.tnil) (Syntax.ttcons Syntax.tnil (Syntax.ttcons (Syntax.tcons (Syntax.tyInt Syntax.w64) Syntax.tnil) (Syntax.ttcons Syntax.tnil (Syntax.ttcons (Syntax.tcons (Syntax.tyInt Syntax.w16) Syntax.tnil) Syntax.ttnil)))))))))) (Syntax.tcons (Syntax.tyStruct (List._∷_ 115 (List._∷_ 113 (List._∷_ 108 (List._∷_ 99 (List._∷_ 97 (List._∷_ 114 (List._∷_ 100 (List._∷_ 58 (List._∷_ 58 (List._∷_ 83 (List._∷_ 113 (List._∷_ 108 (List._∷_ 67 (List._∷_ 97 (List._∷_ 114 (List._∷_ 100 List.[])))))))))))))))) (Syntax.tcons Syntax.tyBool (Syntax.tcons (Syntax.tyInt Syntax.w32) (Syntax.tcons (Syntax.tyArray (Syntax.tyInt Syntax.w8) 5) (Syntax.tcons (Syntax.tyArray (Syntax.tyInt Syntax.w8) 8) (Syntax.tcons (Syntax.tyInt Syntax.w8) (Syntax.tcons (Syntax.tyArray (Syntax.tyInt Syntax.w32) 6) (Syntax.tcons (Syntax.tyInt Syntax.w64) (Syntax.tcons (Syntax.tyInt Syntax.w32) (Syntax.tcons (Syntax.tyArray (Syntax.tyInt Syntax.w8) 11) (Syntax.tcons (Syntax.tyInt Syntax.w64) (Syntax.tcons (Syntax.tyInt Syntax.w64) Syntax.tnil)))))))))))) (Syntax.tcons (Syntax.tyInt Syntax.w64) Syntax.tnil))))
 
   abbrev s10 : (bs : List.List Nat.ℕ) → Typed.Both T10 T12
   s10 = λ bs. Borrow.k-back-arr (ColumnMetadataRow.RT) T10 9 3 1 16 (Syntax.tyRef Syntax.erased Syntax.mut ColumnMetadataRow.named) (λ x. x) λ x. x
@@ -516,7 +516,7 @@ module _ (claims· : Claims) where
   s13 = λ bs. Call.callB ps·2 r·2 (claims· .4) (claims· .5) T14 (record { pos = 4; st = List.[]; d = 0; at = λ x. x }, tt) 10 List.[] Syntax.tyUnit
 
   abbrev s14 : (bs : List.List Nat.ℕ) → Typed.Mo T15 → Typed.Mo T16
-  s14 = λ bs. Scalar.n-room T15 4 (Syntax.tyStruct (List._∷_ 115 (List._∷_ 113 (List._∷_ 108 (List._∷_ 100 (List._∷_ 97 (List._∷_ 114 (List._∷_ 100 (List._∷_ 58 (List._∷_ 58 (List._∷_ 83 (List._∷_ 113 (List._∷_ 108 (List._∷_ 100 (List._∷_ 97 (List._∷_ 114 (List._∷_ 100 (List._∷_ 65 (List._∷_ 110 (List._∷_ 115 (List._∷_ 119 (List._∷_ 101 (List._∷_ 114 List.[])))))))))))))))))))))) (Syntax.tcons (Syntax.tyEnum (List._∷_ 111 (List._∷_ 117 (List._∷_ 116 (List._∷_ 99 (List._∷_ 111 (List._∷_ 109 (List._∷_ 101 (List._∷_ 58 (List._∷_ 58 (List._∷_ 79 (List._∷_ 117 (List._∷_ 116 (List._∷_ 99 (List._∷_ 111 (List._∷_ 109 (List._∷_ 101 List.[])))))))))))))))) (Syntax.ttcons Syntax.tnil (Syntax.ttcons Syntax.tnil (Syntax.ttcons (Syntax.tcons (Syntax.tyInt Syntax.w64) (Syntax.tcons (Syntax.tyInt Syntax.w64) Syntax.tnil)) (Syntax.ttcons Syntax.tnil (Syntax.ttcons (Syntax.tcons (Syntax.tyInt Syntax.w16) Syntax.tnil) (Syntax.ttcons Syntax.tnil (Syntax.ttcons (Syntax.tcons (Syntax.tyInt Syntax.w64) Syntax.tnil) (Syntax.ttcons Syntax.tnil (Syntax.ttcons (Syntax.tcons (Syntax.tyInt Syntax.w16) Syntax.tnil) Syntax.ttnil)))))))))) (Syntax.tcons (Syntax.tyStruct (List._∷_ 115 (List._∷_ 113 (List._∷_ 108 (List._∷_ 99 (List._∷_ 97 (List._∷_ 114 (List._∷_ 100 (List._∷_ 58 (List._∷_ 58 (List._∷_ 83 (List._∷_ 113 (List._∷_ 108 (List._∷_ 67 (List._∷_ 97 (List._∷_ 114 (List._∷_ 100 List.[])))))))))))))))) (Syntax.tcons Syntax.tyBool (Syntax.tcons (Syntax.tyInt Syntax.w32) (Syntax.tcons (Syntax.tyArray (Syntax.tyInt Syntax.w8) 5) (Syntax.tcons (Syntax.tyArray (Syntax.tyInt Syntax.w8) 8) (Syntax.tcons (Syntax.tyInt Syntax.w8) (Syntax.tcons (Syntax.tyArray (Syntax.tyInt Syntax.w32) 6) (Syntax.tcons (Syntax.tyInt Syntax.w64) (Syntax.tcons (Syntax.tyInt Syntax.w32) (Syntax.tcons (Syntax.tyArray (Syntax.tyInt Syntax.w8) 11) (Syntax.tcons (Syntax.tyInt Syntax.w64) (Syntax.tcons (Syntax.tyInt Syntax.w64) Syntax.tnil)))))))))))) (Syntax.tcons (Syntax.tyInt Syntax.w64) Syntax.tnil))))
+  s14 = λ bs. Scalar.n-room T15 4 (Syntax.tyStruct (List._∷_ 112 (List._∷_ 108 (List._∷_ 97 (List._∷_ 110 (List._∷_ 58 (List._∷_ 58 (List._∷_ 83 (List._∷_ 113 (List._∷_ 108 (List._∷_ 100 (List._∷_ 97 (List._∷_ 114 (List._∷_ 100 (List._∷_ 65 (List._∷_ 110 (List._∷_ 115 (List._∷_ 119 (List._∷_ 101 (List._∷_ 114 List.[]))))))))))))))))))) (Syntax.tcons (Syntax.tyEnum (List._∷_ 111 (List._∷_ 117 (List._∷_ 116 (List._∷_ 99 (List._∷_ 111 (List._∷_ 109 (List._∷_ 101 (List._∷_ 58 (List._∷_ 58 (List._∷_ 79 (List._∷_ 117 (List._∷_ 116 (List._∷_ 99 (List._∷_ 111 (List._∷_ 109 (List._∷_ 101 List.[])))))))))))))))) (Syntax.ttcons Syntax.tnil (Syntax.ttcons Syntax.tnil (Syntax.ttcons (Syntax.tcons (Syntax.tyInt Syntax.w64) (Syntax.tcons (Syntax.tyInt Syntax.w64) Syntax.tnil)) (Syntax.ttcons Syntax.tnil (Syntax.ttcons (Syntax.tcons (Syntax.tyInt Syntax.w16) Syntax.tnil) (Syntax.ttcons Syntax.tnil (Syntax.ttcons (Syntax.tcons (Syntax.tyInt Syntax.w64) Syntax.tnil) (Syntax.ttcons Syntax.tnil (Syntax.ttcons (Syntax.tcons (Syntax.tyInt Syntax.w16) Syntax.tnil) Syntax.ttnil)))))))))) (Syntax.tcons (Syntax.tyStruct (List._∷_ 115 (List._∷_ 113 (List._∷_ 108 (List._∷_ 99 (List._∷_ 97 (List._∷_ 114 (List._∷_ 100 (List._∷_ 58 (List._∷_ 58 (List._∷_ 83 (List._∷_ 113 (List._∷_ 108 (List._∷_ 67 (List._∷_ 97 (List._∷_ 114 (List._∷_ 100 List.[])))))))))))))))) (Syntax.tcons Syntax.tyBool (Syntax.tcons (Syntax.tyInt Syntax.w32) (Syntax.tcons (Syntax.tyArray (Syntax.tyInt Syntax.w8) 5) (Syntax.tcons (Syntax.tyArray (Syntax.tyInt Syntax.w8) 8) (Syntax.tcons (Syntax.tyInt Syntax.w8) (Syntax.tcons (Syntax.tyArray (Syntax.tyInt Syntax.w32) 6) (Syntax.tcons (Syntax.tyInt Syntax.w64) (Syntax.tcons (Syntax.tyInt Syntax.w32) (Syntax.tcons (Syntax.tyArray (Syntax.tyInt Syntax.w8) 11) (Syntax.tcons (Syntax.tyInt Syntax.w64) (Syntax.tcons (Syntax.tyInt Syntax.w64) Syntax.tnil)))))))))))) (Syntax.tcons (Syntax.tyInt Syntax.w64) Syntax.tnil))))
 
   abbrev s15 : (bs : List.List Nat.ℕ) → Typed.Mo T16 → Typed.Mo T17
   s15 = λ bs. Scalar.n-room T16 10 Syntax.tyUnit
@@ -993,7 +993,7 @@ module _ (claims· : Claims) where
           d31 = Typed.g-pre 𝓤 H A W 𝓣 E G16 G17 b35 Δ0 (Typed.pass T16 T17 (s15 bs)) (at30 bs) (Scalar.g-room 𝓤 H A W E G16 10 Syntax.tyUnit (Scalar.room-sc 𝓤 H A W Row.sUnit)) d30
 
           d32 : Typed.Typed 𝓤 H A 𝓣 E G15 b35 Δ0 (at32 bs)
-          d32 = Typed.g-pre 𝓤 H A W 𝓣 E G15 G16 b35 Δ0 (Typed.pass T15 T16 (s14 bs)) (at31 bs) (Scalar.g-room 𝓤 H A W E G15 4 (Syntax.tyStruct (List._∷_ 115 (List._∷_ 113 (List._∷_ 108 (List._∷_ 100 (List._∷_ 97 (List._∷_ 114 (List._∷_ 100 (List._∷_ 58 (List._∷_ 58 (List._∷_ 83 (List._∷_ 113 (List._∷_ 108 (List._∷_ 100 (List._∷_ 97 (List._∷_ 114 (List._∷_ 100 (List._∷_ 65 (List._∷_ 110 (List._∷_ 115 (List._∷_ 119 (List._∷_ 101 (List._∷_ 114 List.[])))))))))))))))))))))) (Syntax.tcons (Syntax.tyEnum (List._∷_ 111 (List._∷_ 117 (List._∷_ 116 (List._∷_ 99 (List._∷_ 111 (List._∷_ 109 (List._∷_ 101 (List._∷_ 58 (List._∷_ 58 (List._∷_ 79 (List._∷_ 117 (List._∷_ 116 (List._∷_ 99 (List._∷_ 111 (List._∷_ 109 (List._∷_ 101 List.[])))))))))))))))) (Syntax.ttcons Syntax.tnil (Syntax.ttcons Syntax.tnil (Syntax.ttcons (Syntax.tcons (Syntax.tyInt Syntax.w64) (Syntax.tcons (Syntax.tyInt Syntax.w64) Syntax.tnil)) (Syntax.ttcons Syntax.tnil (Syntax.ttcons (Syntax.tcons (Syntax.tyInt Syntax.w16) Syntax.tnil) (Syntax.ttcons Syntax.tnil (Syntax.ttcons (Syntax.tcons (Syntax.tyInt Syntax.w64) Syntax.tnil) (Syntax.ttcons Syntax.tnil (Syntax.ttcons (Syntax.tcons (Syntax.tyInt Syntax.w16) Syntax.tnil) Syntax.ttnil)))))))))) (Syntax.tcons (Syntax.tyStruct (List._∷_ 115 (List._∷_ 113 (List._∷_ 108 (List._∷_ 99 (List._∷_ 97 (List._∷_ 114 (List._∷_ 100 (List._∷_ 58 (List._∷_ 58 (List._∷_ 83 (List._∷_ 113 (List._∷_ 108 (List._∷_ 67 (List._∷_ 97 (List._∷_ 114 (List._∷_ 100 List.[])))))))))))))))) (Syntax.tcons Syntax.tyBool (Syntax.tcons (Syntax.tyInt Syntax.w32) (Syntax.tcons (Syntax.tyArray (Syntax.tyInt Syntax.w8) 5) (Syntax.tcons (Syntax.tyArray (Syntax.tyInt Syntax.w8) 8) (Syntax.tcons (Syntax.tyInt Syntax.w8) (Syntax.tcons (Syntax.tyArray (Syntax.tyInt Syntax.w32) 6) (Syntax.tcons (Syntax.tyInt Syntax.w64) (Syntax.tcons (Syntax.tyInt Syntax.w32) (Syntax.tcons (Syntax.tyArray (Syntax.tyInt Syntax.w8) 11) (Syntax.tcons (Syntax.tyInt Syntax.w64) (Syntax.tcons (Syntax.tyInt Syntax.w64) Syntax.tnil)))))))))))) (Syntax.tcons (Syntax.tyInt Syntax.w64) Syntax.tnil)))) (Local.room-whole 𝓤 H A W (Declared.row SqldardAnswer.the-type) (Syntax.tyStruct (List._∷_ 115 (List._∷_ 113 (List._∷_ 108 (List._∷_ 100 (List._∷_ 97 (List._∷_ 114 (List._∷_ 100 (List._∷_ 58 (List._∷_ 58 (List._∷_ 83 (List._∷_ 113 (List._∷_ 108 (List._∷_ 100 (List._∷_ 97 (List._∷_ 114 (List._∷_ 100 (List._∷_ 65 (List._∷_ 110 (List._∷_ 115 (List._∷_ 119 (List._∷_ 101 (List._∷_ 114 List.[])))))))))))))))))))))) (Syntax.tcons (Syntax.tyEnum (List._∷_ 111 (List._∷_ 117 (List._∷_ 116 (List._∷_ 99 (List._∷_ 111 (List._∷_ 109 (List._∷_ 101 (List._∷_ 58 (List._∷_ 58 (List._∷_ 79 (List._∷_ 117 (List._∷_ 116 (List._∷_ 99 (List._∷_ 111 (List._∷_ 109 (List._∷_ 101 List.[])))))))))))))))) (Syntax.ttcons Syntax.tnil (Syntax.ttcons Syntax.tnil (Syntax.ttcons (Syntax.tcons (Syntax.tyInt Syntax.w64) (Syntax.tcons (Syntax.tyInt Syntax.w64) Syntax.tnil)) (Syntax.ttcons Syntax.tnil (Syntax.ttcons (Syntax.tcons (Syntax.tyInt Syntax.w16) Syntax.tnil) (Syntax.ttcons Syntax.tnil (Syntax.ttcons (Syntax.tcons (Syntax.tyInt Syntax.w64) Syntax.tnil) (Syntax.ttcons Syntax.tnil (Syntax.ttcons (Syntax.tcons (Syntax.tyInt Syntax.w16) Syntax.tnil) Syntax.ttnil)))))))))) (Syntax.tcons (Syntax.tyStruct (List._∷_ 115 (List._∷_ 113 (List._∷_ 108 (List._∷_ 99 (List._∷_ 97 (List._∷_ 114 (List._∷_ 100 (List._∷_ 58 (List._∷_ 58 (List._∷_ 83 (List._∷_ 113 (List._∷_ 108 (List._∷_ 67 (List._∷_ 97 (List._∷_ 114 (List._∷_ 100 List.[])))))))))))))))) (Syntax.tcons Syntax.tyBool (Syntax.tcons (Syntax.tyInt Syntax.w32) (Syntax.tcons (Syntax.tyArray (Syntax.tyInt Syntax.w8) 5) (Syntax.tcons (Syntax.tyArray (Syntax.tyInt Syntax.w8) 8) (Syntax.tcons (Syntax.tyInt Syntax.w8) (Syntax.tcons (Syntax.tyArray (Syntax.tyInt Syntax.w32) 6) (Syntax.tcons (Syntax.tyInt Syntax.w64) (Syntax.tcons (Syntax.tyInt Syntax.w32) (Syntax.tcons (Syntax.tyArray (Syntax.tyInt Syntax.w8) 11) (Syntax.tcons (Syntax.tyInt Syntax.w64) (Syntax.tcons (Syntax.tyInt Syntax.w64) Syntax.tnil)))))))))))) (Syntax.tcons (Syntax.tyInt Syntax.w64) Syntax.tnil)))) Path'.refl)) d31
+          d32 = Typed.g-pre 𝓤 H A W 𝓣 E G15 G16 b35 Δ0 (Typed.pass T15 T16 (s14 bs)) (at31 bs) (Scalar.g-room 𝓤 H A W E G15 4 (Syntax.tyStruct (List._∷_ 112 (List._∷_ 108 (List._∷_ 97 (List._∷_ 110 (List._∷_ 58 (List._∷_ 58 (List._∷_ 83 (List._∷_ 113 (List._∷_ 108 (List._∷_ 100 (List._∷_ 97 (List._∷_ 114 (List._∷_ 100 (List._∷_ 65 (List._∷_ 110 (List._∷_ 115 (List._∷_ 119 (List._∷_ 101 (List._∷_ 114 List.[]))))))))))))))))))) (Syntax.tcons (Syntax.tyEnum (List._∷_ 111 (List._∷_ 117 (List._∷_ 116 (List._∷_ 99 (List._∷_ 111 (List._∷_ 109 (List._∷_ 101 (List._∷_ 58 (List._∷_ 58 (List._∷_ 79 (List._∷_ 117 (List._∷_ 116 (List._∷_ 99 (List._∷_ 111 (List._∷_ 109 (List._∷_ 101 List.[])))))))))))))))) (Syntax.ttcons Syntax.tnil (Syntax.ttcons Syntax.tnil (Syntax.ttcons (Syntax.tcons (Syntax.tyInt Syntax.w64) (Syntax.tcons (Syntax.tyInt Syntax.w64) Syntax.tnil)) (Syntax.ttcons Syntax.tnil (Syntax.ttcons (Syntax.tcons (Syntax.tyInt Syntax.w16) Syntax.tnil) (Syntax.ttcons Syntax.tnil (Syntax.ttcons (Syntax.tcons (Syntax.tyInt Syntax.w64) Syntax.tnil) (Syntax.ttcons Syntax.tnil (Syntax.ttcons (Syntax.tcons (Syntax.tyInt Syntax.w16) Syntax.tnil) Syntax.ttnil)))))))))) (Syntax.tcons (Syntax.tyStruct (List._∷_ 115 (List._∷_ 113 (List._∷_ 108 (List._∷_ 99 (List._∷_ 97 (List._∷_ 114 (List._∷_ 100 (List._∷_ 58 (List._∷_ 58 (List._∷_ 83 (List._∷_ 113 (List._∷_ 108 (List._∷_ 67 (List._∷_ 97 (List._∷_ 114 (List._∷_ 100 List.[])))))))))))))))) (Syntax.tcons Syntax.tyBool (Syntax.tcons (Syntax.tyInt Syntax.w32) (Syntax.tcons (Syntax.tyArray (Syntax.tyInt Syntax.w8) 5) (Syntax.tcons (Syntax.tyArray (Syntax.tyInt Syntax.w8) 8) (Syntax.tcons (Syntax.tyInt Syntax.w8) (Syntax.tcons (Syntax.tyArray (Syntax.tyInt Syntax.w32) 6) (Syntax.tcons (Syntax.tyInt Syntax.w64) (Syntax.tcons (Syntax.tyInt Syntax.w32) (Syntax.tcons (Syntax.tyArray (Syntax.tyInt Syntax.w8) 11) (Syntax.tcons (Syntax.tyInt Syntax.w64) (Syntax.tcons (Syntax.tyInt Syntax.w64) Syntax.tnil)))))))))))) (Syntax.tcons (Syntax.tyInt Syntax.w64) Syntax.tnil)))) (Local.room-whole 𝓤 H A W (Declared.row SqldardAnswer.the-type) (Syntax.tyStruct (List._∷_ 112 (List._∷_ 108 (List._∷_ 97 (List._∷_ 110 (List._∷_ 58 (List._∷_ 58 (List._∷_ 83 (List._∷_ 113 (List._∷_ 108 (List._∷_ 100 (List._∷_ 97 (List._∷_ 114 (List._∷_ 100 (List._∷_ 65 (List._∷_ 110 (List._∷_ 115 (List._∷_ 119 (List._∷_ 101 (List._∷_ 114 List.[]))))))))))))))))))) (Syntax.tcons (Syntax.tyEnum (List._∷_ 111 (List._∷_ 117 (List._∷_ 116 (List._∷_ 99 (List._∷_ 111 (List._∷_ 109 (List._∷_ 101 (List._∷_ 58 (List._∷_ 58 (List._∷_ 79 (List._∷_ 117 (List._∷_ 116 (List._∷_ 99 (List._∷_ 111 (List._∷_ 109 (List._∷_ 101 List.[])))))))))))))))) (Syntax.ttcons Syntax.tnil (Syntax.ttcons Syntax.tnil (Syntax.ttcons (Syntax.tcons (Syntax.tyInt Syntax.w64) (Syntax.tcons (Syntax.tyInt Syntax.w64) Syntax.tnil)) (Syntax.ttcons Syntax.tnil (Syntax.ttcons (Syntax.tcons (Syntax.tyInt Syntax.w16) Syntax.tnil) (Syntax.ttcons Syntax.tnil (Syntax.ttcons (Syntax.tcons (Syntax.tyInt Syntax.w64) Syntax.tnil) (Syntax.ttcons Syntax.tnil (Syntax.ttcons (Syntax.tcons (Syntax.tyInt Syntax.w16) Syntax.tnil) Syntax.ttnil)))))))))) (Syntax.tcons (Syntax.tyStruct (List._∷_ 115 (List._∷_ 113 (List._∷_ 108 (List._∷_ 99 (List._∷_ 97 (List._∷_ 114 (List._∷_ 100 (List._∷_ 58 (List._∷_ 58 (List._∷_ 83 (List._∷_ 113 (List._∷_ 108 (List._∷_ 67 (List._∷_ 97 (List._∷_ 114 (List._∷_ 100 List.[])))))))))))))))) (Syntax.tcons Syntax.tyBool (Syntax.tcons (Syntax.tyInt Syntax.w32) (Syntax.tcons (Syntax.tyArray (Syntax.tyInt Syntax.w8) 5) (Syntax.tcons (Syntax.tyArray (Syntax.tyInt Syntax.w8) 8) (Syntax.tcons (Syntax.tyInt Syntax.w8) (Syntax.tcons (Syntax.tyArray (Syntax.tyInt Syntax.w32) 6) (Syntax.tcons (Syntax.tyInt Syntax.w64) (Syntax.tcons (Syntax.tyInt Syntax.w32) (Syntax.tcons (Syntax.tyArray (Syntax.tyInt Syntax.w8) 11) (Syntax.tcons (Syntax.tyInt Syntax.w64) (Syntax.tcons (Syntax.tyInt Syntax.w64) Syntax.tnil)))))))))))) (Syntax.tcons (Syntax.tyInt Syntax.w64) Syntax.tnil)))) Path'.refl)) d31
 
           d33 : Typed.Typed 𝓤 H A 𝓣 E G14 b36 Δ0 (at33 bs)
           d33 = Typed.s-seq 𝓤 H A W 𝓣 E G14 G15 b6 b35 Δ0 (Typed.both (s13 bs)) (at32 bs) (Plain.t-call-plain 𝓤 H A W 𝓣 0 ps·2 r·2 (claims· .4) (claims· .5) "edges::put_head" (known .2) E (λ pos β. β) G14 (record { pos = 4; st = List.[]; d = 0; at = λ x. x }, tt) 10 List.[] (Call.sub-id 𝓤 H A W (G14 .slots)) ((Yields.yields-copy 𝓤 H A W (λ ρ. Unit) (Declared.row SqldardAnswer.the-type) Path'.refl (Copies.cStruct SqldardAnswer.the-type Laws.the-laws Laws.the-copy .copy 𝓤 H A W) (Rows'.whole (Declared.row SqldardAnswer.the-type)) (λ x. x) (λ x. x) (λ ρ told. Local.mem-whole 𝓤 H A W (Declared.row SqldardAnswer.the-type) ρ) λ ρ told. Local.whole-mem 𝓤 H A W (Declared.row SqldardAnswer.the-type) ρ, Path'.refl), tt) (Reads'.room-gone 𝓤 H A Syntax.tyUnit) tt Path'.refl) d32
@@ -1011,7 +1011,7 @@ module _ (claims· : Claims) where
           d37 = Typed.g-pre 𝓤 H A W 𝓣 E G10 G11 b37 Δ0 (λ Ψ. Ψ) (at36 bs) (Lifetime.g-end 𝓤 H A W E G10 1 Path'.refl) d36
 
           d38 : Typed.Typed 𝓤 H A 𝓣 E G9 b38 Δ0 (at38 bs)
-          d38 = Typed.s-seq 𝓤 H A W 𝓣 E G9 G10 b4 b37 Δ0 (Typed.both (s8 bs)) (at37 bs) (Plain.t-call-plain 𝓤 H A W 𝓣 2 ps·1 r·1 (claims· .2) (claims· .3) "sqldard::parse_sqldard_data" (known .1) E (λ pos β. β) G9 (record { pos = 1; ty = Syntax.tyRef (Syntax.named 0) Syntax.imm (Syntax.tyInt Syntax.w8); ref = λ x. x }, (record { pos = 9; ty = Syntax.tyRef Syntax.erased Syntax.mut ColumnMetadataRow.named; ref = λ x. x }, tt)) 4 (List._∷_ 0 (List._∷_ 1 List.[])) (Call.sub-id 𝓤 H A W (G9 .slots)) (ShrSlice.spares-sslice 𝓤 H A W (Referent.rtF (Referent.fInt Syntax.w8)) (Syntax.tyRef (Syntax.named 0) Syntax.imm (Syntax.tyInt Syntax.w8)) 0, Shared.reads-sslice 𝓤 H A W (Referent.rtF (Referent.fInt Syntax.w8)) (Syntax.tyRef (Syntax.named 0) Syntax.imm (Syntax.tyInt Syntax.w8)) 0, Path'.refl, (Reads'.as-is 𝓤 H A (Mut.mslice (ColumnMetadataRow.RT) (Syntax.tyRef Syntax.erased Syntax.mut ColumnMetadataRow.named) 1), Mut.reads-mslice 𝓤 H A W (ColumnMetadataRow.RT) (Syntax.tyRef Syntax.erased Syntax.mut ColumnMetadataRow.named) 1, Path'.refl, tt)) (Reads'.room-gone 𝓤 H A (Syntax.tyStruct (List._∷_ 115 (List._∷_ 113 (List._∷_ 108 (List._∷_ 100 (List._∷_ 97 (List._∷_ 114 (List._∷_ 100 (List._∷_ 58 (List._∷_ 58 (List._∷_ 83 (List._∷_ 113 (List._∷_ 108 (List._∷_ 100 (List._∷_ 97 (List._∷_ 114 (List._∷_ 100 (List._∷_ 65 (List._∷_ 110 (List._∷_ 115 (List._∷_ 119 (List._∷_ 101 (List._∷_ 114 List.[])))))))))))))))))))))) (Syntax.tcons (Syntax.tyEnum (List._∷_ 111 (List._∷_ 117 (List._∷_ 116 (List._∷_ 99 (List._∷_ 111 (List._∷_ 109 (List._∷_ 101 (List._∷_ 58 (List._∷_ 58 (List._∷_ 79 (List._∷_ 117 (List._∷_ 116 (List._∷_ 99 (List._∷_ 111 (List._∷_ 109 (List._∷_ 101 List.[])))))))))))))))) (Syntax.ttcons Syntax.tnil (Syntax.ttcons Syntax.tnil (Syntax.ttcons (Syntax.tcons (Syntax.tyInt Syntax.w64) (Syntax.tcons (Syntax.tyInt Syntax.w64) Syntax.tnil)) (Syntax.ttcons Syntax.tnil (Syntax.ttcons (Syntax.tcons (Syntax.tyInt Syntax.w16) Syntax.tnil) (Syntax.ttcons Syntax.tnil (Syntax.ttcons (Syntax.tcons (Syntax.tyInt Syntax.w64) Syntax.tnil) (Syntax.ttcons Syntax.tnil (Syntax.ttcons (Syntax.tcons (Syntax.tyInt Syntax.w16) Syntax.tnil) Syntax.ttnil)))))))))) (Syntax.tcons (Syntax.tyStruct (List._∷_ 115 (List._∷_ 113 (List._∷_ 108 (List._∷_ 99 (List._∷_ 97 (List._∷_ 114 (List._∷_ 100 (List._∷_ 58 (List._∷_ 58 (List._∷_ 83 (List._∷_ 113 (List._∷_ 108 (List._∷_ 67 (List._∷_ 97 (List._∷_ 114 (List._∷_ 100 List.[])))))))))))))))) (Syntax.tcons Syntax.tyBool (Syntax.tcons (Syntax.tyInt Syntax.w32) (Syntax.tcons (Syntax.tyArray (Syntax.tyInt Syntax.w8) 5) (Syntax.tcons (Syntax.tyArray (Syntax.tyInt Syntax.w8) 8) (Syntax.tcons (Syntax.tyInt Syntax.w8) (Syntax.tcons (Syntax.tyArray (Syntax.tyInt Syntax.w32) 6) (Syntax.tcons (Syntax.tyInt Syntax.w64) (Syntax.tcons (Syntax.tyInt Syntax.w32) (Syntax.tcons (Syntax.tyArray (Syntax.tyInt Syntax.w8) 11) (Syntax.tcons (Syntax.tyInt Syntax.w64) (Syntax.tcons (Syntax.tyInt Syntax.w64) Syntax.tnil)))))))))))) (Syntax.tcons (Syntax.tyInt Syntax.w64) Syntax.tnil))))) (tt, (tt, tt)) Path'.refl) d37
+          d38 = Typed.s-seq 𝓤 H A W 𝓣 E G9 G10 b4 b37 Δ0 (Typed.both (s8 bs)) (at37 bs) (Plain.t-call-plain 𝓤 H A W 𝓣 2 ps·1 r·1 (claims· .2) (claims· .3) "sqldard::parse_sqldard_data" (known .1) E (λ pos β. β) G9 (record { pos = 1; ty = Syntax.tyRef (Syntax.named 0) Syntax.imm (Syntax.tyInt Syntax.w8); ref = λ x. x }, (record { pos = 9; ty = Syntax.tyRef Syntax.erased Syntax.mut ColumnMetadataRow.named; ref = λ x. x }, tt)) 4 (List._∷_ 0 (List._∷_ 1 List.[])) (Call.sub-id 𝓤 H A W (G9 .slots)) (ShrSlice.spares-sslice 𝓤 H A W (Referent.rtF (Referent.fInt Syntax.w8)) (Syntax.tyRef (Syntax.named 0) Syntax.imm (Syntax.tyInt Syntax.w8)) 0, Shared.reads-sslice 𝓤 H A W (Referent.rtF (Referent.fInt Syntax.w8)) (Syntax.tyRef (Syntax.named 0) Syntax.imm (Syntax.tyInt Syntax.w8)) 0, Path'.refl, (Reads'.as-is 𝓤 H A (Mut.mslice (ColumnMetadataRow.RT) (Syntax.tyRef Syntax.erased Syntax.mut ColumnMetadataRow.named) 1), Mut.reads-mslice 𝓤 H A W (ColumnMetadataRow.RT) (Syntax.tyRef Syntax.erased Syntax.mut ColumnMetadataRow.named) 1, Path'.refl, tt)) (Reads'.room-gone 𝓤 H A (Syntax.tyStruct (List._∷_ 112 (List._∷_ 108 (List._∷_ 97 (List._∷_ 110 (List._∷_ 58 (List._∷_ 58 (List._∷_ 83 (List._∷_ 113 (List._∷_ 108 (List._∷_ 100 (List._∷_ 97 (List._∷_ 114 (List._∷_ 100 (List._∷_ 65 (List._∷_ 110 (List._∷_ 115 (List._∷_ 119 (List._∷_ 101 (List._∷_ 114 List.[]))))))))))))))))))) (Syntax.tcons (Syntax.tyEnum (List._∷_ 111 (List._∷_ 117 (List._∷_ 116 (List._∷_ 99 (List._∷_ 111 (List._∷_ 109 (List._∷_ 101 (List._∷_ 58 (List._∷_ 58 (List._∷_ 79 (List._∷_ 117 (List._∷_ 116 (List._∷_ 99 (List._∷_ 111 (List._∷_ 109 (List._∷_ 101 List.[])))))))))))))))) (Syntax.ttcons Syntax.tnil (Syntax.ttcons Syntax.tnil (Syntax.ttcons (Syntax.tcons (Syntax.tyInt Syntax.w64) (Syntax.tcons (Syntax.tyInt Syntax.w64) Syntax.tnil)) (Syntax.ttcons Syntax.tnil (Syntax.ttcons (Syntax.tcons (Syntax.tyInt Syntax.w16) Syntax.tnil) (Syntax.ttcons Syntax.tnil (Syntax.ttcons (Syntax.tcons (Syntax.tyInt Syntax.w64) Syntax.tnil) (Syntax.ttcons Syntax.tnil (Syntax.ttcons (Syntax.tcons (Syntax.tyInt Syntax.w16) Syntax.tnil) Syntax.ttnil)))))))))) (Syntax.tcons (Syntax.tyStruct (List._∷_ 115 (List._∷_ 113 (List._∷_ 108 (List._∷_ 99 (List._∷_ 97 (List._∷_ 114 (List._∷_ 100 (List._∷_ 58 (List._∷_ 58 (List._∷_ 83 (List._∷_ 113 (List._∷_ 108 (List._∷_ 67 (List._∷_ 97 (List._∷_ 114 (List._∷_ 100 List.[])))))))))))))))) (Syntax.tcons Syntax.tyBool (Syntax.tcons (Syntax.tyInt Syntax.w32) (Syntax.tcons (Syntax.tyArray (Syntax.tyInt Syntax.w8) 5) (Syntax.tcons (Syntax.tyArray (Syntax.tyInt Syntax.w8) 8) (Syntax.tcons (Syntax.tyInt Syntax.w8) (Syntax.tcons (Syntax.tyArray (Syntax.tyInt Syntax.w32) 6) (Syntax.tcons (Syntax.tyInt Syntax.w64) (Syntax.tcons (Syntax.tyInt Syntax.w32) (Syntax.tcons (Syntax.tyArray (Syntax.tyInt Syntax.w8) 11) (Syntax.tcons (Syntax.tyInt Syntax.w64) (Syntax.tcons (Syntax.tyInt Syntax.w64) Syntax.tnil)))))))))))) (Syntax.tcons (Syntax.tyInt Syntax.w64) Syntax.tnil))))) (tt, (tt, tt)) Path'.refl) d37
 
           d39 : Typed.Typed 𝓤 H A 𝓣 E G8 b39 Δ0 (at39 bs)
           d39 = Typed.s-seq 𝓤 H A W 𝓣 E G8 G9 b3 b38 Δ0 (Typed.ask (s7 bs)) (at38 bs) (Relend.t-sl-aggregate 𝓤 H A W E (ColumnMetadataRow.RT) 𝓣 (Relend.asMut (ColumnMetadataRow.RT)) G8 8 9 1 (Syntax.tyRef Syntax.erased Syntax.mut (Syntax.tyArray ColumnMetadataRow.named 16)) (Syntax.tyRef Syntax.erased Syntax.mut ColumnMetadataRow.named) (λ x. x) (Scalar.oInt Syntax.w64 16) (Reads'.as-is 𝓤 H A (Relend.msptr (ColumnMetadataRow.RT) (Syntax.tyRef Syntax.erased Syntax.mut (Syntax.tyArray ColumnMetadataRow.named 16)) 1)) (Reads'.room-gone 𝓤 H A (Syntax.tyStruct (List._∷_ 38 (List._∷_ 91 (List._∷_ 93 List.[]))) (Syntax.tcons (Syntax.tyRef Syntax.erased Syntax.mut ColumnMetadataRow.named) (Syntax.tcons (Syntax.tyInt Syntax.w64) Syntax.tnil)))) tt Path'.refl Path'.refl λ b o k. tt) d38

@@ -1,7 +1,7 @@
 -- Made by tools/lists.py from the source of `sqldard::parse_sqldard_data`: do not edit.
 use Rattle.sqldard.proofs.ColumnMetadataRow as ColumnMetadataRow
-use Rattle.sqldard.proofs.SqldardAnswer
-use Rattle.sqldard.proofs.SqldardAnswer.Laws
+use Rattle.plan.proofs.SqldardAnswer
+use Rattle.plan.proofs.SqldardAnswer.Laws
 use borrow.Fn.Kinds
 use borrow.Kind.MutSlice
 use borrow.Kind.ShrSlice

@@ -13,13 +13,13 @@ use Rattle.codepage.specs.Page.{Page}
 use Rattle.outcome.specs.Refusal.{refusalOf, isRefused}
 use Rattle.types.specs.declared.ColumnMetadata.{ColumnMetadata}
 use Rattle.planned.specs.declared.Plan.{Plan}
 use Rattle.plan.specs.Choice.{Reading, choice}
 use Rattle.planned.specs.Planned.{columnsOf, walkOf}
 use Rattle.plan.specs.Plan.{planOf, readingOf}
 use Rattle.plan.proofs.Choices.{plan-reads}
-use Rattle.sqldard.specs.Description.{Description, refusedWith, statusOf, answerBy, description, withCodePoint}
-use Rattle.sqldard.specs.declared.Decision.{Decision}
-use Rattle.sqldard.specs.Decision.{Decides}
+use Rattle.plan.specs.Description.{Description, refusedWith, statusOf, answerBy, description, withCodePoint}
+use Rattle.plan.specs.declared.Decision.{Decision}
+use Rattle.plan.specs.Decision.{Decides}
 
 -- a plan of at most 0 descriptors is of no columns
 pub no-columns : (page : Page) (s : List ℕ) (plan : Plan) → plan .limit ≡ 0 → columnsOf page s plan ≡ []

@@ -2,8 +2,8 @@
 use mathlib.Core.Bool.{true, false}
 use mathlib.Core.Path.{_≡_}
 use borrow.Author.Needs.{needs}
-use Rattle.sqldard.proofs.card_by.Statement.{statement}
-use Rattle.sqldard.proofs.card_by.Tie as tie
+use Rattle.plan.proofs.card_by.Statement.{statement}
+use Rattle.plan.proofs.card_by.Tie as tie
 
 returns : tie.Need-returns
 returns c = let e : c .before .before .before .before .args .alone ≡ true = c .before .before .if1 .taken in rw e (c .before .parse-sqlcard-data .ensures .1)

@@ -6,8 +6,8 @@ use lib.ListN.{length}
 use Rattle.codepage.specs.Page.{Page}
 use Rattle.outcome.specs.Refusal.{refusalOf}
 use Rattle.planned.specs.Planned.{columnsOf}
-use Rattle.sqldard.specs.declared.Decision.{Decision}
-use Rattle.sqldard.specs.Description.{Description}
+use Rattle.plan.specs.declared.Decision.{Decision}
+use Rattle.plan.specs.Description.{Description}
 
 -- a decision on a reply s carries a description out: its answer says the same, and its plan is of just those columns (01, Answers)
 pub record Decides (page : Page) (room : ℕ) (s : List ℕ) (decision : Decision) (wanted : Description) : Type 0 where

@@ -4,11 +4,11 @@ use mathlib.Core.Path.{refl, ap, subst, _∙_}
 use native.Mathlib.Omega.{arith}
 use borrow.Author.Needs.{needs}
 use Rattle.codepage.specs.Page.{page037}
-use Rattle.sqldard.specs.Decision.{Decides}
-use Rattle.sqldard.specs.Description.{refusedWith}
-use Rattle.sqldard.proofs.Deciding.{too-long, not-read, too-short, in-room}
-use Rattle.sqldard.proofs.decide.Statement.{statement}
-use Rattle.sqldard.proofs.decide.Tie as tie
+use Rattle.plan.specs.Decision.{Decides}
+use Rattle.plan.specs.Description.{refusedWith}
+use Rattle.plan.proofs.Deciding.{too-long, not-read, too-short, in-room}
+use Rattle.plan.proofs.decide.Statement.{statement}
+use Rattle.plan.proofs.decide.Tie as tie
 
 returns : tie.Need-returns
 returns c =

@@ -1,10 +1,10 @@
 use mathlib.Core.Path.{subst}
 use borrow.Author.Needs.{needs}
 use Rattle.codepage.specs.Page.{page037}
-use Rattle.sqldard.specs.Decision.{Decides}
-use Rattle.sqldard.proofs.Deciding.{own-point, other-point}
-use Rattle.sqldard.proofs.decide_at.Statement.{statement}
-use Rattle.sqldard.proofs.decide_at.Tie as tie
+use Rattle.plan.specs.Decision.{Decides}
+use Rattle.plan.proofs.Deciding.{own-point, other-point}
+use Rattle.plan.proofs.decide_at.Statement.{statement}
+use Rattle.plan.proofs.decide_at.Tie as tie
 
 returns : tie.Need-returns
 returns c =
