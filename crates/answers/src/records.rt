@@ -83,8 +83,8 @@ fn number_at(bytes: &[u8], at: usize, width: u8) -> u64 {
 
 // What the type with this code takes of a value: nothing where it has none, the low 8 bits for DecFloat.
 fn value_taken(code: u64, value: u64) -> u64 {
-    let db2_type = column_words::type_with(code, (value % 65536) as u16);
-    column_words::type_value(db2_type)
+    let db2_type = sqlda::type_with(code, (value % 65536) as u16);
+    sqlda::type_value(db2_type)
 }
 
 // Field `i` of a record.

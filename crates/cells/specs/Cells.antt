@@ -8,7 +8,7 @@ use Rattle.decimal.specs.Decimal.{decimalOf}
 use Rattle.types.specs.declared.ColumnMetadata.{ColumnMetadata}
 use Rattle.types.specs.declared.Db2Type.{Db2Type}
 use Rattle.sqlda.specs.Types.{codeOf}
-use Rattle.column_words.specs.Words.{valueOf}
+use Rattle.sqlda.specs.Codes.{valueOf}
 use Rattle.line.specs.Line.{padded}
 
 -- the codes of types that have one value: DecFloat, Char, VarChar, Graphic, VarGraphic, Binary, VarBinary, RowId (01, Types and lengths)

@@ -56,8 +56,8 @@ fn append_values(line: &mut [u8], used: usize, code: u8, value: u64) -> usize
 pub fn append_type(line: &mut [u8], used: usize, letters: &[u8], db2_type: Db2Type) -> usize
     ensures { λ r. ⌜ Appended (now (line .entry)) used (typeText (now (letters .entry)) «db2_type») (now (line .exit)) r ⌝ }
 {
-    let code = column_words::type_code(db2_type);
-    let value = column_words::type_value(db2_type);
+    let code = sqlda::type_code(db2_type);
+    let value = sqlda::type_value(db2_type);
     let next = line::append(line, used, letters);
     append_values(line, next, code, value)
 }

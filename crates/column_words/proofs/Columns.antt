@@ -1,20 +1,20 @@
 -- What words of columns say.
-use mathlib.Core.Bool.{Bool, true, false, _&&_, and-eq-true-iff}
+use mathlib.Core.Bool.{true, false, _&&_, and-eq-true-iff}
 use mathlib.Core.Path.{_≡_, refl, sym, ap, _∙_}
-use mathlib.Core.List.{List, [], _∷_, _++_}
+use mathlib.Core.List.{List}
 use Prim.Native.Nat.{ℕ, zero, suc, _+_, _*_, _-_, _/_, _%_, _≤_, _<_}
 use native.Mathlib.Nat.{add-assoc}
 use native.Mathlib.Omega.{arith}
-use lib.Dec.{eqb, ltb}
+use lib.Dec.{eqb}
 use lib.ListN.{length, getD}
 use borrow.Author.Tests.{ltb-true, eq-eqb, ne-eqb}
-use Rattle.search.specs.Search.{pick}
 use Rattle.field.specs.declared.ByteOrder.{ByteOrder}
 use Rattle.text.specs.declared.Text.{Text}
 use Rattle.types.specs.declared.ColumnMetadata.{ColumnMetadata}
 use Rattle.types.specs.declared.Db2Type.{Db2Type}
+use Rattle.sqlda.specs.Codes.{typeWith, isType}
 use Rattle.column.specs.Numbers.{orderOf, textFrom}
-use Rattle.column_words.specs.Columns.{typeWith, isType, numbersFit, alphabetsFit, columnIn, isColumn, columnsFrom, areFrom, columnsIn, areColumns}
+use Rattle.column_words.specs.Columns.{numbersFit, alphabetsFit, columnIn, isColumn, columnsFrom, areFrom, columnsIn, areColumns}
 
 -- the fields of a record that words from `at` on fit
 pub record FitsAt (w : List ℕ) (at : ℕ) : Type 0 where
@@ -180,8 +180,3 @@ column-is w at t o a b c d et eo ea eb ec ed =
       «base_table_name» = nc i;
       «schema_name» = nd i;
     }
-
--- the type past the last code, whether or not it is Xml's
-pub same-either : (b : Bool) (t : Db2Type) → t ≡ pick b t t
-same-either true t = refl
-same-either false t = refl

@@ -9,8 +9,9 @@ use Rattle.search.specs.Search.{pick}
 use Rattle.search.proofs.Writing.{blocks-length}
 use Rattle.types.specs.declared.ColumnMetadata.{ColumnMetadata}
 use Rattle.sqlda.specs.Types.{codeOf}
+use Rattle.sqlda.specs.Codes.{valueOf}
 use Rattle.column.specs.Numbers.{orderNumber, textNumbers}
-use Rattle.column_words.specs.Words.{valueOf, wordsOf, allWords}
+use Rattle.column_words.specs.Words.{wordsOf, allWords}
 
 pub words-length : (c : ColumnMetadata) → length (wordsOf c) ≡ 22
 unfolding wordsOf

@@ -1,31 +1,12 @@
 -- The columns that words of 64 bits stand for, 22 a column (01, Answers: a record).
 use mathlib.Core.Bool.{Bool, true, _&&_}
 use mathlib.Core.List.{List, [], _∷_}
-use Prim.Native.Nat.{ℕ, zero, suc, _+_, _/_, _%_, _<_}
+use Prim.Native.Nat.{ℕ, zero, suc, _+_, _/_, _%_}
 use lib.Dec.{eqb, ltb}
 use lib.ListN.{length, getD}
-use Rattle.search.specs.Search.{firstIn}
-use Rattle.text.specs.declared.Text.{Text}
 use Rattle.types.specs.declared.ColumnMetadata.{ColumnMetadata}
-use Rattle.types.specs.declared.Db2Type.{Db2Type}
-use Rattle.sqlda.specs.Types.{codeOf}
+use Rattle.sqlda.specs.Codes.{typeWith, isType}
 use Rattle.column.specs.Numbers.{orderOf, textFrom}
-use Rattle.column_words.specs.Words.{valueOf}
-
--- every type, with what the value v says of it: a length, digits, or precision × 256 + scale (01, Types and lengths)
-abbrev pub typesWith : ℕ → List Db2Type
-typesWith v =
-    Db2Type.SmallInt ∷ Db2Type.Integer ∷ Db2Type.BigInt ∷ Db2Type.Real ∷ Db2Type.Double ∷ Db2Type.Decimal (v / 256) (v % 256) ∷ Db2Type.DecFloat (v % 256) ∷
-    Db2Type.Char v ∷ Db2Type.VarChar v ∷ Db2Type.Clob ∷ Db2Type.Binary v ∷ Db2Type.VarBinary v ∷ Db2Type.Blob ∷ Db2Type.Date ∷ Db2Type.Time ∷
-    Db2Type.Timestamp ∷ Db2Type.Graphic v ∷ Db2Type.VarGraphic v ∷ Db2Type.DbClob ∷ Db2Type.RowId v ∷ Db2Type.Boolean ∷ Db2Type.Xml ∷ []
-
--- the type that has this code, with what v says of it; Xml where there is none (01, Types and lengths: code)
-unfoldable pub typeWith : ℕ → ℕ → Db2Type
-typeWith code v = firstIn (λ t. eqb code (codeOf t)) (typesWith v) Db2Type.Xml
-
--- two words are those of a type: there is one that has just them (01, Types and lengths)
-unfoldable pub isType : ℕ → ℕ → Bool
-isType code v = ltb v 65536 && (eqb (codeOf (typeWith code v)) code && eqb (valueOf (typeWith code v)) v)
 
 -- the record whose words start at `at`, whatever they are (01, Answers: a record)
 unfoldable pub columnIn : List ℕ → ℕ → ColumnMetadata

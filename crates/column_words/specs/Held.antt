@@ -1,33 +1,8 @@
 -- Records as a program can hold them: each field has its width (01, Answers: a record).
 use mathlib.Core.List.{List, [], _∷_}
-use Prim.Native.Nat.{ℕ, _<_}
+use Prim.Native.Nat.{_<_}
 use Rattle.types.specs.declared.ColumnMetadata.{ColumnMetadata}
-use Rattle.types.specs.declared.Db2Type.{Db2Type}
-
--- what a type says fits: 16 bits for a length, 8 for digits, precision and scale (01, Types and lengths)
-abbrev pub TypeHeld : Db2Type → Type 0
-TypeHeld Db2Type.SmallInt = Unit {0}
-TypeHeld Db2Type.Integer = Unit {0}
-TypeHeld Db2Type.BigInt = Unit {0}
-TypeHeld Db2Type.Real = Unit {0}
-TypeHeld Db2Type.Double = Unit {0}
-TypeHeld (Db2Type.Decimal p s) = (p < 256) × (s < 256)
-TypeHeld (Db2Type.DecFloat n) = n < 256
-TypeHeld (Db2Type.Char n) = n < 65536
-TypeHeld (Db2Type.VarChar n) = n < 65536
-TypeHeld Db2Type.Clob = Unit {0}
-TypeHeld (Db2Type.Binary n) = n < 65536
-TypeHeld (Db2Type.VarBinary n) = n < 65536
-TypeHeld Db2Type.Blob = Unit {0}
-TypeHeld Db2Type.Date = Unit {0}
-TypeHeld Db2Type.Time = Unit {0}
-TypeHeld Db2Type.Timestamp = Unit {0}
-TypeHeld (Db2Type.Graphic n) = n < 65536
-TypeHeld (Db2Type.VarGraphic n) = n < 65536
-TypeHeld Db2Type.DbClob = Unit {0}
-TypeHeld (Db2Type.RowId n) = n < 65536
-TypeHeld Db2Type.Boolean = Unit {0}
-TypeHeld Db2Type.Xml = Unit {0}
+use Rattle.sqlda.specs.Codes.{TypeHeld}
 
 -- every field of a record has its width (01, Answers: a record)
 pub record Held (c : ColumnMetadata) : Type 0 where

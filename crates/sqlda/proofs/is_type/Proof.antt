@@ -1,10 +1,10 @@
--- The two words of the type that was found.
+-- The code and the value of the type that was found.
 use mathlib.Core.Path.{refl}
 use borrow.Author.Needs.{needs}
 use borrow.Author.Tests.{lt-ltb, le-ltb}
-use Rattle.column_words.specs.Columns.{isType}
-use Rattle.column_words.proofs.is_type.Statement.{statement}
-use Rattle.column_words.proofs.is_type.Tie as tie
+use Rattle.sqlda.specs.Codes.{isType}
+use Rattle.sqlda.proofs.is_type.Statement.{statement}
+use Rattle.sqlda.proofs.is_type.Tie as tie
 
 returns : tie.Need-returns
 unfolding isType

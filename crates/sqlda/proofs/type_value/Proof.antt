@@ -1,13 +1,26 @@
--- The code of each type: an arm's tag says the type, at which the definition computes.
+-- What each type says besides its code: an arm's tag says the type, at which the definition computes.
 use borrow.Author.Needs.{needs}
-use Rattle.column_words.proofs.type_code.Statement.{statement}
-use Rattle.column_words.proofs.type_code.Tie as tie
+use native.Mathlib.Omega.{arith}
+use Rattle.sqlda.proofs.type_value.Statement.{statement}
+use Rattle.sqlda.proofs.type_value.Tie as tie
 
--- the tags of the 22 arms, then their answers
-pub type-code-spec : {M : Type 1} → statement M
-type-code-spec =
+-- the tags of the 22 arms and what their sums need, then their answers
+pub type-value-spec : {M : Type 1} → statement M
+type-value-spec =
     tie.close
     (tie.spec
+    (search needs)
+    (search needs)
+    (search needs)
+    (search needs)
+    (search needs)
+    (search needs)
+    (search needs)
+    (λ c. omega arith)
+    (search needs)
+    (λ c. omega arith)
+    (search needs)
+    (search needs)
     (search needs)
     (search needs)
     (search needs)

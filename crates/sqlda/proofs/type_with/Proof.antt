@@ -3,10 +3,10 @@ use lib.Dec.{eqb}
 use borrow.Author.Needs.{needs}
 use borrow.Author.Tests.{ne-eqb}
 use Rattle.types.specs.declared.Db2Type.{Db2Type}
-use Rattle.column_words.specs.Columns.{typeWith}
-use Rattle.column_words.proofs.Columns.{same-either}
-use Rattle.column_words.proofs.type_with.Statement.{statement}
-use Rattle.column_words.proofs.type_with.Tie as tie
+use Rattle.sqlda.specs.Codes.{typeWith}
+use Rattle.sqlda.proofs.Codes.{same-either}
+use Rattle.sqlda.proofs.type_with.Statement.{statement}
+use Rattle.sqlda.proofs.type_with.Tie as tie
 
 returns-22 : tie.Need-returns-22
 unfolding typeWith
