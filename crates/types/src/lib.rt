@@ -5,7 +5,7 @@ use field::ByteOrder;
 use table::TYPES;
 use text::Text;
 ghost use mathlib.Core.Path.{_≡_};
-ghost use Rattle.types.specs.Rows.{lookup};
+ghost use Rattle.types.specs.Rows.{typeRows, lookup};
 
 pub enum Db2Type {
     SmallInt,
@@ -129,11 +129,18 @@ pub struct TypeRow {
     pub code: u8,
 }
 
+// The rows, by a function of their own: a proof over a literal array writes it out at every step.
+fn type_rows() -> [TypeRow; 24]
+    ensures { λ r. ⌜ r ≡ typeRows ⌝ }
+{
+    TYPES
+}
+
 // The row of a base type. Naming a constant array copies it, so the loop searches one copy.
 pub fn find_type(base: u16) -> TypeRow
     ensures { λ r. ⌜ r ≡ lookup base ⌝ }
 {
-    let rows = TYPES;
+    let rows = type_rows();
     let mut i = 0;
     while i < 24 {
         let row = rows[i];
