@@ -3,11 +3,11 @@
 mod type_names;
 mod words;
 
-pub use type_names::put_type;
 pub use type_names::type_letters;
+pub use type_names::all_names;
 pub use type_names::without_blanks;
-pub use words::column_text;
-pub use words::number_of;
+pub use words::columns_from;
+pub use words::number_in;
 pub use words::text_in;
 ghost use mathlib.Core.Path.{_≡_};
 ghost use lib.IntN.{natAbs};

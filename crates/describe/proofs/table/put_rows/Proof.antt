@@ -24,4 +24,5 @@ put-rows-spec =
     (search needs)
     (search needs)
     (search needs)
+    (search needs)
     (search needs))
