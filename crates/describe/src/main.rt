@@ -4,36 +4,36 @@ mod table;
 
 use libc::STDIN_FILENO;
 
-// Room for a text of a reply, decoded: it is never longer than the reply.
-pub(crate) fn blank_room() -> [u8; 65_536] {
-    [0; 65_536]
-}
-
-// The first `count` characters; none where there are not so many.
+// The first `count` characters, `-` for none; nothing where there are not so many.
 pub(crate) fn put_first(characters: &[u8], count: usize) {
+    if count == 0 {
+        output::put_byte(b'-');
+    }
     if count <= characters.len() {
         output::put_characters(&characters[0..count]);
     }
 }
 
-// All that is written of a reply. It has at most 4,095 columns (`reading-few`), so the list is never too short.
-fn put_description(reply: &[u8]) {
-    // 4,096 columns of 22 words.
-    let mut words = [0u64; 90_112];
-    let answer = sqldard_words::parse_sqldard_data(reply, &mut words);
+// All that is written of a reply. `room` is for its texts, decoded, none of which is longer than it. It has at most 4,095 columns
+// (`reading-few`), so the list is never too short.
+fn put_description(reply: &[u8], room: &mut [u8; 65_536], words: &mut [u64; 90_112]) {
+    let answer = sqldard_words::parse_sqldard_data(reply, words);
     let refusal = answer.refusal;
     if refusal.number != 0 {
         status::put_refusal(refusal);
         return;
     }
     let card = answer.card;
-    status::put_status(reply, card);
-    table::put_table(reply, &words, answer.count);
+    status::put_status(reply, card, room);
+    table::put_table(reply, words, answer.count, room);
 }
 
 fn main() {
     // One byte more than a reply may have, so that a longer one is told.
     let mut reply = [0u8; 65_537];
+    let mut room = [0u8; 65_536];
+    // 4,096 columns of 22 words.
+    let mut words = [0u64; 90_112];
     let got = io::read_full(STDIN_FILENO, &mut reply);
-    put_description(&reply[0..got]);
+    put_description(&reply[0..got], &mut room, &mut words);
 }

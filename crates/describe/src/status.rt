@@ -2,65 +2,68 @@
 use outcome::Refusal;
 use sqlcard::SqlCard;
 
-// `1 row`, `2 rows`, and what follows.
-fn put_counted(count: usize, word: &[u8], rest: &[u8]) {
+// `1 row`, `2 rows`.
+fn put_counted(count: usize, word: &[u8]) {
     output::put_number(count as u64);
     output::put_bytes(word);
     if count != 1 {
         output::put_byte(b's');
     }
-    output::put_bytes(rest);
 }
 
 // Code and state.
-fn put_code(sqlcode: i32, state: &[u8; 5]) {
+fn put_code(sqlcode: i32, state: [u8; 5]) {
     output::put_bytes(b"status: SQLCODE ");
     output::put_signed(sqlcode);
     output::put_bytes(b", SQLSTATE ");
-    output::put_characters(state);
+    output::put_characters(&state);
 }
 
 // Proc and rows.
-fn put_proc(procedure: &[u8; 8], rows: usize) {
+fn put_proc(procedure: [u8; 8], rows: usize) {
     output::put_bytes(b", proc ");
-    output::put_characters(output::without_blanks(procedure));
-    output::put_bytes(b", ");
-    put_counted(rows, b" row", b" updated\n");
+    output::put_characters(output::without_blanks(&procedure));
+    output::put_byte(b',');
+    output::put_byte(b' ');
+    put_counted(rows, b" row");
+    output::put_bytes(b" updated\n");
 }
 
-// The message's text, which is at most as long as the reply.
-fn put_message(reply: &[u8], place: usize, length: usize) {
-    let mut room = crate::blank_room();
-    let count = message_text::message_text(reply, place, length, &mut room).length;
+fn put_message(reply: &[u8], place: usize, length: usize, room: &mut [u8]) {
+    let count = message_text::message_text(reply, place, length, room).length;
     if 0 < count {
         output::put_bytes(b"message: ");
-        crate::put_first(&room, count);
+        crate::put_first(room, count);
         output::put_byte(b'\n');
     }
 }
 
-// The lines of a status record.
-pub(crate) fn put_status(reply: &[u8], card: SqlCard) {
+// The lines of a status record; `room` is for its message's text.
+pub(crate) fn put_status(reply: &[u8], card: SqlCard, room: &mut [u8]) {
     if card.is_null {
         output::put_bytes(b"status: success\n");
         return;
     }
     let state = card.sqlstate;
     let procedure = card.sqlerrproc;
-    put_code(card.sqlcode, &state);
-    put_proc(&procedure, card.rows_updated as usize);
-    put_message(reply, card.message_place, card.message_length)
+    put_code(card.sqlcode, state);
+    put_proc(procedure, card.rows_updated as usize);
+    put_message(reply, card.message_place, card.message_length, room)
 }
 
 // How many columns and bytes there are.
 pub(crate) fn put_size(columns: usize, bytes: usize) {
-    put_counted(columns, b" column", b", ");
-    put_counted(bytes, b" byte", b"\n");
+    put_counted(columns, b" column");
+    output::put_byte(b',');
+    output::put_byte(b' ');
+    put_counted(bytes, b" byte");
+    output::put_byte(b'\n');
 }
 
 fn put_too_short(expected: usize, actual: usize) {
     output::put_bytes(b", the reply ends early: ");
-    put_counted(expected, b" byte", b" expected,");
+    put_counted(expected, b" byte");
+    output::put_bytes(b" expected,");
     output::put_value(actual as u64);
     output::put_bytes(b" there");
 }

@@ -73,7 +73,8 @@ fn widths_of(words: &[u64], count: usize) -> Widths {
 // Blanks behind a cell of `width` characters in a column of `column` characters: two at least.
 fn put_gap(width: usize, column: usize) {
     let blanks = [0x20u8; WIDEST];
-    output::put_bytes(b"  ");
+    output::put_byte(b' ');
+    output::put_byte(b' ');
     if width < column {
         crate::put_first(&blanks, column - width);
     }
@@ -93,22 +94,18 @@ fn put_heads(widths: Widths) {
     put_head(6, widths.schema, b"table\n");
 }
 
-// A text of the first column, decoded; `-` for an empty one. How many characters were put.
-fn put_text(reply: &[u8], columns: &[u64], at: usize, room: &mut [u8]) -> usize {
+// A text of the first column, decoded.
+fn put_text(reply: &[u8], columns: &[u64], at: usize, room: &mut [u8]) {
     let text = output::text_in(columns, at);
     let number = output::number_in(columns);
     let count = column_name::given_text(reply, number, text, room).length;
-    if count == 0 {
-        output::put_byte(b'-');
-        return 1;
-    }
     crate::put_first(room, count);
-    count
 }
 
 // A text and its gap.
 fn put_text_cell(reply: &[u8], columns: &[u64], at: usize, width: usize, room: &mut [u8]) {
-    put_gap(put_text(reply, columns, at, room), width);
+    put_text(reply, columns, at, room);
+    put_gap(text_width(columns, at), width);
 }
 
 // The number of the first column.
@@ -155,13 +152,12 @@ fn put_rows(reply: &[u8], words: &[u64], count: usize, widths: Widths, room: &mu
 }
 
 // The size, and the table of the first `count` columns of a list; none where there are none.
-pub(crate) fn put_table(reply: &[u8], words: &[u64], count: usize) {
+pub(crate) fn put_table(reply: &[u8], words: &[u64], count: usize, room: &mut [u8]) {
     crate::status::put_size(count, reply.len());
     if count == 0 {
         return;
     }
-    let mut room = crate::blank_room();
     let widths = widths_of(words, count);
     put_heads(widths);
-    put_rows(reply, words, count, widths, &mut room);
+    put_rows(reply, words, count, widths, room);
 }
