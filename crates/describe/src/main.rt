@@ -14,9 +14,8 @@ pub(crate) fn put_first(characters: &[u8], count: usize) {
     }
 }
 
-// All that is written of a reply. `room` is for its texts, decoded, none of which is longer than it. It has at most 4,095 columns
-// (`reading-few`), so the list is never too short.
-fn put_description(reply: &[u8], room: &mut [u8; 65_536], words: &mut [u64; 90_112]) {
+// All that is written of a reply. It has at most 4,095 columns (`reading-few`), so the list is never too short.
+fn put_description(reply: &[u8], words: &mut [u64; 90_112]) {
     let answer = sqldard_words::parse_sqldard_data(reply, words);
     let refusal = answer.refusal;
     if refusal.number != 0 {
@@ -24,16 +23,15 @@ fn put_description(reply: &[u8], room: &mut [u8; 65_536], words: &mut [u64; 90_1
         return;
     }
     let card = answer.card;
-    status::put_status(reply, card, room);
-    table::put_table(reply, words, answer.count, room);
+    status::put_status(reply, card);
+    table::put_table(reply, words, answer.count);
 }
 
 fn main() {
     // One byte more than a reply may have, so that a longer one is told.
     let mut reply = [0u8; 65_537];
-    let mut room = [0u8; 65_536];
     // 4,096 columns of 22 words.
     let mut words = [0u64; 90_112];
     let got = io::read_full(STDIN_FILENO, &mut reply);
-    put_description(&reply[0..got], &mut room, &mut words);
+    put_description(&reply[0..got], &mut words);
 }

@@ -29,17 +29,19 @@ fn put_proc(procedure: [u8; 8], rows: usize) {
     output::put_bytes(b" updated\n");
 }
 
-fn put_message(reply: &[u8], place: usize, length: usize, room: &mut [u8]) {
-    let count = message_text::message_text(reply, place, length, room).length;
+// The message's text, which is at most as long as the reply.
+fn put_message(reply: &[u8], place: usize, length: usize) {
+    let mut room = [0u8; 65_536];
+    let count = message_text::message_text(reply, place, length, &mut room).length;
     if 0 < count {
         output::put_bytes(b"message: ");
-        crate::put_first(room, count);
+        crate::put_first(&room, count);
         output::put_byte(b'\n');
     }
 }
 
-// The lines of a status record; `room` is for its message's text.
-pub(crate) fn put_status(reply: &[u8], card: SqlCard, room: &mut [u8]) {
+// The lines of a status record.
+pub(crate) fn put_status(reply: &[u8], card: SqlCard) {
     if card.is_null {
         output::put_bytes(b"status: success\n");
         return;
@@ -48,7 +50,7 @@ pub(crate) fn put_status(reply: &[u8], card: SqlCard, room: &mut [u8]) {
     let procedure = card.sqlerrproc;
     put_code(card.sqlcode, state);
     put_proc(procedure, card.rows_updated as usize);
-    put_message(reply, card.message_place, card.message_length, room)
+    put_message(reply, card.message_place, card.message_length)
 }
 
 // How many columns and bytes there are.

@@ -95,16 +95,17 @@ fn put_heads(widths: Widths) {
 }
 
 // A text of the first column, decoded.
-fn put_text(reply: &[u8], columns: &[u64], at: usize, room: &mut [u8]) {
+fn put_text(reply: &[u8], columns: &[u64], at: usize) {
+    let mut room = [0u8; 65_536];
     let text = output::text_in(columns, at);
     let number = output::number_in(columns);
-    let count = column_name::given_text(reply, number, text, room).length;
-    crate::put_first(room, count);
+    let count = column_name::given_text(reply, number, text, &mut room).length;
+    crate::put_first(&room, count);
 }
 
 // A text and its gap.
-fn put_text_cell(reply: &[u8], columns: &[u64], at: usize, width: usize, room: &mut [u8]) {
-    put_text(reply, columns, at, room);
+fn put_text_cell(reply: &[u8], columns: &[u64], at: usize, width: usize) {
+    put_text(reply, columns, at);
     put_gap(text_width(columns, at), width);
 }
 
@@ -127,37 +128,32 @@ fn put_cells(columns: &[u64], width: usize) {
     crate::put_first(&line, count);
 }
 
-// From its label to its table.
-fn put_texts(reply: &[u8], columns: &[u64], widths: Widths, room: &mut [u8]) {
-    put_text_cell(reply, columns, LABEL, widths.label, room);
-    put_text_cell(reply, columns, SCHEMA, widths.schema, room);
-    put_text(reply, columns, TABLE, room);
+// The line of the first column.
+fn put_row(reply: &[u8], columns: &[u64], widths: Widths) {
+    put_number_cell(columns);
+    put_text_cell(reply, columns, NAME, widths.name);
+    put_cells(columns, widths.db2_type);
+    put_text_cell(reply, columns, LABEL, widths.label);
+    put_text_cell(reply, columns, SCHEMA, widths.schema);
+    put_text(reply, columns, TABLE);
     output::put_byte(b'\n');
 }
 
-// The line of the first column.
-fn put_row(reply: &[u8], columns: &[u64], widths: Widths, room: &mut [u8]) {
-    put_number_cell(columns);
-    put_text_cell(reply, columns, NAME, widths.name, room);
-    put_cells(columns, widths.db2_type);
-    put_texts(reply, columns, widths, room);
-}
-
-fn put_rows(reply: &[u8], words: &[u64], count: usize, widths: Widths, room: &mut [u8]) {
+fn put_rows(reply: &[u8], words: &[u64], count: usize, widths: Widths) {
     let mut i = 0;
     while i < count {
-        put_row(reply, output::columns_from(words, i), widths, room);
+        put_row(reply, output::columns_from(words, i), widths);
         i += 1;
     }
 }
 
 // The size, and the table of the first `count` columns of a list; none where there are none.
-pub(crate) fn put_table(reply: &[u8], words: &[u64], count: usize, room: &mut [u8]) {
+pub(crate) fn put_table(reply: &[u8], words: &[u64], count: usize) {
     crate::status::put_size(count, reply.len());
     if count == 0 {
         return;
     }
     let widths = widths_of(words, count);
     put_heads(widths);
-    put_rows(reply, words, count, widths, room);
+    put_rows(reply, words, count, widths);
 }
