@@ -4,6 +4,12 @@ mod table;
 
 use libc::STDIN_FILENO;
 
+// Room for a reply, and one byte more, so that a longer one is told; and for any text of a reply. Its length is known by its type here:
+// that of a literal would be counted in each proof.
+pub(crate) fn blank_bytes() -> [u8; 65_537] {
+    [0; 65_537]
+}
+
 // The first `count` characters, `-` for none; nothing where there are not so many.
 pub(crate) fn put_first(characters: &[u8], count: usize) {
     if count == 0 {
@@ -28,8 +34,7 @@ fn put_description(reply: &[u8], words: &mut [u64; 90_112]) {
 }
 
 fn main() {
-    // One byte more than a reply may have, so that a longer one is told.
-    let mut reply = [0u8; 65_537];
+    let mut reply = blank_bytes();
     // 4,096 columns of 22 words.
     let mut words = [0u64; 90_112];
     let got = io::read_full(STDIN_FILENO, &mut reply);

@@ -31,7 +31,7 @@ fn put_proc(procedure: [u8; 8], rows: usize) {
 
 // The message's text, which is at most as long as the reply.
 fn put_message(reply: &[u8], place: usize, length: usize) {
-    let mut room = [0u8; 65_536];
+    let mut room = crate::blank_bytes();
     let count = message_text::message_text(reply, place, length, &mut room).length;
     if 0 < count {
         output::put_bytes(b"message: ");

@@ -96,7 +96,7 @@ fn put_heads(widths: Widths) {
 
 // A text of the first column, decoded.
 fn put_text(reply: &[u8], columns: &[u64], at: usize) {
-    let mut room = [0u8; 65_536];
+    let mut room = crate::blank_bytes();
     let text = output::text_in(columns, at);
     let number = output::number_in(columns);
     let count = column_name::given_text(reply, number, text, &mut room).length;
