@@ -43,13 +43,10 @@ fn is_printable(character: u8) -> bool {
 
 fn are_printable(characters: &[u8]) -> bool {
     let mut i = 0;
-    while i < characters.len() {
-        if !is_printable(characters[i]) {
-            return false;
-        }
+    while i < characters.len() && is_printable(characters[i]) {
         i += 1;
     }
-    true
+    i == characters.len()
 }
 
 // Characters, each of a byte, as status records and texts have them. A quick path: those of ASCII are written at once.

@@ -48,11 +48,8 @@ pub fn type_letters<'a>(names: &'a [u8; 220], db2_type: Db2Type) -> &'a [u8] {
 // Characters without the blanks at their end.
 pub fn without_blanks<'a>(characters: &'a [u8]) -> &'a [u8] {
     let mut end = characters.len();
-    while 0 < end {
-        if characters[end - 1] != 0x20 {
-            return &characters[0..end];
-        }
+    while 0 < end && characters[end - 1] == 0x20 {
         end -= 1;
     }
-    &characters[0..0]
+    &characters[0..end]
 }

@@ -26,8 +26,4 @@ without-blanks-spec =
     (search needs)
     (search needs)
     (search needs)
-    (search needs)
-    (search needs)
-    (search needs)
-    (search needs)
     (search needs))
