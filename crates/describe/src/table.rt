@@ -42,7 +42,12 @@ fn type_width(columns: &[u64]) -> usize {
     let db2_type = column.db2_type;
     let names = output::all_names();
     let mut line = [0u8; LINE];
-    cells::append_type(&mut line, 0, output::type_letters(&names, db2_type), db2_type)
+    cells::append_type(
+        &mut line,
+        0,
+        output::type_letters(&names, db2_type),
+        db2_type,
+    )
 }
 
 // The widths with one column more: none falls.

@@ -3,8 +3,8 @@
 mod type_names;
 mod words;
 
-pub use type_names::type_letters;
 pub use type_names::all_names;
+pub use type_names::type_letters;
 pub use type_names::without_blanks;
 pub use words::columns_from;
 pub use words::number_in;
