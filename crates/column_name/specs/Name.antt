@@ -32,15 +32,18 @@ givenLength page s number t room = pick (isRefused (partRefusal s t)) 0 (roomLen
 unfoldable pub givenWritten : Page → List ℕ → ℕ → Text → List ℕ → List ℕ
 givenWritten page s number t buffer = pick (isRefused (partRefusal s t)) buffer (roomWritten (givenText page s number t) buffer)
 
--- the same of a column's name
+-- a column's name is the text of its number and name (01, Answers: name text)
 unfoldable pub nameOf : Page → List ℕ → ColumnMetadata → List ℕ
 nameOf page s c = givenText page s (c .number) (c .name)
 
+-- it is refused as that text is (01, Numbers of refusal: name part and name text)
 unfoldable pub nameRefusal : Page → List ℕ → ColumnMetadata → ℕ → List ℕ
 nameRefusal page s c room = givenRefusal page s (c .number) (c .name) room
 
+-- it is as long (01, Answers: name text)
 unfoldable pub nameLength : Page → List ℕ → ColumnMetadata → ℕ → ℕ
 nameLength page s c room = givenLength page s (c .number) (c .name) room
 
+-- it is left in the buffer so (01, Numbers of refusal: a refusal changes nothing)
 unfoldable pub nameWritten : Page → List ℕ → ColumnMetadata → List ℕ → List ℕ
 nameWritten page s c buffer = givenWritten page s (c .number) (c .name) buffer
