@@ -194,7 +194,8 @@ def stub(f, known, alias, paths):
     if not f.result:
         return '{}'
     if f.result.startswith('&') or '<' in f.result:
-        same = [p.split(':')[0].replace('mut ', '').strip() for p in split(f.params) if p.split(':', 1)[-1].strip() == f.result]
+        params = [(p.split(':')[0].replace('mut ', '').strip(), p.split(':', 1)[-1].strip()) for p in split(f.params)]
+        same = [name for name, of in params if of == f.result] + ['&%s[..]' % name for name, of in params if re.sub(r'; \d+\]$', ']', of) == f.result != of]
         return '{\n    %s\n}' % (same[0] if same else 'loop {}')
     value = Value(known, alias, paths)
     last = value.of(f.result)

@@ -2,17 +2,18 @@
 // or the places of their texts.
 use crate::lent;
 use crate::puts;
+use crate::type_values;
 use field::ByteOrder;
 use types::ColumnMetadata;
 
-// The texts of a column, in the order of its words.
-const NAME: u8 = 0;
+// Where the texts of a column start in its words.
+const NAME: usize = 10;
 
-const LABEL: u8 = 1;
+const LABEL: usize = 13;
 
-const BASE: u8 = 2;
+const BASE: usize = 16;
 
-const SCHEMA: u8 = 3;
+const SCHEMA: usize = 19;
 
 fn put_order(order: ByteOrder) {
     match order {
@@ -21,24 +22,24 @@ fn put_order(order: ByteOrder) {
     }
 }
 
-// A text of column `i`.
-fn put_text(reply: &[u8], words: &[u64], i: usize, which: u8, room: &mut [u8]) {
-    let text = output::column_text(words, i, which);
-    puts::put_text(reply, text, output::number_of(words, i), room);
+// A text of the first column.
+fn put_text(reply: &[u8], columns: &[u64], at: usize, room: &mut [u8]) {
+    let text = output::text_in(columns, at);
+    puts::put_text(reply, text, output::number_in(columns), room);
 }
 
 // ` C NUMBER NAME`.
-fn put_front(reply: &[u8], words: &[u64], i: usize, room: &mut [u8]) {
+fn put_front(reply: &[u8], columns: &[u64], room: &mut [u8]) {
     output::put_bytes(b" C");
-    output::put_value(output::number_of(words, i) as u64);
-    put_text(reply, words, i, NAME, room);
+    output::put_value(output::number_in(columns) as u64);
+    put_text(reply, columns, NAME, room);
 }
 
 // ` TYPE`.
 fn put_type(column: ColumnMetadata) {
     let db2_type = column.db2_type;
     output::put_byte(b' ');
-    output::put_type(db2_type);
+    type_values::put_type(db2_type);
 }
 
 // ` CODE LENGTH NULLABLE PRECISION SCALE CCSID ORDER`.
@@ -57,32 +58,32 @@ fn put_numbers(column: ColumnMetadata) {
 }
 
 // ` BASE SCHEMA LABEL`.
-fn put_texts(reply: &[u8], words: &[u64], i: usize, room: &mut [u8]) {
-    put_text(reply, words, i, BASE, room);
-    put_text(reply, words, i, SCHEMA, room);
-    put_text(reply, words, i, LABEL, room);
+fn put_texts(reply: &[u8], columns: &[u64], room: &mut [u8]) {
+    put_text(reply, columns, BASE, room);
+    put_text(reply, columns, SCHEMA, room);
+    put_text(reply, columns, LABEL, room);
 }
 
-fn put_column(reply: &[u8], words: &[u64], i: usize, room: &mut [u8]) {
-    put_front(reply, words, i, room);
-    put_type(column_words::column_in(words, i));
-    put_numbers(column_words::column_in(words, i));
-    put_texts(reply, words, i, room);
+fn put_column(reply: &[u8], columns: &[u64], room: &mut [u8]) {
+    put_front(reply, columns, room);
+    put_type(column_words::column_in(columns, 0));
+    put_numbers(column_words::column_in(columns, 0));
+    put_texts(reply, columns, room);
 }
 
 // ` NAME LABEL BASE SCHEMA`, where each stands.
-fn put_places(words: &[u64], i: usize) {
-    puts::put_text_place(output::column_text(words, i, NAME));
-    puts::put_text_place(output::column_text(words, i, LABEL));
-    puts::put_text_place(output::column_text(words, i, BASE));
-    puts::put_text_place(output::column_text(words, i, SCHEMA));
+fn put_places(columns: &[u64]) {
+    puts::put_text_place(output::text_in(columns, NAME));
+    puts::put_text_place(output::text_in(columns, LABEL));
+    puts::put_text_place(output::text_in(columns, BASE));
+    puts::put_text_place(output::text_in(columns, SCHEMA));
 }
 
 // The first `count` columns of a list.
 pub(crate) fn put_columns(reply: &[u8], words: &[u64], count: usize, room: &mut [u8]) {
     let mut i = 0;
     while i < count {
-        put_column(reply, words, i, room);
+        put_column(reply, output::columns_from(words, i), room);
         i += 1;
     }
 }
@@ -91,7 +92,7 @@ pub(crate) fn put_columns(reply: &[u8], words: &[u64], count: usize, room: &mut 
 pub(crate) fn put_all_places(words: &[u64], count: usize) {
     let mut i = 0;
     while i < count {
-        put_places(words, i);
+        put_places(output::columns_from(words, i));
         i += 1;
     }
 }

@@ -10,6 +10,7 @@ mod name_list;
 mod puts;
 mod records;
 mod texts;
+mod type_values;
 
 use input::Next;
 

@@ -11,7 +11,7 @@ use Rattle.text.specs.Text.{textIs}
 use Rattle.text.specs.declared.Text.{Text}
 use Rattle.types.specs.declared.ColumnMetadata.{ColumnMetadata}
 use Rattle.column_name.specs.Part.{partRefusal, partOf}
-use Rattle.column_name.specs.Name.{generatedName, nameOf, nameRefusal, nameLength, nameWritten}
+use Rattle.column_name.specs.Name.{generatedName, givenText, givenRefusal, givenLength, givenWritten, nameRefusal, nameLength, nameWritten}
 
 -- COL1, the name of the first column
 pub case-col1 : generatedName 0 ≡ 0x43 ∷ 0x4F ∷ 0x4C ∷ 0x31 ∷ []
@@ -59,21 +59,21 @@ case-alphabet = record { refuses = refl; gives = refl }
 module _ (c : ColumnMetadata) where
   -- DOOR in a buffer of five bytes, the last of which stays
   pub case-door : c .name ≡ textIs 1 4 2 → Answered door c (9 ∷ 9 ∷ 9 ∷ 9 ∷ 9 ∷ []) (0 ∷ []) 4 (0x44 ∷ 0x4F ∷ 0x4F ∷ 0x52 ∷ 9 ∷ [])
-  unfolding partRefusal nameRefusal nameLength nameWritten roomRefusal roomLength roomWritten nameOf charOf table037
+  unfolding partRefusal nameRefusal nameLength nameWritten givenRefusal givenLength givenWritten roomRefusal roomLength roomWritten givenText charOf table037
   case-door e = record { refuses = rw e refl; gives = rw e refl; leaves = rw e refl }
 
   -- three bytes are too few
   pub case-short : c .name ≡ textIs 1 4 2 → Answered door c (9 ∷ 9 ∷ 9 ∷ []) (6 ∷ 4 ∷ []) 0 (9 ∷ 9 ∷ 9 ∷ [])
-  unfolding partRefusal nameRefusal nameLength nameWritten roomRefusal roomLength roomWritten nameOf charOf table037
+  unfolding partRefusal nameRefusal nameLength nameWritten givenRefusal givenLength givenWritten roomRefusal roomLength roomWritten givenText charOf table037
   case-short e = record { refuses = rw e refl; gives = rw e refl; leaves = rw e refl }
 
   -- an ASCII name keeps the blank that it begins with
   pub case-blank : c .name ≡ textIs 0 2 1 → Answered (0x20 ∷ 0x41 ∷ []) c (9 ∷ 9 ∷ []) (0 ∷ []) 2 (0x20 ∷ 0x41 ∷ [])
-  unfolding partRefusal nameRefusal nameLength nameWritten roomRefusal roomLength roomWritten nameOf charOf
+  unfolding partRefusal nameRefusal nameLength nameWritten givenRefusal givenLength givenWritten roomRefusal roomLength roomWritten givenText charOf
   case-blank e = record { refuses = rw e refl; gives = rw e refl; leaves = rw e refl }
 
   -- a column without a name, the tenth
   pub case-col10 : c .name ≡ textIs 0 0 0 → c .number ≡ 9
       → Answered [] c (9 ∷ 9 ∷ 9 ∷ 9 ∷ 9 ∷ []) (0 ∷ []) 5 (0x43 ∷ 0x4F ∷ 0x4C ∷ 0x31 ∷ 0x30 ∷ [])
-  unfolding partRefusal nameRefusal nameLength nameWritten roomRefusal roomLength roomWritten nameOf generatedName decimalOf digitsOf
+  unfolding partRefusal nameRefusal nameLength nameWritten givenRefusal givenLength givenWritten roomRefusal roomLength roomWritten givenText generatedName decimalOf digitsOf
   case-col10 e f = record { refuses = rw (e, f) refl; gives = rw (e, f) refl; leaves = rw (e, f) refl }

@@ -8,6 +8,7 @@ use Rattle.outcome.specs.Refusal.{isRefused}
 use Rattle.outcome.specs.Room.{roomRefusal, roomLength, roomWritten}
 use Rattle.decimal.specs.Decimal.{decimalOf}
 use Rattle.text.specs.Chars.{chars}
+use Rattle.text.specs.declared.Text.{Text}
 use Rattle.types.specs.declared.ColumnMetadata.{ColumnMetadata}
 use Rattle.column_name.specs.Part.{partRefusal, ownBytes}
 
@@ -15,18 +16,34 @@ use Rattle.column_name.specs.Part.{partRefusal, ownBytes}
 unfoldable pub generatedName : ℕ → List ℕ
 generatedName number = 0x43 ∷ 0x4F ∷ 0x4C ∷ decimalOf (number + 1)
 
--- the name's text: generated for alphabet 0, else its bytes' characters, untrimmed (01, Numbers of refusal: name part and name text)
-unfoldable pub nameOf : Page → List ℕ → ColumnMetadata → List ℕ
-nameOf page s c = pick (eqb (c .name .alphabet) 0) (generatedName (c .number)) (chars page (c .name .alphabet) (ownBytes s (c .name)))
+-- the text t of a column of this number: generated for alphabet 0, else its bytes' characters, untrimmed (01, Numbers of refusal: name part and name text)
+unfoldable pub givenText : Page → List ℕ → ℕ → Text → List ℕ
+givenText page s number t = pick (eqb (t .alphabet) 0) (generatedName number) (chars page (t .alphabet) (ownBytes s t))
 
 -- as name part refuses; then 6 with the length needed; else 0 (01, Numbers of refusal: name part and name text)
-unfoldable pub nameRefusal : Page → List ℕ → ColumnMetadata → ℕ → List ℕ
-nameRefusal page s c room = pick (isRefused (partRefusal s (c .name))) (partRefusal s (c .name)) (roomRefusal (nameOf page s c) room)
+unfoldable pub givenRefusal : Page → List ℕ → ℕ → Text → ℕ → List ℕ
+givenRefusal page s number t room = pick (isRefused (partRefusal s t)) (partRefusal s t) (roomRefusal (givenText page s number t) room)
 
 -- the text's length; 0 where refused (01, Answers: name text)
-unfoldable pub nameLength : Page → List ℕ → ColumnMetadata → ℕ → ℕ
-nameLength page s c room = pick (isRefused (partRefusal s (c .name))) 0 (roomLength (nameOf page s c) room)
+unfoldable pub givenLength : Page → List ℕ → ℕ → Text → ℕ → ℕ
+givenLength page s number t room = pick (isRefused (partRefusal s t)) 0 (roomLength (givenText page s number t) room)
 
 -- the text over the buffer's front; the buffer as it was where refused (01, Numbers of refusal: a refusal changes nothing)
+unfoldable pub givenWritten : Page → List ℕ → ℕ → Text → List ℕ → List ℕ
+givenWritten page s number t buffer = pick (isRefused (partRefusal s t)) buffer (roomWritten (givenText page s number t) buffer)
+
+-- a column's name is the text of its number and name (01, Answers: name text)
+unfoldable pub nameOf : Page → List ℕ → ColumnMetadata → List ℕ
+nameOf page s c = givenText page s (c .number) (c .name)
+
+-- it is refused as that text is (01, Numbers of refusal: name part and name text)
+unfoldable pub nameRefusal : Page → List ℕ → ColumnMetadata → ℕ → List ℕ
+nameRefusal page s c room = givenRefusal page s (c .number) (c .name) room
+
+-- it is as long (01, Answers: name text)
+unfoldable pub nameLength : Page → List ℕ → ColumnMetadata → ℕ → ℕ
+nameLength page s c room = givenLength page s (c .number) (c .name) room
+
+-- it is left in the buffer so (01, Numbers of refusal: a refusal changes nothing)
 unfoldable pub nameWritten : Page → List ℕ → ColumnMetadata → List ℕ → List ℕ
-nameWritten page s c buffer = pick (isRefused (partRefusal s (c .name))) buffer (roomWritten (nameOf page s c) buffer)
+nameWritten page s c buffer = givenWritten page s (c .number) (c .name) buffer

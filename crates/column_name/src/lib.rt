@@ -8,7 +8,7 @@ ghost use Rattle.codepage.specs.Page.{page037};
 ghost use Rattle.outcome.specs.Refusal.{refusalOf, isRefused};
 ghost use Rattle.text.specs.Chars.{chars};
 ghost use Rattle.column_name.specs.Part.{partRefusal, ownBytes, partOf};
-ghost use Rattle.column_name.specs.Name.{generatedName, nameRefusal, nameLength, nameWritten};
+ghost use Rattle.column_name.specs.Name.{generatedName, givenRefusal, givenLength, givenWritten, nameRefusal, nameLength, nameWritten};
 ghost use Rattle.outcome.specs.Room.{roomRefusal, roomLength, roomWritten};
 use outcome::Outcome;
 use text::Text;
@@ -117,22 +117,31 @@ fn write_text(bytes: &[u8], alphabet: u8, buffer: &mut [u8]) -> NameText
     }
 }
 
-// The entry name text. Nothing is written where it refuses.
+// The text of a column of this number, for callers who have no record. Nothing is written where it refuses.
+pub fn given_text(reply: &[u8], number: u16, text: Text, buffer: &mut [u8]) -> NameText
+    ensures refuses { λ r. ⌜ refusalOf (r .outcome) ≡ givenRefusal page037 (now (reply .entry)) number text (length (now (buffer .entry))) ⌝ }
+    ensures gives { λ r. ⌜ r .length ≡ givenLength page037 (now (reply .entry)) number text (length (now (buffer .entry))) ⌝ }
+    ensures leaves { λ _. ⌜ now (buffer .exit) ≡ givenWritten page037 (now (reply .entry)) number text (now (buffer .entry)) ⌝ }
+{
+    let found = part_outcome(reply, text);
+    if outcome::is_refused(found) {
+        return refused(found);
+    }
+    if text.alphabet == 0 {
+        let made = generated_name(number);
+        let characters = made.characters;
+        let start = made.start;
+        return write_text(&characters[start..], 1, buffer);
+    }
+    write_text(own_bytes(reply, text), text.alphabet, buffer)
+}
+
+// The entry name text.
 pub fn name_text(reply: &[u8], column: ColumnMetadata, buffer: &mut [u8]) -> NameText
     ensures refuses { λ r. ⌜ refusalOf (r .outcome) ≡ nameRefusal page037 (now (reply .entry)) column (length (now (buffer .entry))) ⌝ }
     ensures gives { λ r. ⌜ r .length ≡ nameLength page037 (now (reply .entry)) column (length (now (buffer .entry))) ⌝ }
     ensures leaves { λ _. ⌜ now (buffer .exit) ≡ nameWritten page037 (now (reply .entry)) column (now (buffer .entry)) ⌝ }
 {
     let name = column.name;
-    let found = part_outcome(reply, name);
-    if outcome::is_refused(found) {
-        return refused(found);
-    }
-    if name.alphabet == 0 {
-        let made = generated_name(column.number);
-        let characters = made.characters;
-        let start = made.start;
-        return write_text(&characters[start..], 1, buffer);
-    }
-    write_text(own_bytes(reply, name), name.alphabet, buffer)
+    given_text(reply, column.number, name, buffer)
 }

@@ -1,22 +1,18 @@
 // The table of columns: a line of heads, and a line for each column, in cells as wide as what stands in them.
-use text::Text;
-use types::ColumnMetadata;
-use types::Db2Type;
-
 // A name of Db2 has at most 128 bytes. A longer text is put whole, and moves the rest of its own line only.
 const WIDEST: usize = 128;
 
 // The cells of numbers in a row: a type has at most 17 characters, and is at most 128 wide.
 const LINE: usize = 192;
 
-// The texts of a column, in the order of its words.
-const NAME: u8 = 0;
+// Where the texts of a column start in its words.
+const NAME: usize = 10;
 
-const LABEL: u8 = 1;
+const LABEL: usize = 13;
 
-const TABLE: u8 = 2;
+const TABLE: usize = 16;
 
-const SCHEMA: u8 = 3;
+const SCHEMA: usize = 19;
 
 // How wide the cells are that hold texts and types. The others are as wide as their heads, the last needs no width.
 struct Widths {
@@ -31,45 +27,36 @@ fn wider(width: usize, other: usize) -> usize {
     if width < wanted { wanted } else { width }
 }
 
-// How many characters a text has, one a byte; `-` stands for none. `number` is its column's.
-fn text_width(text: Text, number: u16) -> usize {
+// How many characters a text of the first column has, one a byte; `-` stands for none.
+fn text_width(columns: &[u64], at: usize) -> usize {
+    let text = output::text_in(columns, at);
     if text.alphabet == 0 {
-        let digits = decimal::digits_of(number as u64 + 1);
+        let digits = decimal::digits_of(output::number_in(columns) as u64 + 1);
         return 27 - digits.start;
     }
-    if text.length == 0 {
-        return 1;
-    }
-    text.length
+    if text.length == 0 { 1 } else { text.length }
 }
 
-fn type_width(db2_type: Db2Type) -> usize {
-    let letters = output::type_letters(db2_type);
-    let count = output::without_blanks(&letters);
+fn type_width(columns: &[u64]) -> usize {
+    let column = column_words::column_in(columns, 0);
+    let db2_type = column.db2_type;
+    let names = output::all_names();
     let mut line = [0u8; LINE];
-    cells::append_type(&mut line, 0, &letters[0..count], db2_type)
-}
-
-fn type_of(words: &[u64], i: usize) -> Db2Type {
-    let column = column_words::column_in(words, i);
-    column.db2_type
-}
-
-// How many characters a text of a column has.
-fn width_of(words: &[u64], i: usize, which: u8) -> usize {
-    text_width(
-        output::column_text(words, i, which),
-        output::number_of(words, i),
+    cells::append_type(
+        &mut line,
+        0,
+        output::type_letters(&names, db2_type),
+        db2_type,
     )
 }
 
 // The widths with one column more: none falls.
-fn widths_with(widths: Widths, words: &[u64], i: usize) -> Widths {
+fn widths_with(widths: Widths, columns: &[u64]) -> Widths {
     Widths {
-        name: wider(widths.name, width_of(words, i, NAME)),
-        db2_type: wider(widths.db2_type, type_width(type_of(words, i))),
-        label: wider(widths.label, width_of(words, i, LABEL)),
-        schema: wider(widths.schema, width_of(words, i, SCHEMA)),
+        name: wider(widths.name, text_width(columns, NAME)),
+        db2_type: wider(widths.db2_type, type_width(columns)),
+        label: wider(widths.label, text_width(columns, LABEL)),
+        schema: wider(widths.schema, text_width(columns, SCHEMA)),
     }
 }
 
@@ -82,7 +69,7 @@ fn widths_of(words: &[u64], count: usize) -> Widths {
     };
     let mut i = 0;
     while i < count {
-        widths = widths_with(widths, words, i);
+        widths = widths_with(widths, output::columns_from(words, i));
         i += 1;
     }
     widths
@@ -90,128 +77,88 @@ fn widths_of(words: &[u64], count: usize) -> Widths {
 
 // Blanks behind a cell of `width` characters in a column of `column` characters: two at least.
 fn put_gap(width: usize, column: usize) {
-    let blanks = [0x20u8; 130];
-    if column <= width {
-        output::put_bytes(b"  ");
-        return;
+    let blanks = [0x20u8; WIDEST];
+    output::put_byte(b' ');
+    output::put_byte(b' ');
+    if width < column {
+        crate::put_first(&blanks, column - width);
     }
-    if WIDEST < column {
-        return;
-    }
-    output::put_bytes(&blanks[width..column + 2]);
 }
 
-// A head and its gap.
-fn put_head(word: &[u8], column: usize) {
-    output::put_bytes(word);
-    put_gap(word.len(), column);
-}
-
-fn put_first_heads(widths: Widths) {
-    output::put_bytes(b"number  ");
-    put_head(b"name", widths.name);
-    put_head(b"type", widths.db2_type);
-}
-
-fn put_last_heads(widths: Widths) {
-    put_head(b"label", widths.label);
-    put_head(b"schema", widths.schema);
-    output::put_bytes(b"table\n");
+// The gap behind a head of `width` characters, and what stands behind it.
+fn put_head(width: usize, column: usize, next: &[u8]) {
+    put_gap(width, column);
+    output::put_bytes(next);
 }
 
 fn put_heads(widths: Widths) {
-    put_first_heads(widths);
-    output::put_bytes(b"length  nullable  CCSID  ");
-    put_last_heads(widths);
+    output::put_bytes(b"number  name");
+    put_head(4, widths.name, b"type");
+    put_head(4, widths.db2_type, b"length  nullable  CCSID  label");
+    put_head(5, widths.label, b"schema");
+    put_head(6, widths.schema, b"table\n");
 }
 
-// A column with this number and this text as its name: name text asks for nothing else.
-fn named(text: Text, number: u16) -> ColumnMetadata {
-    let mut column = column::blank_column();
-    column.number = number;
-    column.name = text;
-    column
-}
-
-// Writes a text of the reply, decoded, to `room`: its length, or more than there is room for where it does not lie in the reply.
-fn write_text(reply: &[u8], column: ColumnMetadata, room: &mut [u8]) -> usize {
-    let answer = column_name::name_text(reply, column, room);
-    let outcome = answer.outcome;
-    if outcome::is_refused(outcome) {
-        usize::MAX
-    } else {
-        answer.length
-    }
-}
-
-// A text of column `i`, decoded; `-` for an empty one, and `?` for one that does not lie in the reply.
-fn put_text(reply: &[u8], words: &[u64], i: usize, which: u8, room: &mut [u8]) {
-    let text = output::column_text(words, i, which);
-    let count = write_text(reply, named(text, output::number_of(words, i)), room);
-    if count == 0 {
-        output::put_byte(b'-');
-        return;
-    }
-    if room.len() < count {
-        output::put_byte(b'?');
-        return;
-    }
-    output::put_characters(&room[0..count]);
+// A text of the first column, decoded.
+fn put_text(reply: &[u8], columns: &[u64], at: usize) {
+    let mut room = crate::blank_bytes();
+    let text = output::text_in(columns, at);
+    let number = output::number_in(columns);
+    let count = column_name::given_text(reply, number, text, &mut room).length;
+    crate::put_first(&room, count);
 }
 
 // A text and its gap.
-fn put_text_cell(reply: &[u8], words: &[u64], i: usize, which: u8, column: usize, room: &mut [u8]) {
-    put_text(reply, words, i, which, room);
-    put_gap(width_of(words, i, which), column);
+fn put_text_cell(reply: &[u8], columns: &[u64], at: usize, width: usize) {
+    put_text(reply, columns, at);
+    put_gap(text_width(columns, at), width);
 }
 
-// The number of a column.
-fn put_number_cell(column: ColumnMetadata) {
+// The number of the first column.
+fn put_number_cell(columns: &[u64]) {
+    let column = column_words::column_in(columns, 0);
     let mut line = [0u8; LINE];
     let count = cells::append_number(&mut line, 0, column);
-    output::put_bytes(&line[0..count]);
+    crate::put_first(&line, count);
 }
 
 // From its type to its CCSID.
-fn put_cells(column: ColumnMetadata, width: usize) {
+fn put_cells(columns: &[u64], width: usize) {
+    let column = column_words::column_in(columns, 0);
     let db2_type = column.db2_type;
-    let letters = output::type_letters(db2_type);
-    let end = output::without_blanks(&letters);
+    let names = output::all_names();
+    let letters = output::type_letters(&names, db2_type);
     let mut line = [0u8; LINE];
-    let count = cells::append_cells(&mut line, 0, &letters[0..end], column, width);
-    output::put_bytes(&line[0..count]);
+    let count = cells::append_cells(&mut line, 0, letters, column, width);
+    crate::put_first(&line, count);
 }
 
-// From its label to its table.
-fn put_texts(reply: &[u8], words: &[u64], i: usize, widths: Widths, room: &mut [u8]) {
-    put_text_cell(reply, words, i, LABEL, widths.label, room);
-    put_text_cell(reply, words, i, SCHEMA, widths.schema, room);
-    put_text(reply, words, i, TABLE, room);
+// The line of the first column.
+fn put_row(reply: &[u8], columns: &[u64], widths: Widths) {
+    put_number_cell(columns);
+    put_text_cell(reply, columns, NAME, widths.name);
+    put_cells(columns, widths.db2_type);
+    put_text_cell(reply, columns, LABEL, widths.label);
+    put_text_cell(reply, columns, SCHEMA, widths.schema);
+    put_text(reply, columns, TABLE);
     output::put_byte(b'\n');
 }
 
-// The line of column `i`.
-fn put_row(reply: &[u8], words: &[u64], i: usize, widths: Widths, room: &mut [u8]) {
-    put_number_cell(column_words::column_in(words, i));
-    put_text_cell(reply, words, i, NAME, widths.name, room);
-    put_cells(column_words::column_in(words, i), widths.db2_type);
-    put_texts(reply, words, i, widths, room);
-}
-
-fn put_rows(reply: &[u8], words: &[u64], count: usize, widths: Widths, room: &mut [u8]) {
+fn put_rows(reply: &[u8], words: &[u64], count: usize, widths: Widths) {
     let mut i = 0;
     while i < count {
-        put_row(reply, words, i, widths, room);
+        put_row(reply, output::columns_from(words, i), widths);
         i += 1;
     }
 }
 
-// The table of the first `count` columns of a list; nothing where there is none.
-pub(crate) fn put_table(reply: &[u8], words: &[u64], count: usize, room: &mut [u8]) {
+// The size, and the table of the first `count` columns of a list; none where there are none.
+pub(crate) fn put_table(reply: &[u8], words: &[u64], count: usize) {
+    crate::status::put_size(count, reply.len());
     if count == 0 {
         return;
     }
     let widths = widths_of(words, count);
     put_heads(widths);
-    put_rows(reply, words, count, widths, room);
+    put_rows(reply, words, count, widths);
 }

@@ -5,6 +5,7 @@ ghost use Prim.Native.Nat.{_≤_};
 use libc::STDIN_FILENO;
 use plan::SqldardAnswer;
 use types::ColumnMetadata;
+use types::Db2Type;
 
 // What stands in front of the columns: nothing, or why there are none.
 fn put_head(answer: SqldardAnswer) {
@@ -33,6 +34,14 @@ fn put_name(reply: &[u8], column: ColumnMetadata) {
     output::put_byte(b'"');
 }
 
+fn put_type(db2_type: Db2Type) {
+    let names = output::all_names();
+    let letters = output::type_letters(&names, db2_type);
+    let mut line = [0u8; 32];
+    let count = cells::append_type(&mut line, 0, letters, db2_type);
+    output::put_bytes(&line[0..count]);
+}
+
 // A column's name and type, after a comma if it is not the first.
 fn put_column(reply: &[u8], column: ColumnMetadata) {
     let db2_type = column.db2_type;
@@ -41,7 +50,7 @@ fn put_column(reply: &[u8], column: ColumnMetadata) {
     }
     put_name(reply, column);
     output::put_byte(b' ');
-    output::put_type(db2_type);
+    put_type(db2_type);
 }
 
 // The columns of a reply, in a line.

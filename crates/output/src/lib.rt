@@ -3,11 +3,11 @@
 mod type_names;
 mod words;
 
-pub use type_names::put_type;
+pub use type_names::all_names;
 pub use type_names::type_letters;
 pub use type_names::without_blanks;
-pub use words::column_text;
-pub use words::number_of;
+pub use words::columns_from;
+pub use words::number_in;
 pub use words::text_in;
 ghost use mathlib.Core.Path.{_≡_};
 ghost use lib.IntN.{natAbs};
@@ -43,13 +43,10 @@ fn is_printable(character: u8) -> bool {
 
 fn are_printable(characters: &[u8]) -> bool {
     let mut i = 0;
-    while i < characters.len() {
-        if !is_printable(characters[i]) {
-            return false;
-        }
+    while i < characters.len() && is_printable(characters[i]) {
         i += 1;
     }
-    true
+    i == characters.len()
 }
 
 // Characters, each of a byte, as status records and texts have them. A quick path: those of ASCII are written at once.

@@ -1,9 +1,7 @@
 // The names of types.
-ghost use Prim.Native.Nat.{_≤_};
-ghost use lib.ListN.{length};
 use types::Db2Type;
 
-// The types' names, ten characters each.
+// The types' names, ten characters each, with blanks at their ends.
 const NAMES: [u8; 220] =
     *b"SmallInt  Integer   BigInt    Real      Double    Decimal   DecFloat  Char      VarChar   Clob      Binary    VarBinary Blob      Date      Time      Timestamp Graphic   VarGraphicDbClob    RowId     Boolean   Xml       ";
 
@@ -35,68 +33,23 @@ fn type_place(db2_type: Db2Type) -> u8 {
     }
 }
 
-// The letters of a type's name, and blanks up to ten.
-pub fn type_letters(db2_type: Db2Type) -> [u8; 10] {
-    let names = NAMES;
-    let start = 10 * (type_place(db2_type) % 22) as usize;
-    let mut letters = [0u8; 10];
-    let mut i = 0;
-    while i < 10 {
-        letters[i] = names[start + i];
-        i += 1;
-    }
-    letters
+// The names, for `type_letters` to lend a part of: no array is copied byte by byte.
+pub fn all_names() -> [u8; 220] {
+    NAMES
 }
 
-// How long characters are without the blanks at their end.
-pub fn without_blanks(characters: &[u8]) -> usize
-    ensures { λ r. ⌜ r ≤ length (now (characters .entry)) ⌝ }
-{
+// The letters of a type's name.
+pub fn type_letters<'a>(names: &'a [u8; 220], db2_type: Db2Type) -> &'a [u8] {
+    let all = &names[..];
+    let start = 10 * (type_place(db2_type) % 22) as usize;
+    without_blanks(&all[start..start + 10])
+}
+
+// Characters without the blanks at their end.
+pub fn without_blanks<'a>(characters: &'a [u8]) -> &'a [u8] {
     let mut end = characters.len();
-    while 0 < end {
-        if characters[end - 1] != 0x20 {
-            return end;
-        }
+    while 0 < end && characters[end - 1] == 0x20 {
         end -= 1;
     }
-    0
-}
-
-// A type with one number: `(4)`.
-fn put_size(size: u64) {
-    crate::put_byte(b'(');
-    crate::put_number(size);
-    crate::put_byte(b')');
-}
-
-fn put_precision(precision: u8, scale: u8) {
-    crate::put_bytes(b"{precision:");
-    crate::put_number(precision as u64);
-    crate::put_bytes(b",scale:");
-    crate::put_number(scale as u64);
-    crate::put_byte(b'}');
-}
-
-// What a type says besides its name.
-fn put_values(db2_type: Db2Type) {
-    match db2_type {
-        Db2Type::Decimal { precision, scale } => put_precision(precision, scale),
-        Db2Type::DecFloat(digits) => put_size(digits as u64),
-        Db2Type::Char(n) => put_size(n as u64),
-        Db2Type::VarChar(n) => put_size(n as u64),
-        Db2Type::Binary(n) => put_size(n as u64),
-        Db2Type::VarBinary(n) => put_size(n as u64),
-        Db2Type::Graphic(n) => put_size(n as u64),
-        Db2Type::VarGraphic(n) => put_size(n as u64),
-        Db2Type::RowId(n) => put_size(n as u64),
-        _ => {}
-    }
-}
-
-// A type in the Rust's Debug form without blanks: `Char(4)`, `Decimal{precision:5,scale:2}`.
-pub fn put_type(db2_type: Db2Type) {
-    let letters = type_letters(db2_type);
-    let count = without_blanks(&letters);
-    crate::put_bytes(&letters[0..count]);
-    put_values(db2_type);
+    &characters[0..end]
 }

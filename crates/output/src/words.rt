@@ -22,23 +22,16 @@ pub fn text_in(words: &[u64], at: usize) -> Text {
     }
 }
 
-// Where the words of column `i` start.
-fn start_of(words: &[u64], i: usize) -> usize {
+// A list of columns from column `i` on.
+pub fn columns_from<'a>(words: &'a [u64], i: usize) -> &'a [u64] {
     if i >= words.len() / 22 {
-        return words.len();
+        return &words[0..0];
     }
-    i * 22
+    let start = i * 22;
+    &words[start..]
 }
 
-// The number of column `i`.
-pub fn number_of(words: &[u64], i: usize) -> u16 {
-    (word(words, start_of(words, i)) % 65536) as u16
-}
-
-// A text of column `i`: name, label, base table or schema, by `which` from 0 on.
-pub fn column_text(words: &[u64], i: usize, which: u8) -> Text {
-    if i >= words.len() / 22 {
-        return text_in(words, words.len());
-    }
-    text_in(words, i * 22 + 10 + 3 * (which % 4) as usize)
+// The number of the first column.
+pub fn number_in(columns: &[u64]) -> u16 {
+    (word(columns, 0) % 65536) as u16
 }

@@ -23,5 +23,4 @@ are-printable-spec =
     (search needs)
     (search needs)
     (search needs)
-    (search needs)
     (search needs))

@@ -21,4 +21,5 @@ put-all-places-spec =
     (search needs)
     (search needs)
     (search needs)
+    (search needs)
     (search needs))

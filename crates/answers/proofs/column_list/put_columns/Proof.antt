@@ -24,4 +24,5 @@ put-columns-spec =
     (search needs)
     (search needs)
     (search needs)
+    (search needs)
     (search needs))

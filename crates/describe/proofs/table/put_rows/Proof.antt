@@ -1,16 +1,14 @@
--- Each row leaves the length of `room` as it was.
-use mathlib.Core.Path.{_≡_}
-use Prim.Native.Nat.{_-_}
-use lib.ListN.{length}
+-- The count goes up to the end.
+use Prim.Native.Nat.{_≤_, _-_}
 use borrow.Author.Needs.{needs}
 use Rattle.describe.proofs.table.put_rows.Statement.{statement}
 use Rattle.describe.proofs.table.put_rows.Tie as tie
 
 abbrev Inv-loop : tie.InvT-loop
-Inv-loop reply words count widths room₀ i₀ room i = length room ≡ length room₀
+Inv-loop reply words count widths i₀ i = i ≤ count
 
 abbrev μ-loop : tie.MeasureT-loop
-μ-loop reply words count widths room₀ i₀ room i = count - i
+μ-loop reply words count widths i₀ i = count - i
 
 pub put-rows-spec : {M : Type 1} → statement M
 put-rows-spec =

@@ -23,5 +23,6 @@ widths-of-spec =
     (search needs)
     (search needs)
     (search needs)
+    (search needs)
     loop-again
     (search needs))

@@ -24,4 +24,6 @@ without-blanks-spec =
     (search needs)
     (search needs)
     (search needs)
+    (search needs)
+    (search needs)
     (search needs))
