@@ -81,7 +81,7 @@ fn put_gap(width: usize, column: usize) {
     output::put_byte(b' ');
     output::put_byte(b' ');
     if width < column {
-        output::put_first(&blanks, column - width);
+        crate::put_first(&blanks, column - width);
     }
 }
 
@@ -101,11 +101,11 @@ fn put_heads(widths: Widths) {
 
 // A text of the first column, decoded.
 fn put_text(reply: &[u8], columns: &[u64], at: usize) {
-    let mut room = output::blank_bytes();
+    let mut room = crate::blank_bytes();
     let text = output::text_in(columns, at);
     let number = output::number_in(columns);
     let count = column_name::given_text(reply, number, text, &mut room).length;
-    output::put_first(&room, count);
+    crate::put_first(&room, count);
 }
 
 // A text and its gap.
@@ -119,7 +119,7 @@ fn put_number_cell(columns: &[u64]) {
     let column = column_words::column_in(columns, 0);
     let mut line = [0u8; LINE];
     let count = cells::append_number(&mut line, 0, column);
-    output::put_first(&line, count);
+    crate::put_first(&line, count);
 }
 
 // From its type to its CCSID.
@@ -130,7 +130,7 @@ fn put_cells(columns: &[u64], width: usize) {
     let letters = output::type_letters(&names, db2_type);
     let mut line = [0u8; LINE];
     let count = cells::append_cells(&mut line, 0, letters, column, width);
-    output::put_first(&line, count);
+    crate::put_first(&line, count);
 }
 
 // The line of the first column.
@@ -154,7 +154,7 @@ fn put_rows(reply: &[u8], words: &[u64], count: usize, widths: Widths) {
 
 // The size, and the table of the first `count` columns of a list; none where there are none.
 pub(crate) fn put_table(reply: &[u8], words: &[u64], count: usize) {
-    output::status::put_size(count, reply.len());
+    crate::status::put_size(count, reply.len());
     if count == 0 {
         return;
     }

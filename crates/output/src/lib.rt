@@ -1,6 +1,5 @@
 // The output of a program, written as it comes. A buffer would have to be lent to, and its position handed through, every function that
 // prints; that made up more than half of what the prover did for a program. Nothing is stored, so these functions have no contract.
-pub mod status;
 mod type_names;
 mod words;
 
@@ -60,22 +59,6 @@ pub fn put_characters(characters: &[u8]) {
     while i < characters.len() {
         put_character(characters[i]);
         i += 1;
-    }
-}
-
-// Room for a reply, and one byte more, so that a longer one is told; and for any text of a reply. Its length is known by its type here:
-// that of a literal would be counted in each proof.
-pub fn blank_bytes() -> [u8; 65_537] {
-    [0; 65_537]
-}
-
-// The first `count` characters, `-` for none; nothing where there are not so many.
-pub fn put_first(characters: &[u8], count: usize) {
-    if count == 0 {
-        put_byte(b'-');
-    }
-    if count <= characters.len() {
-        put_characters(&characters[0..count]);
     }
 }
 

@@ -1,31 +1,32 @@
-// A description for people to read: its status and size, or why it was refused.
+// A reply in words: its status and size; or, alone, why it was refused.
 use outcome::Refusal;
 use sqlcard::SqlCard;
 
 // `1 row`, `2 rows`.
 fn put_counted(count: usize, word: &[u8]) {
-    crate::put_number(count as u64);
-    crate::put_bytes(word);
+    output::put_number(count as u64);
+    output::put_bytes(word);
     if count != 1 {
-        crate::put_byte(b's');
+        output::put_byte(b's');
     }
 }
 
 // Code and state.
 fn put_code(sqlcode: i32, state: [u8; 5]) {
-    crate::put_bytes(b"status: SQLCODE ");
-    crate::put_signed(sqlcode);
-    crate::put_bytes(b", SQLSTATE ");
-    crate::put_characters(&state);
+    output::put_bytes(b"status: SQLCODE ");
+    output::put_signed(sqlcode);
+    output::put_bytes(b", SQLSTATE ");
+    output::put_characters(&state);
 }
 
 // Proc and rows.
 fn put_proc(procedure: [u8; 8], rows: usize) {
-    crate::put_bytes(b", proc ");
-    crate::put_characters(crate::without_blanks(&procedure));
-    crate::put_bytes(b", ");
+    output::put_bytes(b", proc ");
+    output::put_characters(output::without_blanks(&procedure));
+    output::put_byte(b',');
+    output::put_byte(b' ');
     put_counted(rows, b" row");
-    crate::put_bytes(b" updated\n");
+    output::put_bytes(b" updated\n");
 }
 
 // The message's text, which is at most as long as the reply.
@@ -33,16 +34,16 @@ fn put_message(reply: &[u8], place: usize, length: usize) {
     let mut room = crate::blank_bytes();
     let count = message_text::message_text(reply, place, length, &mut room).length;
     if 0 < count {
-        crate::put_bytes(b"message: ");
+        output::put_bytes(b"message: ");
         crate::put_first(&room, count);
-        crate::put_byte(b'\n');
+        output::put_byte(b'\n');
     }
 }
 
 // The lines of a status record.
-pub fn put_status(reply: &[u8], card: SqlCard) {
+pub(crate) fn put_status(reply: &[u8], card: SqlCard) {
     if card.is_null {
-        crate::put_bytes(b"status: success\n");
+        output::put_bytes(b"status: success\n");
         return;
     }
     let state = card.sqlstate;
@@ -53,36 +54,37 @@ pub fn put_status(reply: &[u8], card: SqlCard) {
 }
 
 // How many columns and bytes there are.
-pub fn put_size(columns: usize, bytes: usize) {
+pub(crate) fn put_size(columns: usize, bytes: usize) {
     put_counted(columns, b" column");
-    crate::put_bytes(b", ");
+    output::put_byte(b',');
+    output::put_byte(b' ');
     put_counted(bytes, b" byte");
-    crate::put_byte(b'\n');
+    output::put_byte(b'\n');
 }
 
 fn put_too_short(expected: usize, actual: usize) {
-    crate::put_bytes(b", the reply ends early: ");
+    output::put_bytes(b", the reply ends early: ");
     put_counted(expected, b" byte");
-    crate::put_bytes(b" expected,");
-    crate::put_value(actual as u64);
-    crate::put_bytes(b" there");
+    output::put_bytes(b" expected,");
+    output::put_value(actual as u64);
+    output::put_bytes(b" there");
 }
 
-// What a refusal of the description means; 6 does not come where 4,096 columns are lent, and the other numbers are other entries'.
+// What a refusal of the description means. Its other numbers are other entries'.
 fn put_reason(refusal: Refusal) {
     let number = refusal.number;
     match number {
-        1 => crate::put_bytes(b", the reply is empty"),
+        1 => output::put_bytes(b", the reply is empty"),
         2 => put_too_short(refusal.first, refusal.second),
-        5 => crate::put_bytes(b", the reply is longer than 65536 bytes"),
+        5 => output::put_bytes(b", the reply is longer than 65536 bytes"),
         _ => {}
     }
 }
 
 // `refused`, the refusal's number, and what it means.
-pub fn put_refusal(refusal: Refusal) {
-    crate::put_bytes(b"refused: ");
-    crate::put_number(refusal.number as u64);
+pub(crate) fn put_refusal(refusal: Refusal) {
+    output::put_bytes(b"refused: ");
+    output::put_number(refusal.number as u64);
     put_reason(refusal);
-    crate::put_byte(b'\n');
+    output::put_byte(b'\n');
 }
