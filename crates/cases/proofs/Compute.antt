@@ -17,9 +17,9 @@ use Rattle.sqlca.specs.Code.{isNear, codeOrder, codeOf}
 use Rattle.sqlcard.specs.Alone.{aloneRefusal, aloneCard}
 use Rattle.sqlcard.specs.Group.{groupEnd, groupRefusal, groupCard}
 use Rattle.sqlcard.specs.Sqldhgrp.{sqldhgrpEnd}
-use Rattle.standard.specs.Reading.{countAt, countIn, descriptorsEnd, startOf, gives, views, overColumns, standard}
-use Rattle.standard.specs.Run.{standardRun}
-use Rattle.standard.specs.Exchange.{splice, withColumn, exchange}
+use Rattle.descriptor.specs.Reading.{countAt, countIn, descriptorsEnd, startOf, gives, views, overColumns, standard}
+use Rattle.descriptor.specs.Run.{standardRun}
+use Rattle.descriptor.specs.Exchange.{splice, withColumn, exchange}
 use Rattle.compact_table.specs.Table.{looksCompact, nextHere, nextCompact, tableHere, tableAt, tableOf}
 use Rattle.compact.specs.Compact.{ccsidOf, nameHere, nameAt, compactName, compactAt, compactColumn, compactEnd, ffsHere, lastEnd, endBy}
 use Rattle.scan.specs.Score.{exactScore}

@@ -7,7 +7,7 @@ use native.Mathlib.Omega.{arith}
 use lib.ListN.{take, drop}
 use Rattle.codepage.specs.Page.{page037}
 use Rattle.field.specs.declared.ByteOrder.the-variants.{BigEndian}
-use Rattle.standard.specs.Exchange.{withColumn}
+use Rattle.descriptor.specs.Exchange.{withColumn}
 use Rattle.columns.specs.Cut.{sameColumn, cutAnswer}
 use Rattle.columns.proofs.Same.{cut-refl}
 use Rattle.sqldard.specs.Exchanged.{newColumn, newColumns, Exchangeable, Exchanged}

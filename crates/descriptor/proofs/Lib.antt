@@ -6,3 +6,9 @@ pub mod Steps
 pub mod Cases
 pub mod Local
 pub mod Lies
+pub mod Front
+pub mod Descriptors
+pub mod Splice
+pub mod Exchange
+pub mod Kept
+pub mod Runs

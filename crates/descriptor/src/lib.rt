@@ -1,14 +1,19 @@
-// One standard descriptor (SQLDAROW) at a position of a reply. Only its places are read here, no text is decoded.
+// Standard descriptors (SQLDAROW): one at a position of a reply, where their count stands, and runs of them. Only places are read here, no text
+// is decoded.
 // Each of its flags may be missing where the reply ends. A position past the reply's end says that it cannot be read.
 ghost use mathlib.Core.Path.{_≡_};
 ghost use mathlib.Core.Bool.{true};
 ghost use Prim.Native.Nat.{_+_, _≤_};
 ghost use lib.ListN.{length};
+ghost use Rattle.codepage.specs.Page.{page037};
 ghost use Rattle.column.specs.Column.{StringsInside};
 ghost use Rattle.descriptor.specs.Nullable.{lenient, nullableEnd};
 ghost use Rattle.descriptor.specs.Descriptor.{udtEnd, descriptorEnd, describedAt};
 ghost use Rattle.descriptor.specs.Groups.{sqldagrpAt, noSqldxgrp, sqldxgrpAt, noSqldoptgrp, sqldoptgrpAt, noStep, sqldxgrpStepAt, sqldoptgrpStepAt, stepAt, AllEmpty, LabelAt, NamesAt};
+ghost use Rattle.descriptor.specs.Reading.{countAt};
+ghost use Rattle.descriptor.specs.Run.{standardRun};
 use column::Described;
+use column::Run;
 use field::ByteOrder;
 use strings::StringRead;
 
@@ -338,4 +343,37 @@ pub fn read_descriptor(reply: &[u8], offset: usize, order: ByteOrder) -> Describ
         schema_name,
         next: options.next,
     }
+}
+
+// Where the count of columns is due: past the SQLCA group and SQLDHGRP. Past the reply's end, it is how many bytes were expected.
+pub fn count_offset(reply: &[u8]) -> usize
+    requires { ⌜ length (now reply) ≤ 65536 ⌝ }
+    ensures { λ r. ⌜ r ≡ countAt (now (reply .entry)) ⌝ }
+{
+    let flag = sqlcard::sqlca_end(reply);
+    if reply.len() <= flag {
+        return flag;
+    }
+    sqlcard::skip_sqldhgrp(reply, flag)
+}
+
+// At most `limit` descriptors from `start` on, as many as can be read, by their places alone.
+pub fn standard_run(reply: &[u8], order: ByteOrder, limit: usize, start: usize) -> Run
+    requires { ⌜ start ≤ length (now reply) ⌝ }
+    ensures { λ r. ⌜ (r ≡ standardRun page037 order (now (reply .entry)) limit start) × ((r .named ≤ r .count) × (r .count ≤ limit)) ⌝ }
+{
+    let mut offset = start;
+    let mut count = 0;
+    let mut named = 0;
+    while count < limit {
+        let step = descriptor_step(reply, offset, order);
+        let next = step.next;
+        if reply.len() < next {
+            return Run { count, named };
+        }
+        named += column::one_if_named(reply, step.name);
+        offset = next;
+        count += 1;
+    }
+    Run { count, named }
 }

@@ -16,7 +16,7 @@ use Rattle.field.specs.Numbers.{number}
 use Rattle.outcome.specs.declared.Outcome.{Outcome}
 use Rattle.outcome.specs.declared.Outcome.the-variants.{Accepted, EmptyReply, BufferTooShort}
 use Rattle.column.specs.Column.{hasNames, namedIn}
-use Rattle.standard.specs.Reading.{standard, countAt}
+use Rattle.descriptor.specs.Reading.{standard, countAt}
 use Rattle.planned.specs.declared.Plan.{Plan}
 use Rattle.planned.specs.declared.Layout.the-variants.{Last}
 use Rattle.plan.specs.Choice.{Reading, reads, refuses, compactColumns, lastColumns, lastReading, lastCountAt, hasSome, four, choice}

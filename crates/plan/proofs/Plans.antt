@@ -20,10 +20,10 @@ use Rattle.types.specs.declared.ColumnMetadata.{ColumnMetadata}
 use Rattle.column.specs.declared.Run.{Run}
 use Rattle.column.specs.Column.{namedIn}
 use Rattle.descriptor.specs.Descriptor.{columnAt}
-use Rattle.standard.specs.Reading.{countAt, countIn, descriptorsEnd, startOf, gives}
-use Rattle.standard.specs.Run.{standardWalk, standardRun}
-use Rattle.standard.proofs.Descriptors.{length-views}
-use Rattle.standard.proofs.Exchange.{Gives, gives-is}
+use Rattle.descriptor.specs.Reading.{countAt, countIn, descriptorsEnd, startOf, gives}
+use Rattle.descriptor.specs.Run.{standardWalk, standardRun}
+use Rattle.descriptor.proofs.Descriptors.{length-views}
+use Rattle.descriptor.proofs.Exchange.{Gives, gives-is}
 use Rattle.compact_table.specs.declared.Table.{Table}
 use Rattle.compact_table.specs.Table.{tableOf}
 use Rattle.compact.specs.declared.Ends.the-variants as ends

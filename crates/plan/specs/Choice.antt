@@ -11,7 +11,7 @@ use Rattle.field.specs.declared.ByteOrder.the-variants.{BigEndian, LittleEndian
 use Rattle.field.specs.Numbers.{number}
 use Rattle.types.specs.declared.ColumnMetadata.{ColumnMetadata}
 use Rattle.column.specs.Column.{hasNames}
-use Rattle.standard.specs.Reading.{countAt, standard}
+use Rattle.descriptor.specs.Reading.{countAt, standard}
 use Rattle.compact_table.specs.Table.{tableOf}
 use Rattle.compact.specs.declared.Ends.the-variants.{Compact, Last}
 use Rattle.compact.specs.Compact.{compactWalk}

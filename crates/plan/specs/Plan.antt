@@ -15,7 +15,7 @@ use Rattle.outcome.specs.declared.Outcome.the-variants.{Accepted, EmptyReply, B
 use Rattle.outcome.specs.Refusal.{refusalOf}
 use Rattle.column.specs.declared.Run.{Run}
 use Rattle.column.specs.Column.{hasNames, namedIn, runIs}
-use Rattle.standard.specs.Reading.{countAt, countIn, gives}
+use Rattle.descriptor.specs.Reading.{countAt, countIn, gives}
 use Rattle.compact_table.specs.Table.{tableOf}
 use Rattle.scan.specs.Scan.{scanBest, limitOf}
 use Rattle.planned.specs.declared.Layout.{Layout}

@@ -8,7 +8,7 @@ ghost use lib.ListN.{length};
 ghost use Rattle.search.specs.Search.{pick};
 ghost use Rattle.codepage.specs.Page.{page037};
 ghost use Rattle.outcome.specs.Refusal.{refusalOf};
-ghost use Rattle.standard.specs.Reading.{countAt};
+ghost use Rattle.descriptor.specs.Reading.{countAt};
 ghost use Rattle.scan.specs.Scan.{limitOf};
 ghost use Rattle.plan.specs.Choice.{lastCountAt};
 ghost use Rattle.plan.specs.Decision.{Decides};
@@ -90,7 +90,7 @@ fn standard_plan(reply: &[u8], order: ByteOrder, offset: usize) -> Plan
     if 512 < count {
         return no_columns(order);
     }
-    let run = standard::standard_run(reply, order, count, offset + 2);
+    let run = descriptor::standard_run(reply, order, count, offset + 2);
     if run.count == count {
         return plan_with(Layout::Standard, order, false, offset + 2, count, run);
     }
@@ -215,7 +215,7 @@ pub fn plan_reply(reply: &[u8]) -> Plan
     ensures counts { λ r. ⌜ Counted page037 (now (reply .entry)) r ⌝ }
     ensures bounds { λ r. ⌜ r .limit ≤ 65535 ⌝ }
 {
-    let offset = standard::count_offset(reply);
+    let offset = descriptor::count_offset(reply);
     let big = standard_plan(reply, ByteOrder::BigEndian, offset);
     if 1 <= big.named {
         return big;

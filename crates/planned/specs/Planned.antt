@@ -9,7 +9,7 @@ use Rattle.field.specs.declared.ByteOrder.{ByteOrder}
 use Rattle.types.specs.declared.ColumnMetadata.{ColumnMetadata}
 use Rattle.column.specs.declared.Described.{Described}
 use Rattle.descriptor.specs.Descriptor.{describedAt}
-use Rattle.standard.specs.Run.{standardWalk}
+use Rattle.descriptor.specs.Run.{standardWalk}
 use Rattle.compact.specs.declared.Ends.the-variants as ends
 use Rattle.compact.specs.Compact.{endBy, compactAt, compactWalk}
 use Rattle.planned.specs.declared.Layout.{Layout}

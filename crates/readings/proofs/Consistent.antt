@@ -12,8 +12,8 @@ use Rattle.sqlda.proofs.Laws.{code-of-type}
 use Rattle.column.specs.declared.Described.{Described}
 use Rattle.column.specs.Column.{columnWith}
 use Rattle.descriptor.specs.Descriptor.{describedAt, columnAt}
-use Rattle.standard.specs.Reading.{standard}
-use Rattle.standard.specs.Run.{standardWalk}
+use Rattle.descriptor.specs.Reading.{standard}
+use Rattle.descriptor.specs.Run.{standardWalk}
 use Rattle.compact.specs.declared.Ends.{Ends}
 use Rattle.compact.specs.Compact.{compactAt, compactColumn, compactWalk}
 use Rattle.scan.specs.Scan.{scanColumns}

@@ -14,9 +14,9 @@ use Rattle.types.specs.declared.ColumnMetadata.{ColumnMetadata}
 use Rattle.column.specs.Column.{hasNames}
 use Rattle.column.specs.Moved.{moveColumn}
 use Rattle.descriptor.specs.Descriptor.{Complete}
-use Rattle.standard.specs.Reading.{standard}
-use Rattle.standard.specs.Exchange.{withColumn, exchange}
-use Rattle.standard.proofs.Kept.{at-below}
+use Rattle.descriptor.specs.Reading.{standard}
+use Rattle.descriptor.specs.Exchange.{withColumn, exchange}
+use Rattle.descriptor.proofs.Kept.{at-below}
 use Rattle.columns.specs.Cut.{sameColumn, sameCut, cutAnswer}
 use Rattle.columns.proofs.Same.{same-whole, column-refl}
 use Rattle.plan.specs.Description.{Description, description}

@@ -17,9 +17,9 @@ use Rattle.field.specs.declared.ByteOrder.{ByteOrder}
 use Rattle.field.specs.declared.ByteOrder.the-variants.{LittleEndian}
 use Rattle.field.specs.Numbers.{number}
 use Rattle.types.specs.declared.ColumnMetadata.{ColumnMetadata}
-use Rattle.standard.specs.Reading.{countIn, gives, standard}
-use Rattle.standard.specs.Run.{standardWalk}
-use Rattle.standard.proofs.Exchange.{gives-in}
+use Rattle.descriptor.specs.Reading.{countIn, gives, standard}
+use Rattle.descriptor.specs.Run.{standardWalk}
+use Rattle.descriptor.proofs.Exchange.{gives-in}
 use Rattle.compact_table.specs.Table.{nextCompact, tableHere, tableAt, noTable, tableOf}
 use Rattle.compact_table.proofs.Laws.{count-small}
 use Rattle.compact.specs.declared.Ends.{Ends}

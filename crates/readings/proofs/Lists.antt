@@ -15,7 +15,7 @@ use Rattle.field.specs.declared.ByteOrder.the-variants.{BigEndian, LittleEndian
 use Rattle.outcome.specs.Refusal.{isRefused}
 use Rattle.types.specs.declared.ColumnMetadata.{ColumnMetadata}
 use Rattle.column.specs.Column.{hasNames}
-use Rattle.standard.specs.Reading.{countAt, standard}
+use Rattle.descriptor.specs.Reading.{countAt, standard}
 use Rattle.scan.specs.Scan.{scanColumns}
 use Rattle.plan.specs.Choice.{Reading, reads, refuses, compactColumns, lastColumns, lastReading, hasSome, four, choice}
 use Rattle.columns.specs.Consistent.{ConsistentFrom, Consistent}

@@ -6,7 +6,7 @@ use Prim.Native.Nat.{ℕ}
 use Rattle.codepage.specs.Page.{Page}
 use Rattle.field.specs.declared.ByteOrder.{ByteOrder}
 use Rattle.types.specs.declared.ColumnMetadata.{ColumnMetadata}
-use Rattle.standard.specs.Reading.{standard}
+use Rattle.descriptor.specs.Reading.{standard}
 use Rattle.columns.specs.Cut.{sameColumn, sameCut}
 use Rattle.sqldard.specs.Exchanged.{newColumn}
 use Rattle.readings.specs.Listed.{SameRow}

@@ -14,7 +14,7 @@ use Rattle.codepage.specs.Page.{Page}
 use Rattle.field.specs.declared.ByteOrder.{ByteOrder}
 use Rattle.column.specs.declared.Run.{Run}
 use Rattle.column.specs.Column.{runIs}
-use Rattle.standard.specs.Run.{standardWalk, standardRun}
+use Rattle.descriptor.specs.Run.{standardWalk, standardRun}
 use Rattle.scan.specs.declared.Best.{Best}
 use Rattle.field.specs.Numbers.{number}
 use Rattle.sqlda.specs.Types.{isKnown}

@@ -13,7 +13,7 @@ use Rattle.codepage.specs.Page.{Page}
 use Rattle.field.specs.declared.ByteOrder.{ByteOrder}
 use Rattle.field.specs.declared.ByteOrder.the-variants.{BigEndian, LittleEndian}
 use Rattle.types.specs.declared.ColumnMetadata.{ColumnMetadata}
-use Rattle.standard.specs.Run.{standardWalk, standardRun}
+use Rattle.descriptor.specs.Run.{standardWalk, standardRun}
 use Rattle.scan.specs.declared.Best.{Best}
 use Rattle.scan.specs.Score.{exactScore}
 

@@ -64,7 +64,7 @@ fn run_from(reply: &[u8], order: ByteOrder, start: usize) -> Best
     requires { ⌜ start ≤ length (now reply) ⌝ }
     ensures { λ r. ⌜ (r ≡ runFrom page037 order (now (reply .entry)) start) × (Few r) ⌝ }
 {
-    let run = standard::standard_run(reply, order, 512, start);
+    let run = descriptor::standard_run(reply, order, 512, start);
     Best {
         start,
         order,

@@ -22,11 +22,11 @@ use Rattle.column.specs.Column.{hasNames}
 use Rattle.column.specs.Moved.{moveText, moveColumn, Lies, LiesAll}
 use Rattle.column.proofs.Lies.{all-wider}
 use Rattle.descriptor.specs.Descriptor.{Complete}
-use Rattle.standard.specs.Reading.{startOf, standard}
-use Rattle.standard.specs.Exchange.{withColumn, exchange}
-use Rattle.standard.proofs.Front.{count-past}
-use Rattle.standard.proofs.Exchange.{place, front, standard-exchanged}
-use Rattle.standard.proofs.Kept.{bytes-exchanged, column-lies-at, starts-within, texts-inside, length-exchange}
+use Rattle.descriptor.specs.Reading.{startOf, standard}
+use Rattle.descriptor.specs.Exchange.{withColumn, exchange}
+use Rattle.descriptor.proofs.Front.{count-past}
+use Rattle.descriptor.proofs.Exchange.{place, front, standard-exchanged}
+use Rattle.descriptor.proofs.Kept.{bytes-exchanged, column-lies-at, starts-within, texts-inside, length-exchange}
 use Rattle.plan.specs.Choice.{reads, choice}
 use Rattle.plan.specs.Description.{Description, answerBy, description}
 use Rattle.sqldard.specs.Exchanged.{Moved, MovedColumn, newColumn, laterColumn, Exchangeable, ReadExchanged, Exchanged, attributesOf}

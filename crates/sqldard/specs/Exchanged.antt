@@ -16,8 +16,8 @@ use Rattle.types.specs.declared.ColumnMetadata.{ColumnMetadata}
 use Rattle.column.specs.Column.{hasNames}
 use Rattle.column.specs.Moved.{moveColumn, columnBytes, LiesAll}
 use Rattle.descriptor.specs.Descriptor.{columnAt, Complete}
-use Rattle.standard.specs.Reading.{startOf, standard}
-use Rattle.standard.specs.Exchange.{withColumn, exchange}
+use Rattle.descriptor.specs.Reading.{startOf, standard}
+use Rattle.descriptor.specs.Exchange.{withColumn, exchange}
 use Rattle.plan.specs.Description.{description}
 
 -- the description of column k in the reply s is so many bytes (01, What each entry owes (e): the bytes that its descriptor takes there)

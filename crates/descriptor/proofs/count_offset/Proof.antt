@@ -1,9 +1,9 @@
 -- The group's end where the reply ends there, else what is past SQLDHGRP.
 use native.Mathlib.Omega.{arith}
 use borrow.Author.Needs.{needs}
-use Rattle.standard.proofs.Front.{count-at-end, count-at-past}
-use Rattle.standard.proofs.count_offset.Statement.{statement}
-use Rattle.standard.proofs.count_offset.Tie as tie
+use Rattle.descriptor.proofs.Front.{count-at-end, count-at-past}
+use Rattle.descriptor.proofs.count_offset.Statement.{statement}
+use Rattle.descriptor.proofs.count_offset.Tie as tie
 
 returns : tie.Need-returns
 returns c = count-at-end _ _ (c .before .sqlca-end .ensures) (omega (arith, c .if1 .taken))

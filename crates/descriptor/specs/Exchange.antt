@@ -3,7 +3,7 @@ use mathlib.Core.List.{List, [], _∷_, _++_, map}
 use Prim.Native.Nat.{ℕ, zero, suc}
 use lib.ListN.{take, drop}
 use Rattle.field.specs.declared.ByteOrder.{ByteOrder}
-use Rattle.standard.specs.Reading.{startOf}
+use Rattle.descriptor.specs.Reading.{startOf}
 
 -- the reply s with d in place of its bytes from a to e: all bytes before and after them stay (01, What each entry owes (e))
 unfoldable pub splice : List ℕ → ℕ → ℕ → List ℕ → List ℕ

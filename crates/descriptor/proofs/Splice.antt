@@ -5,9 +5,9 @@ use Prim.Native.Nat.{ℕ, _+_, _-_, _≤_, _<_}
 use native.Mathlib.Omega.{arith}
 use lib.ListN.{length, getD, take, drop, length-drop, length-append, List·getD-append}
 use lib.Seq.{getD-take, getD-drop, getD-append-add, length-take-le}
 use Rattle.descriptor.specs.Nullable.{lenient, strict}
 use Rattle.descriptor.proofs.Local.{FlagWindow}
-use Rattle.standard.specs.Exchange.{splice}
+use Rattle.descriptor.specs.Exchange.{splice}
 
 module _ (s : List ℕ) (a e : ℕ) (d : List ℕ) (x : a ≤ e) (y : e ≤ length s) where
   length-front : length (take a s) ≡ a

@@ -14,15 +14,15 @@ use Rattle.field.specs.declared.ByteOrder.{ByteOrder}
 use Rattle.strings.proofs.Windows.{Window}
 use Rattle.column.specs.Moved.{moveColumn}
 use Rattle.column.proofs.Moved.{move-none}
 use Rattle.descriptor.specs.Nullable.{lenient, strict}
 use Rattle.descriptor.specs.Descriptor.{descriptorEnd, columnAt, Complete}
 use Rattle.descriptor.proofs.Ends.{descriptorEnd-grows}
 use Rattle.descriptor.proofs.Local.{FlagWindow, descriptor-local, column-same}
-use Rattle.standard.specs.Reading.{countAt, countIn, descriptorsEnd, startOf, gives, views, overColumns, standard}
-use Rattle.standard.specs.Exchange.{splice, withColumn, exchange}
-use Rattle.standard.proofs.Front.{count-at-same, count-in-same}
-use Rattle.standard.proofs.Descriptors.{Local, ends-grow, ends-next, ends-within, ends-local, views-same, length-views, end-here, view-here}
-use Rattle.standard.proofs.Splice.{length-splice, window-before, window-within, window-after}
+use Rattle.descriptor.specs.Reading.{countAt, countIn, descriptorsEnd, startOf, gives, views, overColumns, standard}
+use Rattle.descriptor.specs.Exchange.{splice, withColumn, exchange}
+use Rattle.descriptor.proofs.Front.{count-at-same, count-in-same}
+use Rattle.descriptor.proofs.Descriptors.{Local, ends-grow, ends-next, ends-within, ends-local, views-same, length-views, end-here, view-here}
+use Rattle.descriptor.proofs.Splice.{length-splice, window-before, window-within, window-after}
 
 -- ---- the descriptors, with the one at a exchanged
 

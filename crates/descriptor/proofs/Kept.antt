@@ -12,13 +12,13 @@ use Rattle.field.specs.declared.ByteOrder.{ByteOrder}
 use Rattle.types.specs.declared.ColumnMetadata.{ColumnMetadata}
 use Rattle.column.specs.Moved.{columnBytes, LiesAll}
 use Rattle.column.proofs.Lies.{all-wider}
 use Rattle.descriptor.specs.Nullable.{lenient}
 use Rattle.descriptor.specs.Descriptor.{descriptorEnd, columnAt, Complete}
 use Rattle.descriptor.proofs.Lies.{texts-lie, column-bytes-same}
-use Rattle.standard.specs.Reading.{countAt, countIn, descriptorsEnd, startOf, gives, views, overColumns, standard}
-use Rattle.standard.specs.Exchange.{withColumn, exchange}
-use Rattle.standard.proofs.Descriptors.{Local, ends-within}
-use Rattle.standard.proofs.Exchange.{place, over-is, over-exchanged}
+use Rattle.descriptor.specs.Reading.{countAt, countIn, descriptorsEnd, startOf, gives, views, overColumns, standard}
+use Rattle.descriptor.specs.Exchange.{withColumn, exchange}
+use Rattle.descriptor.proofs.Descriptors.{Local, ends-within}
+use Rattle.descriptor.proofs.Exchange.{place, over-is, over-exchanged}
 
 -- ---- the bytes of texts
 

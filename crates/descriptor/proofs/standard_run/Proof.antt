@@ -7,10 +7,10 @@ use borrow.Author.Needs.{needs}
 use Rattle.search.proofs.Walks.{Walking, walking-none}
 use Rattle.codepage.specs.Page.{page037}
 use Rattle.column.specs.Column.{isNamed}
-use Rattle.standard.specs.Run.{standardWalk}
-use Rattle.standard.proofs.Runs.{run-more, run-stop, run-done}
-use Rattle.standard.proofs.standard_run.Statement.{statement}
-use Rattle.standard.proofs.standard_run.Tie as tie
+use Rattle.descriptor.specs.Run.{standardWalk}
+use Rattle.descriptor.proofs.Runs.{run-more, run-stop, run-done}
+use Rattle.descriptor.proofs.standard_run.Statement.{statement}
+use Rattle.descriptor.proofs.standard_run.Tie as tie
 
 abbrev Inv-loop : tie.InvT-loop
 Inv-loop reply order limit start offset₀ count₀ named₀ offset count named =

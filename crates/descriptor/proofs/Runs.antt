@@ -15,11 +15,11 @@ use Rattle.field.specs.declared.ByteOrder.{ByteOrder}
 use Rattle.strings.specs.declared.StringRead.{StringRead}
 use Rattle.text.specs.Generated.{isGeneratedText}
 use Rattle.column.specs.Column.{nameText, columnWith, isNamed}
 use Rattle.descriptor.specs.declared.Step.{Step}
 use Rattle.descriptor.specs.Nullable.{lenient}
 use Rattle.descriptor.specs.Descriptor.{descriptorEnd, describedAt, columnAt}
 use Rattle.descriptor.specs.Groups.{noStep, stepAt}
-use Rattle.standard.specs.Run.{standardWalk, standardRun}
+use Rattle.descriptor.specs.Run.{standardWalk, standardRun}
 
 -- ---- a step
 

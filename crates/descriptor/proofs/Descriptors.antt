@@ -7,11 +7,11 @@ use native.Mathlib.Omega.{arith}
 use lib.ListN.{length}
 use Rattle.field.specs.declared.ByteOrder.{ByteOrder}
 use Rattle.strings.proofs.Windows.{Same, same-here}
 use Rattle.descriptor.specs.Nullable.{Flags, lenient}
 use Rattle.descriptor.specs.Descriptor.{descriptorEnd}
 use Rattle.descriptor.proofs.Ends.{descriptorEnd-grows}
 use Rattle.descriptor.proofs.Local.{FlagWindow, descriptor-local}
-use Rattle.standard.specs.Reading.{descriptorsEnd, views}
+use Rattle.descriptor.specs.Reading.{descriptorsEnd, views}
 
 -- v is local, and f moves what it finds: in any window of s and s′, read strictly or leniently in s, v finds in s′ what it finds in s, moved
 pub record Local {A : Type 0} (order : ByteOrder) (v : ℕ → List ℕ → ℕ → A) (f : ℕ → ℕ → A → A) : Type 0 where

@@ -15,7 +15,7 @@ use Rattle.strings.proofs.Windows.{Window, same-here, stringsEnd-grows, strings
 use Rattle.sqlcard.specs.Group.{groupEnd}
 use Rattle.sqlcard.specs.Sqldhgrp.{sqldhgrpEnd}
 use Rattle.sqlcard.proofs.Groups.{group-end-same}
-use Rattle.standard.specs.Reading.{countAt, countIn}
+use Rattle.descriptor.specs.Reading.{countAt, countIn}
 
 dh-grows : (s : List ℕ) (p : ℕ) → p < sqldhgrpEnd s p
 unfolding sqldhgrpEnd

@@ -1,3 +1,0 @@
-pub mod Reading
-pub mod Run
-pub mod Exchange
