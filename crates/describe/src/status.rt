@@ -23,8 +23,7 @@ fn put_code(sqlcode: i32, state: [u8; 5]) {
 fn put_proc(procedure: [u8; 8], rows: usize) {
     output::put_bytes(b", proc ");
     output::put_characters(output::without_blanks(&procedure));
-    output::put_byte(b',');
-    output::put_byte(b' ');
+    output::put_bytes(b", ");
     put_counted(rows, b" row");
     output::put_bytes(b" updated\n");
 }
@@ -56,8 +55,7 @@ pub(crate) fn put_status(reply: &[u8], card: SqlCard) {
 // How many columns and bytes there are.
 pub(crate) fn put_size(columns: usize, bytes: usize) {
     put_counted(columns, b" column");
-    output::put_byte(b',');
-    output::put_byte(b' ');
+    output::put_bytes(b", ");
     put_counted(bytes, b" byte");
     output::put_byte(b'\n');
 }
@@ -70,7 +68,7 @@ fn put_too_short(expected: usize, actual: usize) {
     output::put_bytes(b" there");
 }
 
-// What a refusal of the description means. Its other numbers are other entries'.
+// What a refusal of the description means: 6 does not come, since 4,096 columns are lent, and the other numbers are other entries'.
 fn put_reason(refusal: Refusal) {
     let number = refusal.number;
     match number {

@@ -78,8 +78,7 @@ fn widths_of(words: &[u64], count: usize) -> Widths {
 // Blanks behind a cell of `width` characters in a column of `column` characters: two at least.
 fn put_gap(width: usize, column: usize) {
     let blanks = [0x20u8; WIDEST];
-    output::put_byte(b' ');
-    output::put_byte(b' ');
+    output::put_bytes(b"  ");
     if width < column {
         crate::put_first(&blanks, column - width);
     }
