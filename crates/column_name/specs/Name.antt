@@ -36,14 +36,14 @@ givenWritten page s number t buffer = pick (isRefused (partRefusal s t)) buffer 
 unfoldable pub nameOf : Page → List ℕ → ColumnMetadata → List ℕ
 nameOf page s c = givenText page s (c .number) (c .name)
 
--- it is refused as that text is (01, Numbers of refusal: name part and name text)
+-- name text's refusal for a column: that of its number and name (01, Numbers of refusal: name part and name text)
 unfoldable pub nameRefusal : Page → List ℕ → ColumnMetadata → ℕ → List ℕ
 nameRefusal page s c room = givenRefusal page s (c .number) (c .name) room
 
--- it is as long (01, Answers: name text)
+-- the length that name text answers for a column; 0 where refused (01, Answers: name text)
 unfoldable pub nameLength : Page → List ℕ → ColumnMetadata → ℕ → ℕ
 nameLength page s c room = givenLength page s (c .number) (c .name) room
 
--- it is left in the buffer so (01, Numbers of refusal: a refusal changes nothing)
+-- the buffer as name text leaves it for a column; as it was where refused (01, Numbers of refusal: a refusal changes nothing)
 unfoldable pub nameWritten : Page → List ℕ → ColumnMetadata → List ℕ → List ℕ
 nameWritten page s c buffer = givenWritten page s (c .number) (c .name) buffer
