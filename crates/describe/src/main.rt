@@ -1,8 +1,9 @@
 // Describes a reply: reads it from standard input, and writes its status and a table of its columns, or why it is refused.
+mod input;
 mod status;
 mod table;
 
-use libc::STDIN_FILENO;
+use libc::STDERR_FILENO;
 
 // Room for a reply, and one byte more, so that a longer one is told; and for any text of a reply. Its length is known by its type here:
 // that of a literal would be counted in each proof.
@@ -37,6 +38,12 @@ fn main() {
     let mut reply = blank_bytes();
     // 4,096 columns of 22 words.
     let mut words = [0u64; 90_112];
-    let got = io::read_full(STDIN_FILENO, &mut reply);
-    put_description(&reply[0..got], &mut words);
+    let taken = input::read_reply(&mut reply);
+    let count = taken.count;
+    // Nothing goes to standard output then: what came is not the reply.
+    if taken.failed {
+        io::write_all(STDERR_FILENO, b"describe: a read of the reply failed\n");
+        return;
+    }
+    put_description(&reply[0..count], &mut words);
 }
