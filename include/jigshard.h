@@ -91,7 +91,8 @@ typedef struct jigshard_card {
 
 /* ---- Columns */
 
-/* A column's type: its DRDA code without the nullable bit. */
+/* A column's type: its code without the nullable bit. The codes are those of the Rust program that Jigshard replaces, and not the LIDs of
+   DRDA's SQLDTAGRP, by which a QRYDSC describes rows: of Real, Double, Decimal, Graphic, VarGraphic and others the two differ. */
 enum jigshard_type {
     JIGSHARD_INTEGER = 0x02,
     JIGSHARD_SMALLINT = 0x04,
@@ -105,8 +106,8 @@ enum jigshard_type {
     JIGSHARD_TIMESTAMP = 0x24,
     JIGSHARD_CHAR = 0x30,       /* type_value: length */
     JIGSHARD_VARCHAR = 0x32,    /* type_value: length */
-    JIGSHARD_GRAPHIC = 0x3C,    /* type_value: length */
-    JIGSHARD_VARGRAPHIC = 0x3E, /* type_value: length */
+    JIGSHARD_GRAPHIC = 0x3C,    /* type_value: length, in double-byte characters */
+    JIGSHARD_VARGRAPHIC = 0x3E, /* type_value: length, in double-byte characters */
     JIGSHARD_BINARY = 0x60,     /* type_value: length */
     JIGSHARD_VARBINARY = 0x62,  /* type_value: length */
     JIGSHARD_DECFLOAT = 0xBA,   /* type_value: digits, 16 or 34 */
@@ -117,7 +118,8 @@ enum jigshard_type {
     JIGSHARD_XML = 0xDC
 };
 
-/* How a text's bytes become characters. */
+/* How a text's bytes become characters: a guess by the bytes, whatever the server's CCSIDs. All below 80: ASCII; else page 037, without its
+   blanks at both ends. UTF-8 with a byte from 80 on comes out wrong. */
 enum jigshard_alphabet {
     JIGSHARD_GENERATED = 0, /* the reply has no name: it is COL and the column's number, counted from 1 */
     JIGSHARD_ASCII = 1,     /* each byte is its character */
@@ -139,7 +141,8 @@ typedef struct jigshard_column {
     uint64_t type;       /* enum jigshard_type */
     uint64_t type_value; /* what the type says besides, as there, 0 where it says nothing; 16 bits, of DecFloat 8 */
     uint64_t drda_type;  /* the type's code, 1 more where it is nullable; 8 bits */
-    uint64_t length;     /* how many bytes a value takes in a row, or can take where it varies; 16 bits */
+    uint64_t length;     /* of a value, or the most where it varies: bytes, of Graphic and VarGraphic double-byte characters; 16 bits,
+                            65,535 for more */
     uint64_t nullable;   /* 0 or 1: whether a byte in front of a value says that it is missing */
     uint64_t precision;  /* 8 bits */
     uint64_t scale;      /* 8 bits */
@@ -172,7 +175,7 @@ typedef struct jigshard_group_result {
 
 typedef struct jigshard_count_result {
     jigshard_refusal refusal;
-    size_t count; /* how many texts or characters were written, or how many bytes a row can take */
+    size_t count; /* how many texts or characters were written, or the sum that is the widest row */
 } jigshard_count_result;
 
 typedef struct jigshard_part_result {
@@ -245,7 +248,8 @@ jigshard_count_result jigshard_message_text(const uint8_t *reply, size_t reply_l
    is not, or a field out of its range. Lists that the library wrote are columns. */
 jigshard_cut_result jigshard_same_cut(const uint64_t *first, size_t first_length, const uint64_t *second, size_t second_length);
 
-/* Widest row: how many bytes a row can take: the lengths, 1 more for a nullable column, 2 more for VarChar, VarBinary, VarGraphic and RowId.
+/* Widest row: the sum of the lengths, 1 more for a nullable column, 2 more for VarChar, VarBinary, VarGraphic and RowId. A row with Graphic
+   or VarGraphic can take more bytes: their lengths count double-byte characters.
    Refuses: 5; 255 as above; 8 the first Blob, Clob, DbClob or Xml. */
 jigshard_count_result jigshard_widest_row(const uint64_t *columns, size_t columns_length);
 

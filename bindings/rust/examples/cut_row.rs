@@ -4,6 +4,7 @@
 //!
 //! The reply is tests/replies/luggage.bin; the row is made up here. In a row, a nullable column has a byte in front, FF for a missing
 //! value and 00 otherwise; a value of varying length has its length in two bytes, big-endian; every other value takes the column's length.
+//! Not for Graphic and VarGraphic: their lengths count double-byte characters.
 
 use jigshard::{describe, Alphabet, ByteOrder, Column, Db2Type, Refusal, Text};
 use std::error::Error;

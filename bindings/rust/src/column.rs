@@ -43,9 +43,9 @@ pub enum Db2Type {
     Time,
     /// A date and a time.
     Timestamp,
-    /// Characters of two bytes, and their length.
+    /// Characters of two bytes, and how many they are.
     Graphic(u16),
-    /// Characters of two bytes, of varying length, and their length.
+    /// Characters of two bytes, of varying length, and how many there can be.
     VarGraphic(u16),
     /// A large object of characters of two bytes.
     DbClob,
@@ -58,7 +58,8 @@ pub enum Db2Type {
 }
 
 impl Db2Type {
-    /// The DRDA type code of a column of this type that is not nullable.
+    /// The type code of a column of this type that is not nullable: the Rust program's that Jigshard replaces, and not the
+    /// LID of DRDA's SQLDTAGRP.
     pub fn drda_type(self) -> u8 {
         match self {
             Db2Type::Integer => 0x02,
@@ -159,16 +160,17 @@ pub enum ByteOrder {
     LittleEndian,
 }
 
-/// How a text's bytes become characters. Any number may be asked about; those without a name here are refused.
+/// How a text's bytes become characters: a guess by the bytes, whatever the server's CCSIDs. UTF-8 with a byte from 80 on is
+/// taken for page 037. Any number may be asked about; those without a name here are refused.
 #[derive(Clone, Copy, Debug, PartialEq, Eq, Hash)]
 pub struct Alphabet(pub u8);
 
 impl Alphabet {
     /// The reply has no name for the column: it is COL and the column's number, counted from 1.
     pub const GENERATED: Alphabet = Alphabet(0);
-    /// Each byte is its character.
+    /// Each byte is its character: all are below 80.
     pub const ASCII: Alphabet = Alphabet(1);
-    /// EBCDIC code page 037.
+    /// EBCDIC code page 037: a byte is 80 or above. Blanks at both ends are left out.
     pub const PAGE_037: Alphabet = Alphabet(2);
 }
 
@@ -236,9 +238,10 @@ pub struct Column {
     pub number: u16,
     /// Its type.
     pub db2_type: Db2Type,
-    /// Its type's DRDA code, 1 more where it is nullable.
+    /// Its type's code ([`Db2Type::drda_type`]), 1 more where it is nullable.
     pub drda_type: u8,
-    /// How many bytes a value takes in a row, or can take where it varies.
+    /// How many bytes a value has, or can have where it varies; of `Graphic` and `VarGraphic` it counts double-byte
+    /// characters. At most 65,535, also where the reply says more.
     pub length: u16,
     /// Whether a value may be missing: a byte in front of it says so.
     pub nullable: bool,

@@ -206,7 +206,8 @@ pub fn same_cut(first: &[Column], second: &[Column]) -> Result<bool, Refusal> {
     Ok(answer.same)
 }
 
-/// How many bytes a row can take: the lengths, 1 more for a nullable column, 2 more for one of varying length.
+/// The sum of the lengths, 1 more for a nullable column, 2 more for one of varying length. A row with `Graphic` or
+/// `VarGraphic` can take more bytes: their lengths count double-byte characters.
 ///
 /// # Errors
 /// [`Refusal::ReplyTooLong`] for more than [`MAX_COLUMNS`]; [`Refusal::LargeObject`].

@@ -58,7 +58,7 @@ pub record StringsInside (s : List ℕ) (d : Described) : Type 0 where
   pub base : d .«base_table_name» .place + d .«base_table_name» .length ≤ lib.ListN.length s
   pub schema : d .«schema_name» .place + d .«schema_name» .length ≤ lib.ListN.length s
 
--- what a lent list holds before a column is put there: 0 everywhere, SmallInt, BE, texts empty (01, Answers: an empty text is 0, 0, 1)
+-- some record, where one is needed and none was read: 0 everywhere, SmallInt, BE, texts empty (01, Answers: an empty text is 0, 0, 1)
 unfoldable pub blankColumn : ColumnMetadata
 blankColumn = record {
   number = 0;

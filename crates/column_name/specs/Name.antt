@@ -24,11 +24,11 @@ givenText page s number t = pick (eqb (t .alphabet) 0) (generatedName number) (c
 unfoldable pub givenRefusal : Page → List ℕ → ℕ → Text → ℕ → List ℕ
 givenRefusal page s number t room = pick (isRefused (partRefusal s t)) (partRefusal s t) (roomRefusal (givenText page s number t) room)
 
--- the text's length; 0 where refused (01, Answers: name text)
+-- the text's length (01, Answers: name text); 0 where refused (DECISIONS, Forms 12)
 unfoldable pub givenLength : Page → List ℕ → ℕ → Text → ℕ → ℕ
 givenLength page s number t room = pick (isRefused (partRefusal s t)) 0 (roomLength (givenText page s number t) room)
 
--- the text over the buffer's front; the buffer as it was where refused (01, Numbers of refusal: a refusal changes nothing)
+-- the text over the buffer's front; the buffer as it was where refused (01, Answers: name text; demand 1: a refusal changes no lent list or buffer)
 unfoldable pub givenWritten : Page → List ℕ → ℕ → Text → List ℕ → List ℕ
 givenWritten page s number t buffer = pick (isRefused (partRefusal s t)) buffer (roomWritten (givenText page s number t) buffer)
 
@@ -40,10 +40,10 @@ nameOf page s c = givenText page s (c .number) (c .name)
 unfoldable pub nameRefusal : Page → List ℕ → ColumnMetadata → ℕ → List ℕ
 nameRefusal page s c room = givenRefusal page s (c .number) (c .name) room
 
--- the length that name text answers for a column; 0 where refused (01, Answers: name text)
+-- the length that name text answers for a column (01, Answers: name text); 0 where refused (DECISIONS, Forms 12)
 unfoldable pub nameLength : Page → List ℕ → ColumnMetadata → ℕ → ℕ
 nameLength page s c room = givenLength page s (c .number) (c .name) room
 
--- the buffer as name text leaves it for a column; as it was where refused (01, Numbers of refusal: a refusal changes nothing)
+-- the buffer as name text leaves it for a column; as it was where refused (01, Answers: name text; demand 1: a refusal changes no lent list or buffer)
 unfoldable pub nameWritten : Page → List ℕ → ColumnMetadata → List ℕ → List ℕ
 nameWritten page s c buffer = givenWritten page s (c .number) (c .name) buffer

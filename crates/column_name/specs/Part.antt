@@ -17,6 +17,6 @@ partRefusal s t =
 abbrev pub ownBytes : List ℕ → Text → List ℕ
 ownBytes s t = pick (eqb (t .alphabet) 0) [] (bytesOf s t)
 
--- the name's own bytes, none where it is refused (01, Answers: name part)
+-- the name's own bytes (01, Answers: name part); none where it is refused (DECISIONS, Forms 12)
 unfoldable pub partOf : List ℕ → Text → List ℕ
 partOf s t = pick (isRefused (partRefusal s t)) [] (ownBytes s t)

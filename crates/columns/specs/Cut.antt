@@ -29,6 +29,6 @@ sameCut a b = alike sameColumn a b
 unfoldable pub cutRefusal : List ColumnMetadata → List ColumnMetadata → List ℕ
 cutRefusal a b = pick (ltb mostColumns (length a) || ltb mostColumns (length b)) (5 ∷ []) (0 ∷ [])
 
--- what the entry answers: no, where it is refused (01, Answers: same cut)
+-- what the entry answers (01, Answers: same cut); no, where it is refused (DECISIONS, Forms 12)
 unfoldable pub cutAnswer : List ColumnMetadata → List ColumnMetadata → Bool
 cutAnswer a b = pick (isRefused (cutRefusal a b)) false (sameCut a b)

@@ -1,4 +1,4 @@
--- Widest row: how many bytes a row can take (01, Answers: widest row).
+-- Widest row: the sum that 01 defines (01, Answers: widest row). Of Graphic and VarGraphic the length counts double-byte characters, not bytes.
 use mathlib.Core.Bool.{Bool, true, false}
 use mathlib.Core.List.{List, [], _∷_}
 use Prim.Native.Nat.{ℕ, _+_}
@@ -77,6 +77,6 @@ largeRefusal (c ∷ l) = pick (isLarge (c .«db2_type»)) (8 ∷ c .number ∷ [
 unfoldable pub rowRefusal : List ColumnMetadata → List ℕ
 rowRefusal l = pick (ltb mostColumns (lib.ListN.length l)) (5 ∷ []) (largeRefusal l)
 
--- what the entry answers: 0 where it is refused (01, Answers: widest row)
+-- what the entry answers (01, Answers: widest row); 0 where it is refused (DECISIONS, Forms 12)
 unfoldable pub rowAnswer : List ColumnMetadata → ℕ
 rowAnswer l = pick (isRefused (rowRefusal l)) 0 (rowWidth l)

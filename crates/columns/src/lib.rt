@@ -15,7 +15,7 @@ pub struct CutAnswer {
     pub same: bool,
 }
 
-// How many bytes a row can take; 0 where the outcome is a refusal.
+// The sum that is the widest row; 0 where the outcome is a refusal.
 pub struct RowAnswer {
     pub outcome: Outcome,
     pub width: usize,

@@ -27,7 +27,7 @@ pub struct GroupResult {
     pub length: usize,
 }
 
-// How many elements were written, or how many bytes a row can take; 0 where the call is refused.
+// How many elements were written, or the sum that is the widest row; 0 where the call is refused.
 #[repr(C)]
 pub struct CountResult {
     pub refusal: Refusal,

@@ -18,10 +18,10 @@ messageRefusal page s p n room =
     pick (ltb 65536 (length s)) (5 ∷ [])
     (pick (ltb (length s) (p + n)) (7 ∷ []) (pick (ltb room (length (textAt page s p n))) (6 ∷ length (textAt page s p n) ∷ []) (0 ∷ [])))
 
--- the text's length; 0 where refused (01, Answers: message text)
+-- the text's length (01, Answers: message text); 0 where refused (DECISIONS, Forms 12)
 unfoldable pub messageLength : Page → List ℕ → ℕ → ℕ → ℕ → ℕ
 messageLength page s p n room = pick (isRefused (messageRefusal page s p n room)) 0 (length (textAt page s p n))
 
--- the text over the buffer's front; the buffer as it was where refused (01, Numbers of refusal: a refusal changes nothing)
+-- the text over the buffer's front; the buffer as it was where refused (01, Answers: message text; demand 1: a refusal changes no lent list or buffer)
 unfoldable pub messageWritten : Page → List ℕ → ℕ → ℕ → List ℕ → List ℕ
 messageWritten page s p n buffer = pick (isRefused (messageRefusal page s p n (length buffer))) buffer (over (textAt page s p n) buffer)

@@ -1,4 +1,4 @@
--- What is decided before a list is written (01, Numbers of refusal: a refusal changes nothing that was lent).
+-- What is decided before a list is written (demand 1: a refusal changes no lent list or buffer).
 use mathlib.Core.Bool.{true, false}
 use mathlib.Core.List.{List}
 use mathlib.Core.Path.{_≡_}

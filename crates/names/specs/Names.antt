@@ -29,7 +29,7 @@ pub record NameScan : Type 0 where
   pub refusal : List ℕ
   pub names : List Text
 
--- a refusal: no names (01, Numbers of refusal)
+-- a refusal: no names (DECISIONS, Forms 12)
 abbrev pub refusedWith : List ℕ → NameScan
 refusedWith refusal = record { refusal = refusal; names = [] }
 

@@ -20,11 +20,11 @@ pub record Description : Type 0 where
   pub card : SqlCard
   pub columns : List ColumnMetadata
 
--- a refusal: the status for success, and no columns (01, Numbers of refusal)
+-- a refusal: the status for success, and no columns (DECISIONS, Forms 12)
 abbrev pub refusedWith : List ℕ → Description
 refusedWith refusal = record { refusal = refusal; card = successCard; columns = [] }
 
--- the status of a reading: compact and scan read it alone on the whole reply, success if refused; the others take the group's (01, Choice)
+-- the status of a reading: compact and scan read it alone on the whole reply, success if refused; the standard readings take the group's (01, Choice); so does the last reader (DECISIONS, Readings 25)
 abbrev pub statusOf : Page → List ℕ → Bool → SqlCard
 statusOf page s alone = pick alone (aloneCard page s) (groupCard page s)
 

@@ -41,6 +41,6 @@ aloneRefusal s =
     (pick (isNull s) (0 ∷ [])
     (pick (ltb (length s) 19) (3 ∷ []) (pick (ltb (length s) (aloneEnd s)) (2 ∷ aloneEnd s ∷ length s ∷ []) (0 ∷ []))))
 
--- the status record; that for success where it is null or refused (01, Answers)
+-- the status record; that for success where it is null (01, Answers), and where it is refused (DECISIONS, Forms 12)
 unfoldable pub aloneCard : Page → List ℕ → SqlCard
 aloneCard page s = pick (isRefused (aloneRefusal s) || isNull s) successCard (cardWith page s (aloneMessage page s))

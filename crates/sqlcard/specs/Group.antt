@@ -36,10 +36,10 @@ groupRefusal s =
 abbrev pub groupBytes : List ℕ → List ℕ
 groupBytes s = take (groupEnd s) s
 
--- the status that the group's own bytes give; that for success where it is refused (01, Numbers of refusal: SQLCA group gives the status)
+-- the status that the group's own bytes give (01, Numbers of refusal: SQLCA group gives the status); that for success where it is refused (DECISIONS, Forms 12)
 unfoldable pub groupCard : Page → List ℕ → SqlCard
 groupCard page s = pick (isRefused (groupRefusal s)) successCard (aloneCard page (groupBytes s))
 
--- and the group's length, 0 where it is refused (01, Numbers of refusal: SQLCA group)
+-- and the group's length (01, Numbers of refusal: SQLCA group); 0 where it is refused (DECISIONS, Forms 12)
 unfoldable pub groupLength : List ℕ → ℕ
 groupLength s = pick (isRefused (groupRefusal s)) 0 (groupEnd s)

@@ -144,7 +144,7 @@ pub fn sqlda_type(sql_type: u16, raw: u64, precision: u8, scale: u8, ccsid: u16)
     }
 }
 
-// The type's DRDA code without the nullable bit.
+// The type's code without the nullable bit.
 pub fn type_code(db2_type: Db2Type) -> u8
     ensures { λ r. ⌜ r ≡ codeOf «db2_type» ⌝ }
 {

@@ -100,6 +100,6 @@ pub record Exchanged (page : Page) (room : ℕ) (s : List ℕ) (k : ℕ) (d : Li
   -- the status record is the same: the one that the old group's own bytes give
   pub status : description page room (withColumn BigEndian s k d) .card ≡ aloneCard page (groupBytes s)
 
--- what a row is cut by: code, length, precision, scale and CCSID of a column (01, Answers)
+-- of what a record holds: code, length, precision, scale and CCSID (01, Answers: a record holds)
 abbrev pub attributesOf : ColumnMetadata → List ℕ
 attributesOf c = c .«drda_type» ∷ c .length ∷ c .precision ∷ c .scale ∷ c .ccsid ∷ []

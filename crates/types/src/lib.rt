@@ -49,7 +49,7 @@ pub struct ColumnMetadata {
     pub schema_name: Text,
 }
 
-// The DRDA type codes of columns that are not nullable.
+// The type codes of columns that are not nullable, under the Rust's names. They are the Rust's own, not the LIDs of DRDA's SQLDTAGRP.
 impl ColumnMetadata {
     pub const DRDA_TYPE_INTEGER: u8 = 0x02;
 
