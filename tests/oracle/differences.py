@@ -31,17 +31,17 @@ def code(cell):
 
 def payload(text, parts):
     """The bytes that a text stands for."""
-    words = re.findall(r'\d+×|[()]|[^\s()]+', text)
+    left = re.findall(r'\d+×|[()]|[^\s()]+', text)
 
     def item():
-        word = words.pop(0) if words else ''
+        word = left.pop(0) if left else ''
         if re.fullmatch(r'\d+×', word):
             return int(word[:-1]) * item()
         if word == '(':
             group = b''
-            while words[:1] != [')']:
+            while left[:1] != [')']:
                 group += item()
-            words.pop(0)
+            left.pop(0)
             return group
         if word in parts:
             return parts[word]
@@ -50,7 +50,7 @@ def payload(text, parts):
         raise ValueError(f'{word!r} is neither bytes nor a part: {text}')
 
     read = b''
-    while words:
+    while left:
         read += item()
     return read
 
@@ -60,7 +60,7 @@ def parts_of(table):
     parts = {}
     for _, row in table:
         if 'part' in row:
-            (name,), (text,) = code(row['part']), code(row['bytes'])
+            (name,), (text,) = code(row['part']), code(row.get('bytes', ''))
             if name in parts or not re.search('[G-Z]', name):
                 raise ValueError(f'{name!r} is a part already, or can be taken for bytes')
             parts[name] = payload(text, parts)
