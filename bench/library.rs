@@ -81,6 +81,11 @@ pub fn name_text(reply: &[u8], number: u16, name: Text, room: &mut Room) -> sys:
     sys::name_text(reply, number, name, &mut room.text)
 }
 
-pub fn message_text(reply: &[u8], place: usize, length: usize, room: &mut Room) -> sys::CountResult {
+pub fn message_text(
+    reply: &[u8],
+    place: usize,
+    length: usize,
+    room: &mut Room,
+) -> sys::CountResult {
     sys::message_text(reply, place, length, &mut room.text)
 }

@@ -1,11 +1,5 @@
 //! Times the Rust and Jigshard's library on the same replies, in one process, and prints a table.
-//! bench/run builds and calls it; docs/BENCHMARKS.md says what the table means.
-//!
-//!     bench times FILE [--quick]       times each row, compares the answers, writes FILE
-//!     bench calls FILE                 calls each row once for callgrind; the Rust only where it
-//!                                      took less than COUNTED seconds in FILE
-//!     bench table FILE FOLDER          the table: times from FILE, counts from FOLDER, if it is there
-//!     bench stack                      how much stack each entry takes
+//! bench/run builds and calls it; docs/BENCHMARKS.md says what the table means, `HELP` what it takes.
 
 mod answers;
 mod inputs;
@@ -27,6 +21,23 @@ use std::time::{Duration, Instant};
 /// The Rust's instructions are not counted where it takes longer: under callgrind it would take
 /// some 50 times as long again.
 const COUNTED: f64 = 0.05;
+
+const HELP: &str = "\
+usage: bench times FILE [--quick]
+       bench calls FILE
+       bench table FILE FOLDER
+       bench stack
+
+Times the Rust and Jigshard's library on the same replies. bench/run builds and calls it, and needs
+more than this program; docs/BENCHMARKS.md says what the table means.
+
+times  times each row, compares the answers, writes FILE; with --quick each row once
+calls  calls each row once for callgrind; the Rust only where it took less than 0.05 seconds in FILE
+table  prints the table: times from FILE, counts of instructions from FOLDER, if it is there
+stack  prints how much stack each entry takes
+
+Exit status: 0 done, 1 the two answer differently, 2 bad usage, or FILE could not be written.
+";
 
 #[derive(Clone, Copy, Debug, PartialEq)]
 pub enum Entry {
@@ -299,19 +310,29 @@ fn table(file: &str, folder: &str) {
     }
 }
 
+fn refuse(reason: &str) -> ExitCode {
+    eprintln!("bench: {reason}; 'target/bench/bench --help' says what there is");
+    ExitCode::from(2)
+}
+
 fn main() -> ExitCode {
     let words: Vec<String> = std::env::args().skip(1).collect();
     let words: Vec<&str> = words.iter().map(String::as_str).collect();
+    if words.iter().any(|word| ["-h", "--help"].contains(word)) {
+        print!("{HELP}");
+        return ExitCode::SUCCESS;
+    }
     match words[..] {
         ["times", file] => return times(file, false),
         ["times", file, "--quick"] => return times(file, true),
         ["calls", file] => calls(file),
         ["table", file, folder] => table(file, folder),
         ["stack"] => stack::print(&inputs::all()),
-        _ => {
-            eprintln!("bench: see bench/run");
-            return ExitCode::from(2);
+        [] => return refuse("what to do is not said"),
+        ["times" | "calls" | "table" | "stack", ..] => {
+            return refuse(&format!("too few words or too many: {}", words.join(" ")))
         }
+        [word, ..] => return refuse(&format!("unknown word: {word}")),
     }
     ExitCode::SUCCESS
 }

@@ -39,27 +39,32 @@ def at_least_one(text):
     return value
 
 
+class Parser(argparse.ArgumentParser):
+    """Says in one line what it does not understand."""
+
+    def error(self, message):
+        stop(f"{message}; 'tests/{self.prog} --help' says what there is")
+
+
 def parser(text, count, *options):
     """Reads SEED, COUNT, --source and these options besides; -h prints `text`."""
-    name = f'tests/{pathlib.Path(sys.argv[0]).name}'
-    usage = next(line for line in text.splitlines() if line.startswith('    tests/'))
-    made = argparse.ArgumentParser(
-        prog=name, description=text, add_help=False, usage=usage.strip(),
-        formatter_class=argparse.RawDescriptionHelpFormatter)
+    made = Parser(prog=pathlib.Path(sys.argv[0]).name, description=text, add_help=False,
+                  allow_abbrev=False)
     made.add_argument('seed', nargs='?', type=whole, default=1)
     made.add_argument('count', nargs='?', type=at_least_one, default=count)
     made.add_argument('--source')
-    made.add_argument('-h', '--help', action='store_true')
     for option, how in options:
         made.add_argument(option, **how)
     return made
 
 
 def parse(made):
-    given = made.parse_args()
-    if given.help:
+    if {'-h', '--help'} & set(sys.argv[1:]):
         print(made.description, end='')
         sys.exit(0)
+    given, unknown = made.parse_known_args()
+    if unknown:
+        made.error(f"unknown word: {' '.join(unknown)}")
     return given
 
 

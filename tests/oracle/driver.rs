@@ -28,6 +28,7 @@
 mod frame;
 mod model;
 mod places;
+mod usage;
 
 use db2_proto::ddm::DdmObject;
 use db2_proto::fdoca::ByteOrder;
@@ -50,7 +51,23 @@ const RECORDS_LENT: usize = 4_096;
 const TEXTS_LENT: usize = 8_192;
 const SQLDARD: u16 = 0x2411;
 
+const HELP: &str = "\
+usage: oracle
+
+Reads cases from standard input, asks the Rust, and writes a line for each; docs/ANSWERS.md has the
+form of both. target/oracle/generate makes cases. Where the Rust panics, the line is TRAP. The first
+case that is none gives the line BAD, and is the last.
+
+Needs nothing but standard input, and takes no words.
+
+Exit status: 0 all answered, 1 a line BAD, 2 bad usage, or something could not be read or written or
+was not as this program takes the Rust to be.
+";
+
 fn main() -> ExitCode {
+    if let Some(end) = usage::end_at_words("oracle", HELP) {
+        return end;
+    }
     // A panic is an answer here (TRAP); its message would only fill the terminal.
     panic::set_hook(Box::new(|_| {}));
     match run() {

@@ -58,6 +58,8 @@ mod names;
 mod random;
 mod replies;
 mod texts;
+#[allow(dead_code)] // takes words
+mod usage;
 
 use random::Random;
 use std::io::{self, BufWriter, IsTerminal, Write};
@@ -70,7 +72,21 @@ const DEFAULT_ENTRIES: &str = "DPSGN";
 const SQLDARD: u16 = 0x2411;
 const MOST_LENT: u16 = 4_096;
 
-const USAGE: &str = "usage: generate SEED COUNT [ENTRIES] [--from CASE] [--progress]";
+const HELP: &str = "\
+usage: generate SEED COUNT [ENTRIES] [--from CASE] [--progress]
+
+Writes COUNT cases of docs/ANSWERS.md to standard output. The same SEED and ENTRIES give the same
+cases on every machine. Needs nothing else.
+
+SEED         any number below 2^64
+COUNT        how many cases
+ENTRIES      some of DdLPSGNnMsTUCWQR, all equally often (default DPSGN); or x alone: exchanges of a
+             column's description, of which tests/exchanges makes cases
+--from CASE  starts at this case instead of case 0
+--progress   tells progress even if standard error is no terminal
+
+Exit status: 0 all written, 1 something could not be written, 2 bad usage.
+";
 
 type Maker = fn(&mut Random) -> Vec<u8>;
 
@@ -198,23 +214,24 @@ struct Request {
     progress: bool,
 }
 
-fn request(arguments: impl Iterator<Item = String>) -> Result<Request, String> {
+fn request(words: Vec<String>) -> Result<Request, String> {
     let mut plain = Vec::new();
     let mut from = 0;
     let mut progress = io::stderr().is_terminal();
-    let mut arguments = arguments;
+    let mut arguments = words.into_iter();
     while let Some(argument) = arguments.next() {
         match argument.as_str() {
             "--progress" => progress = true,
             "--from" => from = whole(&arguments.next().ok_or("--from needs a case number")?)?,
-            option if option.starts_with('-') => return Err(format!("unknown option {option}")),
+            option if option.starts_with('-') => return Err(format!("unknown word: {option}")),
             _ => plain.push(argument),
         }
     }
     let (seed, count, entries) = match plain.as_slice() {
         [seed, count] => (seed, count, DEFAULT_ENTRIES),
         [seed, count, entries] => (seed, count, entries.as_str()),
-        _ => return Err(USAGE.into()),
+        [_, _, _, word, ..] => return Err(format!("unknown word: {word}")),
+        _ => return Err("SEED and COUNT are needed".into()),
     };
     let known = !entries.is_empty() && entries.chars().all(|entry| ENTRIES.contains(entry));
     if !known && entries != EXCHANGES {
@@ -250,13 +267,18 @@ fn run(request: &Request) -> io::Result<()> {
 }
 
 fn main() -> ExitCode {
-    let error = match request(std::env::args().skip(1)) {
-        Err(error) => error,
-        Ok(request) => match run(&request) {
-            Ok(()) => return ExitCode::SUCCESS,
-            Err(error) => format!("cannot write: {error}"),
-        },
+    let words = usage::words();
+    if usage::asks_for_help(&words) {
+        print!("{HELP}");
+        return ExitCode::SUCCESS;
+    }
+    let request = match request(words) {
+        Ok(request) => request,
+        Err(error) => return usage::refuse("generate", &error),
     };
-    eprintln!("generate: {error}");
-    ExitCode::FAILURE
+    if let Err(error) = run(&request) {
+        eprintln!("generate: cannot write: {error}");
+        return ExitCode::FAILURE;
+    }
+    ExitCode::SUCCESS
 }

@@ -11,6 +11,7 @@
 #[allow(dead_code)] // reads cases, writes none
 mod frame;
 mod reach_names;
+mod usage;
 
 use db2_proto::fdoca::ByteOrder::{self, BigEndian, LittleEndian};
 use db2_proto::replies::sqldard::{
@@ -436,7 +437,22 @@ fn strings(bytes: &[u8], at: &mut usize, count: usize) -> Vec<Vec<u8>> {
     all
 }
 
+const HELP: &str = "\
+usage: reach
+
+Reads cases of D, d, L and P, or of N and n, from standard input, as target/oracle/generate makes
+them, and tells what their replies reach: how many have each feature, and how many that is in
+100,000.
+
+Needs nothing but standard input, and takes no words.
+
+Exit status: 0 all told, 1 something else on standard input, 2 bad usage.
+";
+
 fn main() -> ExitCode {
+    if let Some(end) = usage::end_at_words("reach", HELP) {
+        return end;
+    }
     let mut input = BufReader::with_capacity(1 << 20, io::stdin().lock());
     let mut payload = Vec::new();
     let mut reach = Reach::of(&FEATURES);

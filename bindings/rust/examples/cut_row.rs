@@ -1,6 +1,6 @@
 //! Cuts a row of bytes by the columns that a reply describes, and prints a line `NAME: value` for each.
 //!
-//!     cargo run --example cut_row
+//!     cargo run --example cut_row [-- --help]
 //!
 //! The reply is tests/replies/luggage.bin; the row is made up here. In a row, a nullable column has a byte in front, FF for a missing
 //! value and 00 otherwise; a value of varying length has its length in two bytes, big-endian; every other value takes the column's length.
@@ -9,6 +9,16 @@
 use jigshard::{describe, Alphabet, ByteOrder, Column, Db2Type, Refusal, Text};
 use std::error::Error;
 use std::fmt;
+use std::process::ExitCode;
+
+const HELP: &str = "\
+usage: cut_row
+
+Cuts a made-up row by the columns that tests/replies/luggage.bin describes, and prints a line
+'NAME: value' for each column. Takes no words.
+
+Exit status: 0 cut, 1 the reply cannot be read or the row cannot be cut, 2 bad usage.
+";
 
 /// Why a row cannot be cut.
 #[derive(Debug, PartialEq)]
@@ -194,7 +204,7 @@ pub fn luggage_row() -> Vec<u8> {
     row
 }
 
-fn main() -> Result<(), Box<dyn Error>> {
+fn print_row() -> Result<(), Box<dyn Error>> {
     let path = concat!(
         env!("CARGO_MANIFEST_DIR"),
         "/../../tests/replies/luggage.bin"
@@ -204,4 +214,22 @@ fn main() -> Result<(), Box<dyn Error>> {
         println!("{name}: {value}");
     }
     Ok(())
+}
+
+fn main() -> ExitCode {
+    let words: Vec<String> = std::env::args().skip(1).collect();
+    if words.iter().any(|word| word == "-h" || word == "--help") {
+        print!("{HELP}");
+        return ExitCode::SUCCESS;
+    }
+    if !words.is_empty() {
+        let words = words.join(" ");
+        eprintln!("cut_row: unknown word: {words}; 'cut_row --help' says what there is");
+        return ExitCode::from(2);
+    }
+    if let Err(error) = print_row() {
+        eprintln!("cut_row: {error}");
+        return ExitCode::FAILURE;
+    }
+    ExitCode::SUCCESS
 }

@@ -391,5 +391,8 @@ fn stored_answers() {
         count += 1;
     }
     assert_eq!(lines.next(), None, "a case for each line");
-    assert!(count > 10_000, "only {count} cases: the stored sample is not whole");
+    assert!(
+        count > 10_000,
+        "only {count} cases: the stored sample is not whole"
+    );
 }
