@@ -1,10 +1,10 @@
 /*
- * Prints the columns that a reply describes: number, name, length, and how the server's status was.
+ * Prints the SQLCODE of a reply, and of each column that it describes the number, name and length.
  *
  *     cc -Iinclude examples/columns.c target/staticlib/libjigshard.a -o target/columns
  *     target/columns tests/replies/luggage.bin
  *
- * Exit status: 0 described, 1 refused, 2 bad usage or a file that cannot be read.
+ * Exit status: 0 described, 1 refused, 2 bad usage, or something that cannot be read or written.
  */
 #include <stdio.h>
 #include <stdlib.h>
@@ -29,8 +29,10 @@ static int describe(size_t length)
     /* No reply describes more columns than this, so refusal 6 does not come. */
     jigshard_column *columns = malloc(JIGSHARD_MAX_COLUMNS * sizeof *columns);
     uint8_t name[JIGSHARD_MAX_REPLY];
-    if (!columns)
+    if (!columns) {
+        perror("columns");
         return 2;
+    }
     jigshard_sqldard_result described = jigshard_describe(reply, length, columns, JIGSHARD_MAX_COLUMNS);
     if (described.refusal.number != JIGSHARD_ACCEPTED) {
         fprintf(stderr, "columns: refused: %d (%zu, %zu)\n", described.refusal.number, described.refusal.first, described.refusal.second);
@@ -44,6 +46,10 @@ static int describe(size_t length)
         printf(" %d\n", (int)columns[i].length);
     }
     free(columns);
+    if (fflush(stdout) || ferror(stdout)) {
+        perror("columns");
+        return 2;
+    }
     return 0;
 }
 

@@ -118,8 +118,8 @@ enum jigshard_type {
     JIGSHARD_XML = 0xDC
 };
 
-/* How a text's bytes become characters: a guess by the bytes, whatever the server's CCSIDs. All below 80: ASCII; else page 037, without its
-   blanks at both ends. UTF-8 with a byte from 80 on comes out wrong. */
+/* How a text's bytes become characters: a guess by the bytes, whatever the server's CCSIDs. All below 0x80: ASCII; else page 037, without its
+   blanks at both ends. UTF-8 with a byte from 0x80 on comes out wrong. */
 enum jigshard_alphabet {
     JIGSHARD_GENERATED = 0, /* the reply has no name: it is COL and the column's number, counted from 1 */
     JIGSHARD_ASCII = 1,     /* each byte is its character */

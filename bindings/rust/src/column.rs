@@ -160,17 +160,17 @@ pub enum ByteOrder {
     LittleEndian,
 }
 
-/// How a text's bytes become characters: a guess by the bytes, whatever the server's CCSIDs. UTF-8 with a byte from 80 on is
-/// taken for page 037. Any number may be asked about; those without a name here are refused.
+/// How a text's bytes become characters: a guess by the bytes, whatever the server's CCSIDs. UTF-8 with a byte from
+/// 0x80 on is taken for page 037. Any number may be asked about; those without a name here are refused.
 #[derive(Clone, Copy, Debug, PartialEq, Eq, Hash)]
 pub struct Alphabet(pub u8);
 
 impl Alphabet {
     /// The reply has no name for the column: it is COL and the column's number, counted from 1.
     pub const GENERATED: Alphabet = Alphabet(0);
-    /// Each byte is its character: all are below 80.
+    /// Each byte is its character: all are below 0x80.
     pub const ASCII: Alphabet = Alphabet(1);
-    /// EBCDIC code page 037: a byte is 80 or above. Blanks at both ends are left out.
+    /// EBCDIC code page 037: a byte is 0x80 or above. Blanks at both ends are left out.
     pub const PAGE_037: Alphabet = Alphabet(2);
 }
 

@@ -24,7 +24,7 @@ pub record Description : Type 0 where
 abbrev pub refusedWith : List ℕ → Description
 refusedWith refusal = record { refusal = refusal; card = successCard; columns = [] }
 
--- the status of a reading: compact and scan read it alone on the whole reply, success if refused; the standard readings take the group's (01, Choice); so does the last reader (DECISIONS, Readings 25)
+-- the status of a reading: compact and scan read it alone on the whole reply, success if refused; the standard readings take the group's (01, Choice); so does the last reader (DECISIONS, Readings 29)
 abbrev pub statusOf : Page → List ℕ → Bool → SqlCard
 statusOf page s alone = pick alone (aloneCard page s) (groupCard page s)
 
