@@ -248,8 +248,8 @@ jigshard_count_result jigshard_message_text(const uint8_t *reply, size_t reply_l
    is not, or a field out of its range. Lists that the library wrote are columns. */
 jigshard_cut_result jigshard_same_cut(const uint64_t *first, size_t first_length, const uint64_t *second, size_t second_length);
 
-/* Widest row: the sum of the lengths, 1 more for a nullable column, 2 more for VarChar, VarBinary, VarGraphic and RowId. A row with Graphic
-   or VarGraphic can take more bytes: their lengths count double-byte characters.
+/* Widest row: the sum of the lengths, twice those of Graphic and VarGraphic, which count double-byte characters; 1 more for a nullable
+   column, 2 more for VarChar, VarBinary, VarGraphic and RowId. Of a column whose length is 65,535 a reply may have said more.
    Refuses: 5; 255 as above; 8 the first Blob, Clob, DbClob or Xml. */
 jigshard_count_result jigshard_widest_row(const uint64_t *columns, size_t columns_length);
 

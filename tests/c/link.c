@@ -108,6 +108,21 @@ static void check_luggage(const char *folder)
     check_refusal(jigshard_scan_names(reply, length, names, 1).refusal, JIGSHARD_ROOM_TOO_SHORT, 1, scan.count, 0);
 }
 
+/* Graphic and VarGraphic: lengths in double-byte characters, two bytes each in a row. */
+static void check_graphic(const char *folder)
+{
+    static uint8_t reply[4096];
+    jigshard_column columns[ROOM];
+    size_t length = read_file(folder, "luggage-graphic.bin", reply, sizeof reply);
+    CHECK(jigshard_describe(reply, length, columns, ROOM).count == 4);
+    CHECK(columns[1].type == JIGSHARD_VARGRAPHIC && columns[1].type_value == 20 && columns[1].length == 20);
+    CHECK(columns[2].type == JIGSHARD_GRAPHIC && columns[2].type_value == 4 && columns[2].length == 4);
+    CHECK(jigshard_columns_widest_row(columns, 4).count == 10 + (2 * 20 + 2 + 1) + 2 * 4 + 2);
+    CHECK(jigshard_columns_widest_row(columns + 2, 1).count == 8);
+    columns[2].type = JIGSHARD_CHAR; /* the type decides, not the code */
+    CHECK(jigshard_columns_widest_row(columns + 2, 1).count == 4);
+}
+
 static void check_lists(void)
 {
     jigshard_column columns[ROOM], others[ROOM];
@@ -182,6 +197,7 @@ int main(int argc, char **argv)
 {
     CHECK(argc == 2);
     check_luggage(argv[1]);
+    check_graphic(argv[1]);
     check_warning(argv[1]);
     check_lists();
     check_refusals();

@@ -1,7 +1,7 @@
 //! Answers that the Rust has no function for: name part, name text, same cut and widest row, by
-//! document 01 (Answers, Numbers of refusal). Written for the tests, from the paper alone. The
-//! lists of C and W are the Rust's, and so is the character of a byte in page 037; T and U take
-//! what the case says of a name, Q and R what it says of columns.
+//! documents 01 (Answers, Numbers of refusal) and 02 (T-02). Written for the tests, from the papers
+//! alone. The lists of C and W are the Rust's, and so is the character of a byte in page 037; T and
+//! U take what the case says of a name, Q and R what it says of columns.
 
 use db2_proto::codepage::ebcdic037_to_utf8;
 use db2_proto::fdoca::ByteOrder;
@@ -80,6 +80,8 @@ pub struct Column {
     number: u16,
     /// What a value is beside its length: large, with a length before it, or neither.
     kind: Kind,
+    /// Whether the length counts characters of two bytes: 02, T-02.
+    double_byte: bool,
     nullable: bool,
     length: u16,
     /// Code, precision, scale and byte order.
@@ -106,6 +108,10 @@ impl Column {
         Column {
             number: column.index as u16,
             kind,
+            double_byte: matches!(
+                column.db2_type,
+                Db2Type::Graphic(_) | Db2Type::VarGraphic(_)
+            ),
             nullable: column.nullable,
             length: column.length,
             cut: (
@@ -133,6 +139,7 @@ impl Column {
         Some(Column {
             number: u16::from_be_bytes([record[0], record[1]]),
             kind,
+            double_byte: matches!(record[2], 0x3C | 0x3E),
             nullable: record[8] == 1,
             length: u16::from_be_bytes([record[6], record[7]]),
             cut: (record[5], record[9], record[10], record[13] == 0),
@@ -185,7 +192,7 @@ pub fn widest_row(columns: &[Column]) -> String {
         return format!("E8 {}", large.number);
     }
     let width = |column: &Column| {
-        u64::from(column.length)
+        u64::from(column.length) * if column.double_byte { 2 } else { 1 }
             + u64::from(column.nullable)
             + if column.kind == Kind::Varying { 2 } else { 0 }
     };

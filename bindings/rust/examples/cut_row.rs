@@ -4,7 +4,7 @@
 //!
 //! The reply is tests/replies/luggage.bin; the row is made up here. In a row, a nullable column has a byte in front, FF for a missing
 //! value and 00 otherwise; a value of varying length has its length in two bytes, big-endian; every other value takes the column's length.
-//! Not for Graphic and VarGraphic: their lengths count double-byte characters.
+//! Lengths of Graphic and VarGraphic, in the list and in the row, count double-byte characters: a value has two bytes for each.
 
 use jigshard::{describe, Alphabet, ByteOrder, Column, Db2Type, Refusal, Text};
 use std::error::Error;
@@ -92,6 +92,7 @@ fn cut<'a>(row: &mut &'a [u8], column: &Column, name: &str) -> Result<Option<&'a
         }
     }
     let mut length = usize::from(column.length);
+    let unit = if column.db2_type.is_graphic() { 2 } else { 1 };
     if column.db2_type.is_varying() {
         let prefix = take(row, 2, name)?;
         let there = usize::from(u16::from_be_bytes([prefix[0], prefix[1]]));
@@ -100,7 +101,7 @@ fn cut<'a>(row: &mut &'a [u8], column: &Column, name: &str) -> Result<Option<&'a
         }
         length = there;
     }
-    take(row, length, name).map(Some)
+    take(row, unit * length, name).map(Some)
 }
 
 /// Characters: page 037 for CCSID 37, else UTF-8, of which ASCII is a part. Blanks at the end are padding.
@@ -115,6 +116,18 @@ fn text(ccsid: u16, bytes: &[u8]) -> Result<String, Refusal> {
         _ => String::from_utf8_lossy(bytes).into_owned(),
     };
     Ok(characters.trim_end().into())
+}
+
+/// Double-byte characters: UTF-16 for CCSID 1200 in big-endian order. `None` for others, which this example does not read.
+fn graphic(column: &Column, bytes: &[u8]) -> Option<String> {
+    if (column.ccsid, column.byte_order) != (1200, ByteOrder::BigEndian) {
+        return None;
+    }
+    let units: Vec<u16> = bytes
+        .chunks_exact(2)
+        .map(|pair| u16::from_be_bytes([pair[0], pair[1]]))
+        .collect();
+    Some(String::from_utf16_lossy(&units).trim_end().into())
 }
 
 /// A signed number.
@@ -161,6 +174,9 @@ fn value(column: &Column, bytes: &[u8], name: &str) -> Result<String, RowError> 
     match column.db2_type {
         Db2Type::Char(_) | Db2Type::VarChar(_) | Db2Type::Timestamp => {
             Ok(text(column.ccsid, bytes)?)
+        }
+        Db2Type::Graphic(_) | Db2Type::VarGraphic(_) => {
+            Ok(graphic(column, bytes).unwrap_or_else(|| format!("{bytes:02X?}")))
         }
         Db2Type::SmallInt | Db2Type::Integer => Ok(number(column.byte_order, bytes).to_string()),
         Db2Type::Decimal { scale, .. } => decimal(scale, bytes).ok_or_else(|| RowError::NoValue {

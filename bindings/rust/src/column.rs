@@ -133,6 +133,11 @@ impl Db2Type {
         )
     }
 
+    /// Whether lengths of this type count double-byte characters: a value has two bytes for each.
+    pub fn is_graphic(self) -> bool {
+        matches!(self, Db2Type::Graphic(_) | Db2Type::VarGraphic(_))
+    }
+
     /// The type's own number, as [`Db2Type::from_code`] takes it; 0 where it has none.
     fn value(self) -> u16 {
         match self {

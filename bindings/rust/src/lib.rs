@@ -206,8 +206,8 @@ pub fn same_cut(first: &[Column], second: &[Column]) -> Result<bool, Refusal> {
     Ok(answer.same)
 }
 
-/// The sum of the lengths, 1 more for a nullable column, 2 more for one of varying length. A row with `Graphic` or
-/// `VarGraphic` can take more bytes: their lengths count double-byte characters.
+/// The sum of the lengths, twice those of `Graphic` and `VarGraphic`, which count double-byte characters; 1 more for a
+/// nullable column, 2 more for one of varying length. Of a column whose length is 65,535 a reply may have said more.
 ///
 /// # Errors
 /// [`Refusal::ReplyTooLong`] for more than [`MAX_COLUMNS`]; [`Refusal::LargeObject`].

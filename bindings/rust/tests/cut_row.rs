@@ -47,6 +47,51 @@ fn row_in_page_037() {
     assert_eq!(lines(&values), expected);
 }
 
+/// A row of luggage-graphic.bin: PASSENGER is `passenger` as it stands in the row, ROOM is 4 characters.
+fn graphic_row(passenger: &[u8], room: &str) -> Vec<u8> {
+    let mut row = b"BAG0004711".to_vec();
+    row.extend(passenger);
+    row.extend(room.encode_utf16().flat_map(u16::to_be_bytes));
+    row.extend([0, 2]);
+    row
+}
+
+#[test]
+fn row_of_double_byte_characters() {
+    let reply = stored("luggage-graphic.bin");
+    let name = [&[0x00, 0, 2], &[0x5C, 0x71, 0x75, 0x30][..]].concat();
+    let values = cut_row(&reply, &graphic_row(&name, "12Ä ")).unwrap();
+    assert_eq!(
+        lines(&values),
+        "TAG: BAG0004711\nPASSENGER: 山田\nROOM: 12Ä\nPIECES: 2\n"
+    );
+    let missing = cut_row(&reply, &graphic_row(&[0xFF], "12Ä ")).unwrap();
+    assert_eq!(missing[1].1, "missing");
+
+    // The longest name fills the widest row; one character more is no value of the column.
+    let longest = [&[0x00, 0, 20], &[0x98; 40][..]].concat();
+    let row = graphic_row(&longest, "12Ä ");
+    assert_eq!(row.len(), 10 + (1 + 2 + 2 * 20) + 2 * 4 + 2);
+    assert_eq!(widest_row(&describe(&reply).unwrap().1), Ok(row.len()));
+    assert_eq!(cut_row(&reply, &row).unwrap()[3].1, "2");
+    let longer = [&[0x00, 0, 21], &[0x98; 42][..]].concat();
+    assert!(matches!(
+        cut_row(&reply, &graphic_row(&longer, "12Ä ")),
+        Err(RowError::NoValue { name, .. }) if name == "PASSENGER"
+    ));
+    for length in 0..row.len() {
+        let error = cut_row(&reply, &row[..length]).unwrap_err();
+        assert!(
+            matches!(error, RowError::EndsEarly { .. }),
+            "{length}: {error}"
+        );
+    }
+    assert_eq!(
+        cut_row(&reply, &row[..55]).unwrap_err().to_string(),
+        "the row ends early: ROOM needs 8 bytes, 2 are left"
+    );
+}
+
 #[test]
 fn rows_of_other_lengths() {
     let reply = stored("luggage.bin");

@@ -295,6 +295,24 @@ fn lists_made_up() {
             Some(Refusal::LargeObject { number: 9 })
         );
     }
+    // Two bytes for each character, by the type, whatever the code.
+    for (db2_type, width) in [
+        (Db2Type::Graphic(40), 81),
+        (Db2Type::VarGraphic(40), 83),
+        (Db2Type::VarChar(40), 43),
+    ] {
+        let column = Column { db2_type, ..column };
+        assert_eq!(widest_row(&[column; 3]), Ok(3 * width));
+    }
+    let widest = Column {
+        db2_type: Db2Type::VarGraphic(65_535),
+        length: 65_535,
+        ..column
+    };
+    assert_eq!(
+        widest_row(&vec![widest; MAX_COLUMNS]),
+        Ok(MAX_COLUMNS * 131_073)
+    );
     let most = vec![column; MAX_COLUMNS];
     assert_eq!(widest_row(&most), Ok(MAX_COLUMNS * 43));
     assert_eq!(same_cut(&most, &most), Ok(true));

@@ -28,9 +28,10 @@ use Rattle.plan.specs.Choice.{compactColumns, lastCountAt, lastColumns, lastRea
 use Rattle.plan.specs.Description.{answerBy, description, withCodePoint}
 use Rattle.decimal.specs.Decimal.{digitsOf, decimalOf}
 use Rattle.column_name.specs.Name.{generatedName, givenText, nameOf}
-use Rattle.columns.specs.Row.{columnWidth, rowWidth, largeRefusal, rowRefusal, rowAnswer}
+use Rattle.widths.specs.Width.{valueWidth, columnWidth}
+use Rattle.columns.specs.Row.{rowWidth, largeRefusal, rowRefusal, rowAnswer}
 
 -- to unfold this is to unfold them all
 unfoldable pub everything : Unit {0}
-unfolding firstOf first keep bestOf best chain table037 isBlankIn number signed stringEnd stringsEnd stringAt chosen pairAt isAscii charOf placed leading kept textOn isGenerated isGeneratedText typeRows lookup searchedBase rowFor capOf sqldaType stringText nameText columnWith isNamed hasNames moveText moveColumn nullableEnd inNullable udtEnd dxEnd dxStart optEnd descriptorEnd dxPair optName optLabel optPair describedAt columnAt isNear codeOrder codeOf aloneRefusal aloneCard groupEnd groupRefusal groupCard sqldhgrpEnd countAt countIn descriptorsEnd startOf gives views overColumns standard standardRun splice withColumn exchange looksCompact nextHere nextCompact tableHere tableAt tableOf ccsidOf nameHere nameAt compactName compactAt compactColumn compactEnd ffsHere lastEnd endBy exactScore score runFrom scanOrder scanBest scanColumns compactColumns lastCountAt lastColumns lastReading hasSome choice answerBy description withCodePoint digitsOf decimalOf generatedName givenText nameOf columnWidth rowWidth largeRefusal rowRefusal rowAnswer
+unfolding firstOf first keep bestOf best chain table037 isBlankIn number signed stringEnd stringsEnd stringAt chosen pairAt isAscii charOf placed leading kept textOn isGenerated isGeneratedText typeRows lookup searchedBase rowFor capOf sqldaType stringText nameText columnWith isNamed hasNames moveText moveColumn nullableEnd inNullable udtEnd dxEnd dxStart optEnd descriptorEnd dxPair optName optLabel optPair describedAt columnAt isNear codeOrder codeOf aloneRefusal aloneCard groupEnd groupRefusal groupCard sqldhgrpEnd countAt countIn descriptorsEnd startOf gives views overColumns standard standardRun splice withColumn exchange looksCompact nextHere nextCompact tableHere tableAt tableOf ccsidOf nameHere nameAt compactName compactAt compactColumn compactEnd ffsHere lastEnd endBy exactScore score runFrom scanOrder scanBest scanColumns compactColumns lastCountAt lastColumns lastReading hasSome choice answerBy description withCodePoint digitsOf decimalOf generatedName givenText nameOf valueWidth columnWidth rowWidth largeRefusal rowRefusal rowAnswer
 everything = tt

@@ -11,8 +11,10 @@ use Rattle.text.specs.Text.{textIs, emptyText}
 use Rattle.types.specs.declared.ColumnMetadata.{ColumnMetadata}
 use Rattle.types.specs.declared.Db2Type.{Db2Type}
 use Rattle.column.specs.Column.{generatedText}
+use Rattle.widths.specs.Width.{valueWidth, columnWidth}
+use Rattle.widths.specs.Inside.{mostWidth}
 use Rattle.columns.specs.Cut.{sameColumn, sameCut, cutRefusal, cutAnswer}
-use Rattle.columns.specs.Row.{columnWidth, rowWidth, largeRefusal, rowRefusal, rowAnswer}
+use Rattle.columns.specs.Row.{rowWidth, largeRefusal, rowRefusal, rowAnswer}
 use Rattle.columns.specs.Consistent.{ConsistentFrom, Consistent}
 
 -- a column with this number, type, code, length, nullable, byte order and name
@@ -52,7 +54,7 @@ listD = column 0 (Db2Type.Char 4) 0x30 4 false BigEndian generatedText ∷ []
 
 -- to unfold this is to unfold both entries, for a proof that computes them
 unfoldable everything : Unit {0}
-unfolding sameColumn sameCut cutRefusal cutAnswer columnWidth rowWidth largeRefusal rowRefusal rowAnswer ConsistentFrom
+unfolding sameColumn sameCut cutRefusal cutAnswer valueWidth columnWidth rowWidth largeRefusal rowRefusal rowAnswer ConsistentFrom
 everything = tt
 
 -- A's and B's rows are their lengths
@@ -78,6 +80,23 @@ case-order = refl
 pub case-varying : rowAnswer (door (Db2Type.Char 4) 0x30 4 false ∷ column 1 (Db2Type.VarChar 10) 0x33 10 true BigEndian emptyText ∷ []) ≡ 17
 unfolding everything
 case-varying = refl
+
+-- double-byte columns: Graphic(4) takes 8 bytes, VarGraphic(4) 2 more, a nullable one 1 more; a DbClob has no row
+pub case-graphic : (rowAnswer (door (Db2Type.Graphic 4) 0x3C 4 false ∷ []) ≡ 8)
+    × ((rowAnswer (door (Db2Type.VarGraphic 4) 0x3E 4 false ∷ []) ≡ 10)
+    × ((rowAnswer (door (Db2Type.VarGraphic 4) 0x3F 4 true ∷ []) ≡ 11)
+    × ((rowAnswer (door (Db2Type.Graphic 0) 0x3C 0 false ∷ []) ≡ 0)
+    × (rowRefusal (door Db2Type.DbClob 0xCC 4 false ∷ []) ≡ 8 ∷ 0 ∷ []))))
+unfolding everything
+case-graphic = (refl, (refl, (refl, (refl, refl))))
+
+-- the widest column and the widest list
+abbrev widest : ColumnMetadata
+widest = door (Db2Type.VarGraphic 65535) 0x3F 65535 true
+
+pub case-widest : (columnWidth widest ≡ mostWidth) × (rowAnswer (replicate 4095 widest) ≡ 536743935)
+unfolding everything
+case-widest = (refl, refl)
 
 -- two large columns after A: 8 with the first one's number, and 0
 abbrev listLarge : List ColumnMetadata
@@ -110,6 +129,12 @@ madeUp = door (Db2Type.VarChar 4) 0x30 4 false ∷ []
 pub made-up-wider : (sameCut listA madeUp ≡ true) × ((rowAnswer listA ≡ 4) × (rowAnswer madeUp ≡ 6))
 unfolding everything
 made-up-wider = (refl, (refl, refl))
+
+-- the type decides whether a length counts twice, not the code: A as Graphic, and a Graphic's code on a Char
+pub made-up-graphic : (sameCut listA (door (Db2Type.Graphic 4) 0x30 4 false ∷ []) ≡ true)
+    × ((rowAnswer (door (Db2Type.Graphic 4) 0x30 4 false ∷ []) ≡ 8) × (rowAnswer (door (Db2Type.Char 4) 0x3C 4 false ∷ []) ≡ 4))
+unfolding everything
+made-up-graphic = (refl, (refl, refl))
 
 pub made-up-large : (sameCut listA (door Db2Type.Blob 0x30 4 false ∷ []) ≡ true) × (rowRefusal (door Db2Type.Blob 0x30 4 false ∷ []) ≡ 8 ∷ 0 ∷ [])
 unfolding everything

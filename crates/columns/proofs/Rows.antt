@@ -1,71 +1,22 @@
 -- Consistent lists that make the same cut have the same widest row: what the width takes of a column is said by its code and its length.
+-- And what T-02 made of the sum.
 use mathlib.Core.Path.{_≡_, refl, sym, ap, _∙_}
-use mathlib.Core.Bool.{Bool, true, false, false≢true, _&&_, _||_, and-eq-true-iff}
+use mathlib.Core.Bool.{Bool, true, false, false≢true, not, and-eq-true-iff}
 use mathlib.Core.List.{List, [], _∷_}
-use Prim.Native.Nat.{ℕ, suc, _+_, _%_}
+use Prim.Native.Nat.{ℕ, suc, _+_, _*_, _%_}
 use native.Mathlib.Omega.{arith}
-use lib.Dec.{T, eqb, eqb→eq}
 use Rattle.search.specs.Search.{pick, alike}
-use Rattle.search.proofs.Tests.{and-left, and-right, agree, agree-same}
 use Rattle.search.proofs.Alike.{alike-length}
 use Rattle.types.specs.declared.ColumnMetadata.{ColumnMetadata}
 use Rattle.types.specs.declared.Db2Type.{Db2Type}
 use Rattle.sqlda.specs.Types.{codeOf}
 use Rattle.columns.specs.Cut.{sameColumn, sameCut}
-use Rattle.columns.specs.Row.{isLarge, isVarying, columnWidth, rowWidth, largeRefusal, rowRefusal, rowAnswer}
+use Rattle.widths.specs.Width.{isLarge, isVarying, isGraphic, valueWidth, columnWidth}
+use Rattle.widths.proofs.Coded.{largeCode, varyingCode, graphicCode, coded-as}
+use Rattle.columns.specs.Row.{rowWidth, largeRefusal, rowRefusal, rowAnswer}
+use Rattle.columns.specs.Graphic.{plainWidth, graphicLengths, hasNoGraphic, Grown}
 use Rattle.columns.specs.Consistent.{ConsistentColumn, ConsistentFrom, Consistent}
 use Rattle.columns.proofs.Same.{Same, same-parts}
-
--- ---- the code says the rest
-
--- large and varying by the code
-abbrev largeCode : ℕ → Bool
-largeCode n = eqb n 0xC8 || (eqb n 0xCA || (eqb n 0xCC || eqb n 0xDC))
-
-abbrev varyingCode : ℕ → Bool
-varyingCode n = eqb n 0x32 || (eqb n 0x62 || (eqb n 0x3E || eqb n 0x1E))
-
--- the test: a type's code is even, and says whether the type is large and whether it is varying
-abbrev coded : Db2Type → Bool
-coded t = eqb (codeOf t % 2) 0 && (agree (isLarge t) (largeCode (codeOf t)) && agree (isVarying t) (varyingCode (codeOf t)))
-
-all-coded : (t : Db2Type) → T (coded t)
-all-coded Db2Type.SmallInt = tt
-all-coded Db2Type.Integer = tt
-all-coded Db2Type.BigInt = tt
-all-coded Db2Type.Real = tt
-all-coded Db2Type.Double = tt
-all-coded (Db2Type.Decimal p s) = tt
-all-coded (Db2Type.DecFloat n) = tt
-all-coded (Db2Type.Char n) = tt
-all-coded (Db2Type.VarChar n) = tt
-all-coded Db2Type.Clob = tt
-all-coded (Db2Type.Binary n) = tt
-all-coded (Db2Type.VarBinary n) = tt
-all-coded Db2Type.Blob = tt
-all-coded Db2Type.Date = tt
-all-coded Db2Type.Time = tt
-all-coded Db2Type.Timestamp = tt
-all-coded (Db2Type.Graphic n) = tt
-all-coded (Db2Type.VarGraphic n) = tt
-all-coded Db2Type.DbClob = tt
-all-coded (Db2Type.RowId n) = tt
-all-coded Db2Type.Boolean = tt
-all-coded Db2Type.Xml = tt
-
--- what the test says of one type
-module _ (t : Db2Type) where
-  rest : T (agree (isLarge t) (largeCode (codeOf t)) && agree (isVarying t) (varyingCode (codeOf t)))
-  rest = and-right (eqb (codeOf t % 2) 0) _ (all-coded t)
-
-  even : codeOf t % 2 ≡ 0
-  even = eqb→eq (codeOf t % 2) 0 (and-left (eqb (codeOf t % 2) 0) _ (all-coded t))
-
-  large-by-code : isLarge t ≡ largeCode (codeOf t)
-  large-by-code = agree-same _ _ (and-left (agree (isLarge t) (largeCode (codeOf t))) _ rest)
-
-  varying-by-code : isVarying t ≡ varyingCode (codeOf t)
-  varying-by-code = agree-same _ _ (and-right (agree (isLarge t) (largeCode (codeOf t))) _ rest)
 
 -- two even codes with what nullable adds: nullable is the last bit
 parted : (m n : ℕ) (s t : Bool) → m % 2 ≡ 0 → n % 2 ≡ 0 → m + pick s 1 0 ≡ n + pick t 1 0 → (m ≡ n) × (s ≡ t)
@@ -79,18 +30,26 @@ parted m n false false d e h = (omega arith, refl)
 module _ (i : ℕ) (c d : ColumnMetadata) (p : ConsistentColumn i c) (q : ConsistentColumn i d) (s : Same c d) where
   codes : (codeOf (c .«db2_type») ≡ codeOf (d .«db2_type»)) × (c .nullable ≡ d .nullable)
   codes =
-      parted (codeOf (c .«db2_type»)) (codeOf (d .«db2_type»)) (c .nullable) (d .nullable) (even (c .«db2_type»)) (even (d .«db2_type»))
-      (sym (p .coded) ∙ s .code ∙ q .coded)
+      parted (codeOf (c .«db2_type»)) (codeOf (d .«db2_type»)) (c .nullable) (d .nullable) (coded-as (c .«db2_type») .even)
+      (coded-as (d .«db2_type») .even) (sym (p .coded) ∙ s .code ∙ q .coded)
+
+  -- what the code says of the one type, it says of the other
+  by-code : (f : Db2Type → Bool) (g : ℕ → Bool) → f (c .«db2_type») ≡ g (codeOf (c .«db2_type»)) → f (d .«db2_type») ≡ g (codeOf (d .«db2_type»))
+      → f (c .«db2_type») ≡ f (d .«db2_type»)
+  by-code f g x y = x ∙ ap g (codes .0) ∙ sym y
 
   large-too : isLarge (c .«db2_type») ≡ isLarge (d .«db2_type»)
-  large-too = large-by-code (c .«db2_type») ∙ ap largeCode (codes .0) ∙ sym (large-by-code (d .«db2_type»))
+  large-too = by-code isLarge largeCode (coded-as (c .«db2_type») .large) (coded-as (d .«db2_type») .large)
 
   varying-too : isVarying (c .«db2_type») ≡ isVarying (d .«db2_type»)
-  varying-too = varying-by-code (c .«db2_type») ∙ ap varyingCode (codes .0) ∙ sym (varying-by-code (d .«db2_type»))
+  varying-too = by-code isVarying varyingCode (coded-as (c .«db2_type») .varying) (coded-as (d .«db2_type») .varying)
+
+  graphic-too : isGraphic (c .«db2_type») ≡ isGraphic (d .«db2_type»)
+  graphic-too = by-code isGraphic graphicCode (coded-as (c .«db2_type») .graphic) (coded-as (d .«db2_type») .graphic)
 
   width-too : columnWidth c ≡ columnWidth d
-  unfolding columnWidth
-  width-too = rw (s .size, codes .1, varying-too) refl
+  unfolding columnWidth valueWidth
+  width-too = rw (s .size, codes .1, varying-too, graphic-too) refl
 
 -- ---- the lists
 
@@ -116,3 +75,38 @@ same-cut-rows a b p q e =
     let r = rows-too 0 a b p q e in
     let n = alike-length sameColumn a b e in
     (rw (n, r .0) refl, rw (n, r .0, r .1) refl)
+
+-- ---- the sum before T-02
+
+twice : (b : Bool) (n : ℕ) → pick b (2 * n) n ≡ n + pick b n 0
+twice true n = omega arith
+twice false n = omega arith
+
+grows : (l : List ColumnMetadata) → rowWidth l ≡ plainWidth l + graphicLengths l
+unfolding rowWidth columnWidth valueWidth plainWidth graphicLengths
+grows [] = refl
+grows (c ∷ l) = omega (arith, grows l, twice (isGraphic (c .«db2_type»)) (c .length))
+
+none-once : (b : Bool) (n : ℕ) → not b ≡ true → pick b n 0 ≡ 0
+none-once true n e = absurd (false≢true e)
+none-once false n e = refl
+
+none-graphic : (l : List ColumnMetadata) → hasNoGraphic l ≡ true → graphicLengths l ≡ 0
+unfolding graphicLengths
+none-graphic [] e = refl
+none-graphic (c ∷ l) e =
+    let both = and-eq-true-iff (not (isGraphic (c .«db2_type»))) (hasNoGraphic l) .0 e in
+    omega (arith, none-once (isGraphic (c .«db2_type»)) (c .length) (both .0), none-graphic l (both .1))
+
+answered : (l : List ColumnMetadata) → rowRefusal l ≡ 0 ∷ [] → rowAnswer l ≡ rowWidth l
+unfolding rowAnswer
+answered l e = rw e refl
+
+-- the old sum and the lengths of Graphic and VarGraphic columns
+pub graphic-grows : (l : List ColumnMetadata) → Grown l
+graphic-grows l =
+    record {
+      sum = grows l;
+      kept = λ e. omega (arith, grows l, none-graphic l e);
+      answer = λ e. answered l e ∙ grows l;
+    }

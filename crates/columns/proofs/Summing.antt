@@ -11,20 +11,22 @@ use Rattle.search.proofs.Each.{drop-next}
 use Rattle.outcome.specs.Refusal.{isRefused}
 use Rattle.types.specs.declared.ColumnMetadata.{ColumnMetadata}
 use Rattle.columns.specs.Cut.{mostColumns}
-use Rattle.columns.specs.Row.{isLarge, columnWidth, rowWidth, largeRefusal, rowRefusal, rowAnswer}
+use Rattle.widths.specs.Width.{isLarge, columnWidth}
+use Rattle.widths.specs.Inside.{mostWidth}
+use Rattle.columns.specs.Row.{rowWidth, largeRefusal, rowRefusal, rowAnswer}
 
 -- what the loop holds: no column before i is large, and their widths add up to w
 pub record Summing (l : List ColumnMetadata) (w i : ℕ) : Type 0 where
   pub refusal : largeRefusal l ≡ largeRefusal (drop i l)
   pub width : rowWidth l ≡ w + rowWidth (drop i l)
-  pub small : w ≤ i * 65538
+  pub small : w ≤ i * mostWidth
 
 module _ (l : List ColumnMetadata) where
   pub summing-none : Summing l 0 0
   summing-none = record { refusal = refl; width = omega arith; small = omega arith }
 
   module _ (w i : ℕ) (t : Summing l w i) (d : ColumnMetadata) where
-    pub summing-more : i < length l → false ≡ isLarge (getD l i d .«db2_type») → (k : ℕ) → k ≡ columnWidth (getD l i d) → k ≤ 65538
+    pub summing-more : i < length l → false ≡ isLarge (getD l i d .«db2_type») → (k : ℕ) → k ≡ columnWidth (getD l i d) → k ≤ mostWidth
         → Summing l (w + k) (i + 1)
     unfolding largeRefusal rowWidth
     summing-more h g k e b =

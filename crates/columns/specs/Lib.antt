@@ -1,4 +1,5 @@
 pub mod Blank
 pub mod Cut
 pub mod Row
+pub mod Graphic
 pub mod Consistent

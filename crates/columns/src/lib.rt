@@ -1,13 +1,10 @@
 // Lists of columns: whether two make the same cut, and how wide a row can be.
 ghost use mathlib.Core.Path.{_≡_};
-ghost use Prim.Native.Nat.{_≤_};
-ghost use Rattle.search.specs.Search.{pick};
 ghost use Rattle.outcome.specs.Refusal.{refusalOf};
 ghost use Rattle.columns.specs.Cut.{sameColumn, cutRefusal, cutAnswer};
-ghost use Rattle.columns.specs.Row.{isLarge, isVarying, columnWidth, rowRefusal, rowAnswer};
+ghost use Rattle.columns.specs.Row.{rowRefusal, rowAnswer};
 use outcome::Outcome;
 use types::ColumnMetadata;
-use types::Db2Type;
 
 // Whether rows are cut alike by two lists; no where the outcome is a refusal.
 pub struct CutAnswer {
@@ -32,90 +29,6 @@ pub fn same_column(c: ColumnMetadata, d: ColumnMetadata) -> bool
             & ((c.precision == d.precision)
                 & ((c.scale == d.scale)
                     & (column::order_number(order) == column::order_number(other)))))
-}
-
-// A row with a column of such a type has no widest.
-fn is_large(db2_type: Db2Type) -> bool
-    ensures { λ r. ⌜ r ≡ isLarge «db2_type» ⌝ }
-{
-    match db2_type {
-        Db2Type::SmallInt => false,
-        Db2Type::Integer => false,
-        Db2Type::BigInt => false,
-        Db2Type::Real => false,
-        Db2Type::Double => false,
-        Db2Type::Decimal { precision, scale } => false,
-        Db2Type::DecFloat(digits) => false,
-        Db2Type::Char(n) => false,
-        Db2Type::VarChar(n) => false,
-        Db2Type::Clob => true,
-        Db2Type::Binary(n) => false,
-        Db2Type::VarBinary(n) => false,
-        Db2Type::Blob => true,
-        Db2Type::Date => false,
-        Db2Type::Time => false,
-        Db2Type::Timestamp => false,
-        Db2Type::Graphic(n) => false,
-        Db2Type::VarGraphic(n) => false,
-        Db2Type::DbClob => true,
-        Db2Type::RowId(n) => false,
-        Db2Type::Boolean => false,
-        Db2Type::Xml => true,
-    }
-}
-
-// Two bytes of length stand before a value of such a type.
-fn is_varying(db2_type: Db2Type) -> bool
-    ensures { λ r. ⌜ r ≡ isVarying «db2_type» ⌝ }
-{
-    match db2_type {
-        Db2Type::SmallInt => false,
-        Db2Type::Integer => false,
-        Db2Type::BigInt => false,
-        Db2Type::Real => false,
-        Db2Type::Double => false,
-        Db2Type::Decimal { precision, scale } => false,
-        Db2Type::DecFloat(digits) => false,
-        Db2Type::Char(n) => false,
-        Db2Type::VarChar(n) => true,
-        Db2Type::Clob => false,
-        Db2Type::Binary(n) => false,
-        Db2Type::VarBinary(n) => true,
-        Db2Type::Blob => false,
-        Db2Type::Date => false,
-        Db2Type::Time => false,
-        Db2Type::Timestamp => false,
-        Db2Type::Graphic(n) => false,
-        Db2Type::VarGraphic(n) => true,
-        Db2Type::DbClob => false,
-        Db2Type::RowId(n) => true,
-        Db2Type::Boolean => false,
-        Db2Type::Xml => false,
-    }
-}
-
-pub fn is_large_column(column: ColumnMetadata) -> bool
-    ensures { λ r. ⌜ r ≡ isLarge (column .«db2_type») ⌝ }
-{
-    let db2_type = column.db2_type;
-    is_large(db2_type)
-}
-
-// Bytes that stand in a row where something holds.
-fn bytes_if(holds: bool, count: usize) -> usize
-    ensures { λ r. ⌜ (r ≡ pick holds count 0) × (r ≤ count) ⌝ }
-{
-    if holds { count } else { 0 }
-}
-
-// The bytes that a column can take in a row.
-pub fn column_width(column: ColumnMetadata) -> usize
-    ensures { λ r. ⌜ r ≡ columnWidth column ⌝ }
-    ensures { λ r. ⌜ r ≤ 65538 ⌝ }
-{
-    let db2_type = column.db2_type;
-    let varying = is_varying(db2_type);
-    column.length as usize + bytes_if(column.nullable, 1) + bytes_if(varying, 2)
 }
 
 fn number_of(column: ColumnMetadata) -> u16
@@ -174,13 +87,13 @@ pub fn widest_row(columns: &[ColumnMetadata]) -> RowAnswer
     let mut i = 0;
     while i < columns.len() {
         let column = columns[i];
-        if is_large_column(column) {
+        if widths::is_large_column(column) {
             return RowAnswer {
                 outcome: Outcome::LargeObject(number_of(column)),
                 width: 0,
             };
         }
-        width += column_width(column);
+        width += widths::column_width(column);
         i += 1;
     }
     RowAnswer {

@@ -12,7 +12,9 @@ use Rattle.search.proofs.Alike.{alike-unequal, alike-more, alike-fails, alike-d
 use Rattle.types.specs.declared.ColumnMetadata.{ColumnMetadata}
 use Rattle.columns.specs.Blank.{noColumn}
 use Rattle.columns.specs.Cut.{mostColumns, sameColumn, sameCut}
-use Rattle.columns.specs.Row.{isLarge, columnWidth, rowRefusal, rowAnswer}
+use Rattle.widths.specs.Width.{isLarge, columnWidth}
+use Rattle.widths.specs.Inside.{mostWidth}
+use Rattle.columns.specs.Row.{rowRefusal, rowAnswer}
 use Rattle.columns.proofs.Summing.{Summing, summing-none, summing-more, row-large, row-done}
 use Rattle.column_words.specs.Columns.{columnIn, isColumn, columnsIn, areColumns}
 use Rattle.column_words.proofs.Columns.{columns-length, columns-at, columns-fit}
@@ -89,7 +91,7 @@ module _ (w : List ℕ) where
       here : c ≡ getD (columnsIn w) i noColumn
       here = e ∙ column-here w i at (t .counted) h
 
-      pub adding-more : r ≡ false → (k : ℕ) → k ≡ columnWidth c → k ≤ 65538 → Adding (sum + k) (i + 1) (at + 22)
+      pub adding-more : r ≡ false → (k : ℕ) → k ≡ columnWidth c → k ≤ mostWidth → Adding (sum + k) (i + 1) (at + 22)
       adding-more z k f b =
           record {
             counted = omega (arith, t .counted);

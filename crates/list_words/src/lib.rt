@@ -47,13 +47,13 @@ pub fn add_widths(words: &[u64]) -> RowAnswer
     let mut i = 0;
     while i < count {
         let column = column_words::column_at(words, at);
-        if columns::is_large_column(column) {
+        if widths::is_large_column(column) {
             return RowAnswer {
                 outcome: Outcome::LargeObject(column.number),
                 width: 0,
             };
         }
-        width += columns::column_width(column);
+        width += widths::column_width(column);
         at += 22;
         i += 1;
     }

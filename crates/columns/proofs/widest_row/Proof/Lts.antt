@@ -159,7 +159,7 @@ abbrev b19 : Syntax.Body
 b19 = Syntax.assign (Syntax.place 4 List.[]) (Syntax.rvOpd (Syntax.copy (Syntax.place 11 List.[])))
 
 abbrev b20 : Syntax.Body
-b20 = Syntax.call "columns::is_large_column" (List._∷_ (Syntax.copy (Syntax.place 4 List.[])) List.[]) (Syntax.place 12 List.[])
+b20 = Syntax.call "widths::is_large_column" (List._∷_ (Syntax.copy (Syntax.place 4 List.[])) List.[]) (Syntax.place 12 List.[])
 
 abbrev b21 : Syntax.Body
 b21 = Syntax.call "columns::number_of" (List._∷_ (Syntax.copy (Syntax.place 4 List.[])) List.[]) (Syntax.place 13 List.[])
@@ -189,7 +189,7 @@ abbrev b29 : Syntax.Body
 b29 = Syntax.cond (Syntax.copy (Syntax.place 12 List.[])) b27 b28
 
 abbrev b30 : Syntax.Body
-b30 = Syntax.call "columns::column_width" (List._∷_ (Syntax.copy (Syntax.place 4 List.[])) List.[]) (Syntax.place 8 List.[])
+b30 = Syntax.call "widths::column_width" (List._∷_ (Syntax.copy (Syntax.place 4 List.[])) List.[]) (Syntax.place 8 List.[])
 
 abbrev b31 : Syntax.Body
 b31 = Syntax.assign (Syntax.place 2 List.[]) (Syntax.op2 (Syntax.add Syntax.unsigned) (Syntax.copy (Syntax.place 2 List.[])) (Syntax.copy (Syntax.place 8 List.[])))
@@ -699,7 +699,7 @@ module _ (claims· : Claims) where
   module _ (Pre· : (κs : Lifetimes.Lfts 1) → Kinds.Dens κs ps → Type 0) (Post· : (κs : Lifetimes.Lfts 1) → (a : Kinds.Dens κs ps) → Kinds.Plain 1 ps r κs) where
     module _ (M : Type 1) where
       abbrev pub Closed : Type 2
-      Closed = (𝓤 : URA.URA M) (H : Wp.Heap 𝓤) (A : Atoms.Atoms 𝓤) (W : Kit.Given 𝓤 H A) (𝓣 : Wp.Tables 𝓤 H) (known0 : Plain.Known 𝓤 H A W 𝓣 0 ps·0 r·0 (claims· .0) (claims· .1) "columns::is_large_column") (known1 : Plain.Known 𝓤 H A W 𝓣 0 ps·1 r·1 (claims· .2) (claims· .3) "columns::number_of") (known2 : Plain.Known 𝓤 H A W 𝓣 0 ps·2 r·2 (claims· .4) (claims· .5) "columns::column_width") → Statement.Triple 𝓤 (Wp.WpFn 𝓤 H (𝓣 .C) (𝓣 .Λ) (Function.fnOf 1 ps r xs m hs body)) (Function.plainOf 𝓤 H A 1 ps r Pre· Post·)
+      Closed = (𝓤 : URA.URA M) (H : Wp.Heap 𝓤) (A : Atoms.Atoms 𝓤) (W : Kit.Given 𝓤 H A) (𝓣 : Wp.Tables 𝓤 H) (known0 : Plain.Known 𝓤 H A W 𝓣 0 ps·0 r·0 (claims· .0) (claims· .1) "widths::is_large_column") (known1 : Plain.Known 𝓤 H A W 𝓣 0 ps·1 r·1 (claims· .2) (claims· .3) "columns::number_of") (known2 : Plain.Known 𝓤 H A W 𝓣 0 ps·2 r·2 (claims· .4) (claims· .5) "widths::column_width") → Statement.Triple 𝓤 (Wp.WpFn 𝓤 H (𝓣 .C) (𝓣 .Λ) (Function.fnOf 1 ps r xs m hs body)) (Function.plainOf 𝓤 H A 1 ps r Pre· Post·)
 
     module _ (Inv·0 : InvT-loop) (μ·0 : MeasureT-loop) where
       abbrev at0 : Typed.TF T10 O1
@@ -893,7 +893,7 @@ module _ (claims· : Claims) where
 
       module _ {M : Type 1} (𝓤 : URA.URA M) (H : Wp.Heap 𝓤) (A : Atoms.Atoms 𝓤) (W : Kit.Given 𝓤 H A) (𝓣 : Wp.Tables 𝓤 H) where
         abbrev Knowns : Type 1
-        Knowns = Plain.Known 𝓤 H A W 𝓣 0 ps·0 r·0 (claims· .0) (claims· .1) "columns::is_large_column" × Plain.Known 𝓤 H A W 𝓣 0 ps·1 r·1 (claims· .2) (claims· .3) "columns::number_of" × Plain.Known 𝓤 H A W 𝓣 0 ps·2 r·2 (claims· .4) (claims· .5) "columns::column_width"
+        Knowns = Plain.Known 𝓤 H A W 𝓣 0 ps·0 r·0 (claims· .0) (claims· .1) "widths::is_large_column" × Plain.Known 𝓤 H A W 𝓣 0 ps·1 r·1 (claims· .2) (claims· .3) "columns::number_of" × Plain.Known 𝓤 H A W 𝓣 0 ps·2 r·2 (claims· .4) (claims· .5) "widths::column_width"
 
       module _ (κs : Lifetimes.Lfts 1) (qs : Lifetimes.Shares 1) where
         abbrev G0 : Row.Cx
@@ -1180,13 +1180,13 @@ module _ (claims· : Claims) where
           d33 = Typed.g-pre 𝓤 H A W 𝓣 E G41 G42 b33 Δ4 (Typed.pass T41 T42 s36) at32 (Scalar.g-room 𝓤 H A W E G41 4 (ColumnMetadataRow.ty) (ColumnMetadataRow.room 𝓤 H A W)) d32
 
           d34 : Typed.Typed 𝓤 H A 𝓣 E G29 b34 Δ4 at34
-          d34 = Typed.s-seq 𝓤 H A W 𝓣 E G29 G41 b30 b33 Δ4 (Typed.both s35) at33 (Plain.t-call-plain 𝓤 H A W 𝓣 0 ps·2 r·2 (claims· .4) (claims· .5) "columns::column_width" (known .2) E (λ pos β. β) G29 (record { pos = 4; st = List.[]; d = 0; at = λ x. x }, tt) 8 List.[] (Call.sub-id 𝓤 H A W (G29 .slots)) ((ColumnMetadataRow.yields 𝓤 H A W, Path'.refl), tt) (Reads.room-gone 𝓤 H A (Syntax.tyInt Syntax.w64)) tt Path'.refl) d33
+          d34 = Typed.s-seq 𝓤 H A W 𝓣 E G29 G41 b30 b33 Δ4 (Typed.both s35) at33 (Plain.t-call-plain 𝓤 H A W 𝓣 0 ps·2 r·2 (claims· .4) (claims· .5) "widths::column_width" (known .2) E (λ pos β. β) G29 (record { pos = 4; st = List.[]; d = 0; at = λ x. x }, tt) 8 List.[] (Call.sub-id 𝓤 H A W (G29 .slots)) ((ColumnMetadataRow.yields 𝓤 H A W, Path'.refl), tt) (Reads.room-gone 𝓤 H A (Syntax.tyInt Syntax.w64)) tt Path'.refl) d33
 
           d35 : Typed.Typed 𝓤 H A 𝓣 E G28 b35 Δ4 at35
           d35 = Typed.t-seq 𝓤 H A W 𝓣 E G28 G29 b29 b34 Δ4 at29 at34 d29 d34
 
           d36 : Typed.Typed 𝓤 H A 𝓣 E G27 b36 Δ4 at36
-          d36 = Typed.s-seq 𝓤 H A W 𝓣 E G27 G28 b20 b35 Δ4 (Typed.both s23) at35 (Plain.t-call-plain 𝓤 H A W 𝓣 0 ps·0 r·0 (claims· .0) (claims· .1) "columns::is_large_column" (known .0) E (λ pos β. β) G27 (record { pos = 4; st = List.[]; d = 0; at = λ x. x }, tt) 12 List.[] (Call.sub-id 𝓤 H A W (G27 .slots)) ((ColumnMetadataRow.yields 𝓤 H A W, Path'.refl), tt) (Reads.room-gone 𝓤 H A Syntax.tyBool) tt Path'.refl) d35
+          d36 = Typed.s-seq 𝓤 H A W 𝓣 E G27 G28 b20 b35 Δ4 (Typed.both s23) at35 (Plain.t-call-plain 𝓤 H A W 𝓣 0 ps·0 r·0 (claims· .0) (claims· .1) "widths::is_large_column" (known .0) E (λ pos β. β) G27 (record { pos = 4; st = List.[]; d = 0; at = λ x. x }, tt) 12 List.[] (Call.sub-id 𝓤 H A W (G27 .slots)) ((ColumnMetadataRow.yields 𝓤 H A W, Path'.refl), tt) (Reads.room-gone 𝓤 H A Syntax.tyBool) tt Path'.refl) d35
 
           d37 : Typed.Typed 𝓤 H A 𝓣 E G26 b36 Δ4 at37
           d37 = Typed.g-pre 𝓤 H A W 𝓣 E G26 G27 b36 Δ4 (Typed.pass T26 T27 s22) at36 (Scalar.g-room 𝓤 H A W E G26 11 (ColumnMetadataRow.ty) (ColumnMetadataRow.room 𝓤 H A W)) d36
@@ -1623,6 +1623,6 @@ module _ (claims· : Claims) where
           pub asked : (a : Kinds.Dens κs ps) → (good : Kinds.GoodsP κs ps a) → (pre : Pre· κs a) → (bs : List.List Nat.ℕ) → Φ (Any.wantQ 1 ps r xs m κs qs a (Post· κs a)) (Function.init 1 ps r xs m κs qs a)
           asked = λ a good pre bs. laid record { κs = κs; args = record { columns = a .0 }; good = good; pre = pre }
 
-        module _ {M : Type 1} (𝓤 : URA.URA M) (H : Wp.Heap 𝓤) (A : Atoms.Atoms 𝓤) (W : Kit.Given 𝓤 H A) (𝓣 : Wp.Tables 𝓤 H) (known0 : Plain.Known 𝓤 H A W 𝓣 0 ps·0 r·0 (claims· .0) (claims· .1) "columns::is_large_column") (known1 : Plain.Known 𝓤 H A W 𝓣 0 ps·1 r·1 (claims· .2) (claims· .3) "columns::number_of") (known2 : Plain.Known 𝓤 H A W 𝓣 0 ps·2 r·2 (claims· .4) (claims· .5) "columns::column_width") where
+        module _ {M : Type 1} (𝓤 : URA.URA M) (H : Wp.Heap 𝓤) (A : Atoms.Atoms 𝓤) (W : Kit.Given 𝓤 H A) (𝓣 : Wp.Tables 𝓤 H) (known0 : Plain.Known 𝓤 H A W 𝓣 0 ps·0 r·0 (claims· .0) (claims· .1) "widths::is_large_column") (known1 : Plain.Known 𝓤 H A W 𝓣 0 ps·1 r·1 (claims· .2) (claims· .3) "columns::number_of") (known2 : Plain.Known 𝓤 H A W 𝓣 0 ps·2 r·2 (claims· .4) (claims· .5) "widths::column_width") where
           pub spec : Statement.Triple 𝓤 (Wp.WpFn 𝓤 H (𝓣 .C) (𝓣 .Λ) (Function.fnOf 1 ps r xs m hs body)) (Function.plainOf 𝓤 H A 1 ps r Pre· Post·)
           spec = Plain.t-fn-plain 𝓤 H A W 𝓣 1 ps r xs m hs body (λ κs qs bs. Φ) (λ κs qs bs bd. typed κs qs 𝓤 H A W 𝓣 (known0, known1, known2) bs bd) Pre· Post· asked

@@ -1,11 +1,11 @@
--- Which types are large objects: an arm's tag says the type, at which the definition computes.
+-- Before which types two bytes of length stand: an arm's tag says the type, at which the definition computes.
 use borrow.Author.Needs.{needs}
-use Rattle.columns.proofs.is_large.Statement.{statement}
-use Rattle.columns.proofs.is_large.Tie as tie
+use Rattle.widths.proofs.is_varying.Statement.{statement}
+use Rattle.widths.proofs.is_varying.Tie as tie
 
 -- the tags of the 22 arms, then their answers
-pub is-large-spec : {M : Type 1} → statement M
-is-large-spec =
+pub is-varying-spec : {M : Type 1} → statement M
+is-varying-spec =
     tie.close
     (tie.spec
     (search needs)
