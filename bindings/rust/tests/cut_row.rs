@@ -132,14 +132,19 @@ fn bytes_that_are_no_value() {
 
 #[test]
 fn any_row_is_cut_or_refused() {
-    let reply = stored("luggage.bin");
-    let row = luggage_row();
-    for place in 0..row.len() {
-        for byte in 0..=255 {
-            let mut other = row.clone();
-            other[place] = byte;
-            if let Ok(values) = cut_row(&reply, &other) {
-                assert_eq!(values.len(), 8);
+    let name = [&[0x00, 0, 20], &[0xD8; 40][..]].concat();
+    for (reply, row, count) in [
+        ("luggage.bin", luggage_row(), 8),
+        ("luggage-graphic.bin", graphic_row(&name, "12Ä "), 4),
+    ] {
+        let reply = stored(reply);
+        for place in 0..row.len() {
+            for byte in 0..=255 {
+                let mut other = row.clone();
+                other[place] = byte;
+                if let Ok(values) = cut_row(&reply, &other) {
+                    assert_eq!(values.len(), count);
+                }
             }
         }
     }

@@ -10,9 +10,9 @@ use Rattle.search.proofs.Alike.{alike-length}
 use Rattle.types.specs.declared.ColumnMetadata.{ColumnMetadata}
 use Rattle.types.specs.declared.Db2Type.{Db2Type}
 use Rattle.sqlda.specs.Types.{codeOf}
-use Rattle.columns.specs.Cut.{sameColumn, sameCut}
 use Rattle.widths.specs.Width.{isLarge, isVarying, isGraphic, valueWidth, columnWidth}
 use Rattle.widths.proofs.Coded.{largeCode, varyingCode, graphicCode, coded-as}
+use Rattle.columns.specs.Cut.{sameColumn, sameCut}
 use Rattle.columns.specs.Row.{rowWidth, largeRefusal, rowRefusal, rowAnswer}
 use Rattle.columns.specs.Graphic.{plainWidth, graphicLengths, hasNoGraphic, Grown}
 use Rattle.columns.specs.Consistent.{ConsistentColumn, ConsistentFrom, Consistent}
