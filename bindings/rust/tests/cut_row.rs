@@ -12,6 +12,17 @@ fn stored(name: &str) -> Vec<u8> {
     std::fs::read(format!("{folder}{name}")).expect("a stored reply")
 }
 
+/// Every beginning of a row that can be cut is told to end early.
+fn beginnings_end_early(reply: &[u8], row: &[u8]) {
+    for length in 0..row.len() {
+        let error = cut_row(reply, &row[..length]).unwrap_err();
+        assert!(
+            matches!(error, RowError::EndsEarly { .. }),
+            "{length}: {error}"
+        );
+    }
+}
+
 fn lines(values: &[(String, String)]) -> String {
     values
         .iter()
@@ -79,13 +90,7 @@ fn row_of_double_byte_characters() {
         cut_row(&reply, &graphic_row(&longer, "12Ä ")),
         Err(RowError::NoValue { name, .. }) if name == "PASSENGER"
     ));
-    for length in 0..row.len() {
-        let error = cut_row(&reply, &row[..length]).unwrap_err();
-        assert!(
-            matches!(error, RowError::EndsEarly { .. }),
-            "{length}: {error}"
-        );
-    }
+    beginnings_end_early(&reply, &row);
     assert_eq!(
         cut_row(&reply, &row[..55]).unwrap_err().to_string(),
         "the row ends early: ROOM needs 8 bytes, 2 are left"
@@ -97,13 +102,7 @@ fn rows_of_other_lengths() {
     let reply = stored("luggage.bin");
     let row = luggage_row();
     assert!(row.len() <= widest_row(&describe(&reply).unwrap().1).unwrap());
-    for length in 0..row.len() {
-        let error = cut_row(&reply, &row[..length]).unwrap_err();
-        assert!(
-            matches!(error, RowError::EndsEarly { .. }),
-            "{length}: {error}"
-        );
-    }
+    beginnings_end_early(&reply, &row);
     assert_eq!(
         cut_row(&reply, &row[..40]).unwrap_err().to_string(),
         "the row ends early: FEE needs 5 bytes, 4 are left"

@@ -1,6 +1,6 @@
 -- Consistent lists that make the same cut have the same widest row: what the width takes of a column is said by its code and its length.
 -- And what T-02 made of the sum.
-use mathlib.Core.Path.{_≡_, refl, sym, ap, _∙_}
+use mathlib.Core.Path.{_≡_, refl, sym, _∙_}
 use mathlib.Core.Bool.{Bool, true, false, false≢true, not, and-eq-true-iff}
 use mathlib.Core.List.{List, [], _∷_}
 use Prim.Native.Nat.{ℕ, suc, _+_, _*_, _%_}
@@ -10,15 +10,39 @@ use Rattle.search.proofs.Alike.{alike-length}
 use Rattle.types.specs.declared.ColumnMetadata.{ColumnMetadata}
 use Rattle.types.specs.declared.Db2Type.{Db2Type}
 use Rattle.sqlda.specs.Types.{codeOf}
-use Rattle.widths.specs.Width.{isLarge, isVarying, isGraphic, valueWidth, columnWidth}
-use Rattle.widths.proofs.Coded.{largeCode, varyingCode, graphicCode, coded-as}
+use Rattle.widths.specs.Width.{isLarge, isGraphic, valueWidth, columnWidth}
 use Rattle.columns.specs.Cut.{sameColumn, sameCut}
 use Rattle.columns.specs.Row.{rowWidth, largeRefusal, rowRefusal, rowAnswer}
 use Rattle.columns.specs.Graphic.{plainWidth, graphicLengths, hasNoGraphic, Grown}
 use Rattle.columns.specs.Consistent.{ConsistentColumn, ConsistentFrom, Consistent}
 use Rattle.columns.proofs.Same.{Same, same-parts}
 
--- two even codes with what nullable adds: nullable is the last bit
+-- nullable is a code's last bit: a type's own code is even
+even : (t : Db2Type) → codeOf t % 2 ≡ 0
+even Db2Type.SmallInt = refl
+even Db2Type.Integer = refl
+even Db2Type.BigInt = refl
+even Db2Type.Real = refl
+even Db2Type.Double = refl
+even (Db2Type.Decimal p s) = refl
+even (Db2Type.DecFloat n) = refl
+even (Db2Type.Char n) = refl
+even (Db2Type.VarChar n) = refl
+even Db2Type.Clob = refl
+even (Db2Type.Binary n) = refl
+even (Db2Type.VarBinary n) = refl
+even Db2Type.Blob = refl
+even Db2Type.Date = refl
+even Db2Type.Time = refl
+even Db2Type.Timestamp = refl
+even (Db2Type.Graphic n) = refl
+even (Db2Type.VarGraphic n) = refl
+even Db2Type.DbClob = refl
+even (Db2Type.RowId n) = refl
+even Db2Type.Boolean = refl
+even Db2Type.Xml = refl
+
+-- two even codes with what nullable adds: equal codes, equally nullable
 parted : (m n : ℕ) (s t : Bool) → m % 2 ≡ 0 → n % 2 ≡ 0 → m + pick s 1 0 ≡ n + pick t 1 0 → (m ≡ n) × (s ≡ t)
 parted m n true true d e h = (omega arith, refl)
 parted m n true false d e h = absurd (omega arith)
@@ -30,26 +54,16 @@ parted m n false false d e h = (omega arith, refl)
 module _ (i : ℕ) (c d : ColumnMetadata) (p : ConsistentColumn i c) (q : ConsistentColumn i d) (s : Same c d) where
   codes : (codeOf (c .«db2_type») ≡ codeOf (d .«db2_type»)) × (c .nullable ≡ d .nullable)
   codes =
-      parted (codeOf (c .«db2_type»)) (codeOf (d .«db2_type»)) (c .nullable) (d .nullable) (coded-as (c .«db2_type») .even)
-      (coded-as (d .«db2_type») .even) (sym (p .coded) ∙ s .code ∙ q .coded)
+      parted (codeOf (c .«db2_type»)) (codeOf (d .«db2_type»)) (c .nullable) (d .nullable) (even (c .«db2_type»)) (even (d .«db2_type»))
+      (sym (p .coded) ∙ s .code ∙ q .coded)
 
-  -- what the code says of the one type, it says of the other
-  by-code : (f : Db2Type → Bool) (g : ℕ → Bool) → f (c .«db2_type») ≡ g (codeOf (c .«db2_type»)) → f (d .«db2_type») ≡ g (codeOf (d .«db2_type»))
-      → f (c .«db2_type») ≡ f (d .«db2_type»)
-  by-code f g x y = x ∙ ap g (codes .0) ∙ sym y
-
+  -- a test of types goes by their code alone
   large-too : isLarge (c .«db2_type») ≡ isLarge (d .«db2_type»)
-  large-too = by-code isLarge largeCode (coded-as (c .«db2_type») .large) (coded-as (d .«db2_type») .large)
-
-  varying-too : isVarying (c .«db2_type») ≡ isVarying (d .«db2_type»)
-  varying-too = by-code isVarying varyingCode (coded-as (c .«db2_type») .varying) (coded-as (d .«db2_type») .varying)
-
-  graphic-too : isGraphic (c .«db2_type») ≡ isGraphic (d .«db2_type»)
-  graphic-too = by-code isGraphic graphicCode (coded-as (c .«db2_type») .graphic) (coded-as (d .«db2_type») .graphic)
+  large-too = rw (codes .0) refl
 
   width-too : columnWidth c ≡ columnWidth d
   unfolding columnWidth valueWidth
-  width-too = rw (s .size, codes .1, varying-too, graphic-too) refl
+  width-too = rw (s .size, codes .1, codes .0) refl
 
 -- ---- the lists
 

@@ -1,1 +1,1 @@
-pub mod Coded
+pub mod Cases
