@@ -1,4 +1,6 @@
 // IBM code page 037: a byte becomes one character, and every character is below 256.
+#![tactic(auto)]
+
 mod page037;
 
 ghost use Rattle.std.specs.Prelude.{◌≡◌, map, ◌≤◌, length, get_or};

@@ -1,9 +1,11 @@
 // What an entry says of a call: that it accepted, or why it refused.
+#![tactic(auto)]
+
 ghost use Rattle.std.specs.Prelude.{◌≡◌};
 ghost use Rattle.outcome.specs.Refusal.{refusalOf, is_refused, refusalIs, inNumbers};
 
 // EmptyReply to UnexpectedCodePoint are the Rust's refusals; the others are the project's own limits.
-#[derive(Drop)]
+#[derive(Clone, Copy)]
 pub enum Outcome {
     Accepted,
     EmptyReply,
@@ -22,7 +24,7 @@ pub enum Outcome {
 
 // A refusal's number and its values in document 01's order: `count` of them, the others 0. Number 0 is none.
 #[repr(C)]
-#[derive(Drop)]
+#[derive(Clone, Copy)]
 pub struct Refusal {
     pub number: u8,
     pub count: u8,
