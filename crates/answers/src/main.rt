@@ -1,5 +1,7 @@
 // Answers cases: reads them from standard input and writes a line for each, as docs/ANSWERS.md says. The entries are those that
 // other programs link: what is tested here is the library.
+#![tactic(auto)]
+
 mod cards;
 mod column_list;
 mod descriptions;

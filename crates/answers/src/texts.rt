@@ -40,7 +40,7 @@ pub(crate) fn put_message_text(payload: &[u8], room: &mut [u8]) -> bool {
 }
 
 // Where a case says that a name stands, and in which alphabet.
-#[derive(Drop)]
+#[derive(Clone, Copy)]
 struct Named {
     number: u16,
     place: usize,

@@ -1,4 +1,6 @@
 // Candidates for names: strings of the reply by their 16-bit length, whatever they stand in. They are found one at a time, with five in view.
+#![tactic(auto)]
+
 ghost use Rattle.std.specs.Prelude.{false, not, ◌&&◌, ◌≡◌, ℕ, ◌≤◌, ◌<◌, eqb, length};
 ghost use Rattle.search.specs.Search.{alike};
 ghost use Rattle.text.specs.Text.{emptyText};
@@ -120,7 +122,7 @@ fn next_length(reply: &[u8], from: usize) -> usize
 }
 
 // A candidate, and the position from which to look for the next one. An empty text: there is none.
-#[derive(Drop)]
+#[derive(Clone, Copy)]
 pub struct Candidate {
     pub text: Text,
     pub next: usize,
@@ -150,7 +152,7 @@ fn next_candidate(reply: &[u8], last: Text, from: usize) -> Candidate
 }
 
 // Five candidates that follow each other, and the position from which to look for the next one. An empty text: there is none, and none after it.
-#[derive(Drop)]
+#[derive(Clone, Copy)]
 pub struct View {
     pub first: Text,
     pub second: Text,

@@ -1,5 +1,7 @@
 // The cells of a column in a table that hold its numbers, written to a line. What they hold is promised, with the column's record, so that no
 // number can stand under another's head.
+#![tactic(auto)]
+
 ghost use Rattle.std.specs.Prelude.{◌++◌, ◌≡◌};
 ghost use Rattle.decimal.specs.Decimal.{decimalOf};
 ghost use Rattle.line.specs.Line.{Appended, padded};

@@ -1,4 +1,6 @@
 // A column as its descriptor gives it, in numbers, and the record that these numbers stand for.
+#![tactic(auto)]
+
 ghost use Rattle.std.specs.Prelude.{◌≡◌, not, ◌++◌, ◌+◌, ◌<◌, ◌≤◌, length, get_or, drop};
 ghost use Rattle.search.specs.Search.{pick};
 ghost use Rattle.codepage.specs.Page.{page037};
@@ -12,7 +14,7 @@ use text::Text;
 use types::{ColumnMetadata, Db2Type};
 
 // What a descriptor says: its numbers as they stand in the reply, where its strings lie (length 0 where there is none), and what is past it.
-#[derive(Drop)]
+#[derive(Clone, Copy)]
 pub struct Described {
     pub sql_type: u16,
     pub raw_length: u64,
@@ -28,7 +30,7 @@ pub struct Described {
 }
 
 // How many columns a run of descriptors has, and how many of them have names that are not generated.
-#[derive(Drop)]
+#[derive(Clone, Copy)]
 pub struct Run {
     pub count: usize,
     pub named: usize,

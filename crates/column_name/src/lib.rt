@@ -1,4 +1,6 @@
 // The name of a column: its own bytes, which are a part of the reply, and its text, which is written to a lent buffer.
+#![tactic(auto)]
+
 ghost use Rattle.std.specs.Prelude.{◌≡◌, false, [], ◌∷◌, ◌≤◌, length, drop};
 ghost use Rattle.codepage.specs.Page.{page037};
 ghost use Rattle.outcome.specs.Refusal.{refusalOf, is_refused};
@@ -60,7 +62,7 @@ pub fn name_part<'a>(reply: &'a [u8], column: ColumnMetadata, refusal: &mut u8) 
 }
 
 // The generated name of a column: its characters end where the array ends.
-#[derive(Drop)]
+#[derive(Clone, Copy)]
 pub struct Generated {
     pub characters: [u8; 24],
     pub start: usize,
@@ -83,7 +85,7 @@ fn generated_name(number: u16) -> Generated
 }
 
 // How long the text is; 0 where the outcome is a refusal.
-#[derive(Drop)]
+#[derive(Clone, Copy)]
 pub struct NameText {
     pub outcome: Outcome,
     pub length: usize,

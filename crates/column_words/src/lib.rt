@@ -1,4 +1,6 @@
 // A column's record in 22 words of 64 bits, for programs that cannot lend a list of records.
+#![tactic(auto)]
+
 ghost use Rattle.std.specs.Prelude.{◌≡◌, true, ◌++◌, ◌+◌, ◌<◌, ◌≤◌, length, get_or, take, drop};
 ghost use Rattle.search.specs.Search.{pick};
 ghost use Rattle.sqlda.specs.Codes.{typeWith};

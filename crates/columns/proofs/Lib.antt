@@ -1,7 +1,5 @@
-pub mod ColumnMetadataRow
 pub mod Cutting
 pub mod Summing
 pub mod Same
 pub mod Rows
 pub mod Cases
-pub mod Known

@@ -1,4 +1,6 @@
 // Lists of columns: whether two make the same cut, and how wide a row can be.
+#![tactic(auto)]
+
 ghost use Rattle.std.specs.Prelude.{◌≡◌};
 ghost use Rattle.outcome.specs.Refusal.{refusalOf};
 ghost use Rattle.columns.specs.Cut.{sameColumn, cutRefusal, cutAnswer};
@@ -8,14 +10,14 @@ use outcome::Outcome;
 use types::ColumnMetadata;
 
 // Whether rows are cut alike by two lists; no where the outcome is a refusal.
-#[derive(Drop)]
+#[derive(Clone, Copy)]
 pub struct CutAnswer {
     pub outcome: Outcome,
     pub same: bool,
 }
 
 // The sum that is the widest row; 0 where the outcome is a refusal.
-#[derive(Drop)]
+#[derive(Clone, Copy)]
 pub struct RowAnswer {
     pub outcome: Outcome,
     pub width: usize,

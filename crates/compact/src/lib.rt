@@ -1,4 +1,6 @@
 // Descriptors of the compact reading and of the last reader: 16 bytes of little-endian numbers, and a name somewhere after them.
+#![tactic(auto)]
+
 ghost use Rattle.std.specs.Prelude.{◌≡◌, ◌+◌, ◌<◌, ◌≤◌};
 ghost use lib.ListN.{length};
 ghost use Rattle.codepage.specs.Page.{page037};
@@ -14,7 +16,7 @@ use field::ByteOrder;
 use strings::StringRead;
 
 // Where a descriptor ends: before the next compact one, or past FF FF FF as for the last reader.
-#[derive(Drop)]
+#[derive(Clone, Copy)]
 pub enum Ends {
     Compact,
     Last,
@@ -91,7 +93,7 @@ fn name_stop(reply: &[u8], offset: usize, end: usize) -> usize
 }
 
 // Whether a name's length byte stands at a position, and where the name characters behind it stop, as far as that is known.
-#[derive(Drop)]
+#[derive(Clone, Copy)]
 struct NameTest {
     found: bool,
     stop: usize,

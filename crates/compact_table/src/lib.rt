@@ -1,11 +1,13 @@
 // The table of compact descriptors, which is found by how its first descriptors look. All its numbers are little-endian.
+#![tactic(auto)]
+
 ghost use Rattle.std.specs.Prelude.{◌≡◌, ◌+◌, ◌<◌, ◌≤◌, length};
 ghost use Rattle.compact_table.specs.Table.{inBounds, isFF, ffAt, inEight, looksCompact, nextHere, nextCompact, isCount, tableHere, table_of, Ended};
 
 use field::ByteOrder;
 
 // Where the first descriptor stands, and how many the table declares: 0 if there is no table.
-#[derive(Drop)]
+#[derive(Clone, Copy)]
 pub struct Table {
     pub start: usize,
     pub count: usize,
@@ -119,7 +121,7 @@ fn is_count(count: u16) -> bool
 }
 
 // Whether a table's count stands at a position, and whether a next may still come behind it.
-#[derive(Drop)]
+#[derive(Clone, Copy)]
 struct TableTest {
     found: bool,
     more: bool,

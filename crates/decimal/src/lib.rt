@@ -1,4 +1,6 @@
 // Numbers in decimal: as characters to write letters or a sign before, and over the front of a lent buffer.
+#![tactic(auto)]
+
 ghost use Rattle.std.specs.Prelude.{◌≡◌, length};
 ghost use Rattle.outcome.specs.Room.{roomLength, roomWritten};
 ghost use Rattle.decimal.specs.Decimal.{digitOf, decimalOf, Spells};
@@ -10,7 +12,7 @@ fn digit(number: u64) -> u8
 }
 
 // The digits end where the array ends, so that letters or a sign can be put before them.
-#[derive(Drop)]
+#[derive(Clone, Copy)]
 pub struct Digits {
     pub characters: [u8; 24],
     pub start: usize,

@@ -4,7 +4,7 @@ ghost use Rattle.std.specs.Prelude.{◌+◌, ◌≤◌, length};
 use libc::STDIN_FILENO;
 
 // How many bytes were read, and whether a read failed.
-#[derive(Drop)]
+#[derive(Clone, Copy)]
 pub(crate) struct Taken {
     pub count: usize,
     pub failed: bool,

@@ -1,4 +1,6 @@
 // Describes a reply: reads it from standard input, and writes its status and a table of its columns, or why it is refused.
+#![tactic(auto)]
+
 mod input;
 mod status;
 mod table;

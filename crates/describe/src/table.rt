@@ -15,7 +15,7 @@ const TABLE: usize = 16;
 const SCHEMA: usize = 19;
 
 // How wide the cells are that hold texts and types. The others are as wide as their heads, the last needs no width.
-#[derive(Drop)]
+#[derive(Clone, Copy)]
 struct Widths {
     name: usize,
     db2_type: usize,

@@ -1,6 +1,8 @@
 // Standard descriptors (SQLDAROW): one at a position of a reply, where their count stands, and runs of them. Only places are read here, no text
 // is decoded.
 // Each of its flags may be missing where the reply ends. A position past the reply's end says that it cannot be read.
+#![tactic(auto)]
+
 ghost use Rattle.std.specs.Prelude.{◌≡◌, true, ◌+◌, ◌≤◌, length};
 ghost use Rattle.codepage.specs.Page.{page037};
 ghost use Rattle.column.specs.Column.{StringsInside};
@@ -29,7 +31,7 @@ pub fn skip_sqludtgrp(reply: &[u8], offset: usize) -> usize
 }
 
 // The names in SQLDXGRP, the extension.
-#[derive(Drop)]
+#[derive(Clone, Copy)]
 pub struct Sqldxgrp {
     pub base_table_name: StringRead,
     pub schema_name: StringRead,
@@ -72,7 +74,7 @@ pub fn read_sqldxgrp(reply: &[u8], offset: usize) -> Sqldxgrp
 }
 
 // The names in SQLDOPTGRP and in its extension.
-#[derive(Drop)]
+#[derive(Clone, Copy)]
 pub struct Sqldoptgrp {
     pub name: StringRead,
     pub label: StringRead,
@@ -128,7 +130,7 @@ fn is_alone(reply: &[u8], string: StringRead, count: usize) -> bool
 }
 
 // SQLLABEL of a SQLDOPTGRP, and what is past SQLCOMMENTS, which is not kept.
-#[derive(Drop)]
+#[derive(Clone, Copy)]
 pub struct Label {
     pub label: StringRead,
     pub next: usize,
@@ -158,7 +160,7 @@ fn read_label(reply: &[u8], offset: usize) -> Label
 }
 
 // SQLNAME besides: the six strings of names.
-#[derive(Drop)]
+#[derive(Clone, Copy)]
 pub struct Names {
     pub name: StringRead,
     pub label: StringRead,
@@ -226,7 +228,7 @@ fn read_sqldoptgrp(reply: &[u8], offset: usize) -> Sqldoptgrp
 }
 
 // What counting a run asks of a descriptor: its name, none where it cannot be read, and what is past it.
-#[derive(Drop)]
+#[derive(Clone, Copy)]
 pub struct Step {
     pub name: StringRead,
     pub next: usize,
@@ -298,7 +300,7 @@ pub fn descriptor_step(reply: &[u8], offset: usize, order: ByteOrder) -> Step
 }
 
 // The numbers of SQLDAGRP; of precision and scale the low 8 bits.
-#[derive(Drop)]
+#[derive(Clone, Copy)]
 pub struct Sqldagrp {
     pub precision: u8,
     pub scale: u8,

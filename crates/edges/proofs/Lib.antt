@@ -1,2 +1,0 @@
-pub mod ColumnMetadataRow
-pub mod Known

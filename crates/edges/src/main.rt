@@ -1,6 +1,8 @@
 // Runs the cases of document 01 that have no letter, and a reply for each of its wrong turns: a line for each. The gate compares this with
 // the file stdout, which has what document 01 says. The replies are in the file stdin, which tests/replies/make makes: for each, what it
 // shows and its bytes, with a byte for the length in front of both.
+#![tactic(auto)]
+
 ghost use Rattle.std.specs.Prelude.{◌≤◌};
 
 use libc::STDIN_FILENO;

@@ -1,8 +1,10 @@
 // Numbers at a position of a reply, in either byte order.
+#![tactic(auto)]
+
 ghost use Rattle.std.specs.Prelude.{◌≡◌, ◌+◌, ◌*◌, ◌<◌, ◌≤◌, length};
 ghost use Rattle.field.specs.Numbers.{number, signed};
 
-#[derive(Drop)]
+#[derive(Clone, Copy)]
 pub enum ByteOrder {
     BigEndian,
     LittleEndian,

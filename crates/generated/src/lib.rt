@@ -1,4 +1,6 @@
 // Generated names: COL and digits, as the reader itself names a column without a name.
+#![tactic(auto)]
+
 ghost use Rattle.std.specs.Prelude.{◌≡◌, ◌+◌, ◌<◌, ◌≤◌};
 ghost use lib.ListN.{length};
 ghost use Rattle.search.specs.Search.{each};

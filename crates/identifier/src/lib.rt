@@ -1,4 +1,6 @@
 // Texts that may be the name of a column: what the name scan takes.
+#![tactic(auto)]
+
 ghost use Rattle.std.specs.Prelude.{◌≡◌, ◌+◌, ◌≤◌, eqb};
 ghost use lib.ListN.{length, drop};
 ghost use Rattle.search.specs.Search.{each};

@@ -1,5 +1,7 @@
 // The entries for programs in other languages: the functions of the static library. Numbers, slices of numbers and structs with C's layout
 // cross the boundary; no function asks anything of its caller.
+#![tactic(auto)]
+
 pub mod description;
 pub mod lists;
 pub mod name_scan;
@@ -14,7 +16,7 @@ use sqlcard::SqlCard;
 
 // Where a call is refused, the card is that for success.
 #[repr(C)]
-#[derive(Drop)]
+#[derive(Clone, Copy)]
 pub struct SqlcardResult {
     pub refusal: Refusal,
     pub card: SqlCard,
@@ -22,7 +24,7 @@ pub struct SqlcardResult {
 
 // The length is how many bytes the group takes, 0 where it is refused.
 #[repr(C)]
-#[derive(Drop)]
+#[derive(Clone, Copy)]
 pub struct GroupResult {
     pub refusal: Refusal,
     pub card: SqlCard,
@@ -31,7 +33,7 @@ pub struct GroupResult {
 
 // How many elements were written, or the sum that is the widest row; 0 where the call is refused.
 #[repr(C)]
-#[derive(Drop)]
+#[derive(Clone, Copy)]
 pub struct CountResult {
     pub refusal: Refusal,
     pub count: usize,
@@ -39,7 +41,7 @@ pub struct CountResult {
 
 // Whether rows are cut alike; no where the call is refused.
 #[repr(C)]
-#[derive(Drop)]
+#[derive(Clone, Copy)]
 pub struct CutResult {
     pub refusal: Refusal,
     pub same: bool,
@@ -47,7 +49,7 @@ pub struct CutResult {
 
 // A part of the reply; 0 and 0 where it has no bytes, and where it is refused.
 #[repr(C)]
-#[derive(Drop)]
+#[derive(Clone, Copy)]
 pub struct PartResult {
     pub refusal: Refusal,
     pub place: usize,

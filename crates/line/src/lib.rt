@@ -1,5 +1,7 @@
 // Text put at the end of a lent line, of which the first `used` bytes are written; each function says how many are written then.
 // What finds no room is cut off, so no caller has to know beforehand that its text fits. A `used` past the line's end is the line's end.
+#![tactic(auto)]
+
 ghost use Rattle.std.specs.Prelude.{◌≡◌, ◌-◌, min};
 ghost use Rattle.decimal.specs.Decimal.{decimalOf};
 ghost use Rattle.line.specs.Line.{Appended, gap};

@@ -1,4 +1,6 @@
 // Lists of columns as words: whether two make the same cut, and how wide a row can be.
+#![tactic(auto)]
+
 ghost use Rattle.std.specs.Prelude.{true, ◌≡◌, ◌/◌, ◌≤◌, length};
 ghost use Rattle.outcome.specs.Refusal.{refusalOf};
 ghost use Rattle.columns.specs.Cut.{sameCut};

@@ -1,4 +1,6 @@
 // Which candidates are names, by either of two rules. Each rule goes through the candidates once, and lists some of them.
+#![tactic(auto)]
+
 ghost use Rattle.std.specs.Prelude.{List, ◌≡◌, ℕ, ◌-◌, length};
 ghost use Rattle.search.specs.Search.{pick};
 ghost use Rattle.candidates.specs.Candidates.{candidates};
@@ -11,14 +13,14 @@ use text::Text;
 
 // Returning: the text returns four candidates later and not between, and the search goes on five later. BeforeFirst: the candidate is unlike
 // the reply's first, and just before a repeat of it; equal neighbours in the list are kept once.
-#[derive(Drop)]
+#[derive(Clone, Copy)]
 pub enum Rule {
     Returning,
     BeforeFirst,
 }
 
 // What a rule has to know behind a candidate: the reply's first, how many are passed over until the search goes on, and the last one listed.
-#[derive(Drop)]
+#[derive(Clone, Copy)]
 pub struct Listing {
     pub first: Text,
     pub skip: usize,
@@ -157,7 +159,7 @@ fn behind_candidate(listing: Listing, text: Text, listed: bool) -> Listing
 }
 
 // Whether the first candidate in view is listed, and what the rule knows behind it.
-#[derive(Drop)]
+#[derive(Clone, Copy)]
 pub struct Step {
     pub listed: bool,
     pub listing: Listing,
@@ -178,7 +180,7 @@ fn list_step(reply: &[u8], rule: Rule, listing: Listing, view: View) -> Step
 }
 
 // How many names each rule lists, and the view of the first candidates, from which they are listed again.
-#[derive(Drop)]
+#[derive(Clone, Copy)]
 pub struct Counts {
     pub view: View,
     pub returning: usize,
@@ -215,7 +217,7 @@ pub fn count_names(reply: &[u8]) -> Counts
 }
 
 // Where a list of names has got to: the last name found, an empty text if none, and what the rule knows behind it.
-#[derive(Drop)]
+#[derive(Clone, Copy)]
 pub struct Cursor {
     pub text: Text,
     pub listing: Listing,

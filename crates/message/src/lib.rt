@@ -1,4 +1,6 @@
 // Messages of a status record: which alphabet they are in, and whether they have a text.
+#![tactic(auto)]
+
 ghost use Rattle.std.specs.Prelude.{not, ◌≡◌, ◌+◌, ◌<◌, ◌≤◌, length};
 ghost use Rattle.search.specs.Search.{count};
 ghost use Rattle.codepage.specs.Page.{page037};
@@ -28,7 +30,7 @@ fn block_end(length: usize, start: usize) -> usize
     start + 128
 }
 
-#[derive(Drop)]
+#[derive(Clone, Copy)]
 struct Counted {
     printables: u8,
     others: u8,
@@ -112,7 +114,7 @@ pub fn has_text(bytes: &[u8]) -> bool
 }
 
 // Where a character stands: behind none yet, right behind another, or behind blanks that follow one.
-#[derive(Drop)]
+#[derive(Clone, Copy)]
 pub enum Behind {
     Nothing,
     Character,

@@ -1,4 +1,6 @@
 // The text of a status record's message, written to a lent buffer.
+#![tactic(auto)]
+
 ghost use Rattle.std.specs.Prelude.{◌≡◌, ◌+◌, ◌<◌, ◌≤◌};
 ghost use lib.ListN.{length};
 ghost use Rattle.std.proofs.lemmas.List.Edits.{sets};
@@ -141,7 +143,7 @@ fn room_needed(bytes: &[u8], ascii: bool, room: usize) -> usize
 }
 
 // The entry message text: its length, which is 0 where it is refused.
-#[derive(Drop)]
+#[derive(Clone, Copy)]
 pub struct MessageText {
     pub outcome: Outcome,
     pub length: usize,

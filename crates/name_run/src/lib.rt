@@ -1,4 +1,6 @@
 // Names by runs of standard layouts of any type: only their strings are asked, so that an unknown SQLTYPE hides no name.
+#![tactic(auto)]
+
 ghost use Rattle.std.specs.Prelude.{◌≡◌, true, false, [], ◌∷◌, ℕ, ◌+◌, ◌≤◌, ◌<◌, length};
 ghost use Rattle.search.specs.Search.{firstIn};
 ghost use Rattle.search.specs.Walks.{keep};
@@ -13,7 +15,7 @@ use strings::StringRead;
 use text::Text;
 
 // The name in a layout, no bytes where it has none, and what is past it.
-#[derive(Drop)]
+#[derive(Clone, Copy)]
 pub struct ScannedName {
     pub name: StringRead,
     pub next: usize,
@@ -84,7 +86,7 @@ pub fn scan_descriptor_name(reply: &[u8], offset: usize) -> ScannedName
 }
 
 // Where a run of layouts with names starts, and how many they are.
-#[derive(Drop)]
+#[derive(Clone, Copy)]
 pub struct NameRun {
     pub start: usize,
     pub count: usize,
@@ -165,7 +167,7 @@ pub fn longest_name_run(reply: &[u8]) -> NameRun
 }
 
 // A name of a run that is read again, for who writes the names down.
-#[derive(Drop)]
+#[derive(Clone, Copy)]
 pub struct RunName {
     pub text: Text,
     pub next: usize,

@@ -1,5 +1,3 @@
-pub mod TextRow
-pub mod Known
 pub mod Choosing
 pub mod Deciding
 pub mod Listed

@@ -1,4 +1,6 @@
 // The name scan: the names of a reply's columns by their strings alone, written into a list that the caller lends.
+#![tactic(auto)]
+
 ghost use Rattle.std.specs.Prelude.{List, ◌++◌, ◌≡◌, ℕ, ◌≤◌, length, take, drop};
 ghost use Rattle.search.specs.Search.{over};
 ghost use Rattle.codepage.specs.Page.{page037};
@@ -15,14 +17,14 @@ use outcome::Outcome;
 use text::Text;
 
 // How many names were written; 0 where the outcome is a refusal.
-#[derive(Drop)]
+#[derive(Clone, Copy)]
 pub struct NamesAnswer {
     pub outcome: Outcome,
     pub count: usize,
 }
 
 // Where the names are: the first `count` that a rule lists from a cursor on, or those of a run.
-#[derive(Drop)]
+#[derive(Clone, Copy)]
 pub struct Plan {
     pub listed: bool,
     pub rule: Rule,
@@ -32,7 +34,7 @@ pub struct Plan {
 }
 
 // What is answered, and the plan of the names to write: none where the answer is a refusal.
-#[derive(Drop)]
+#[derive(Clone, Copy)]
 pub struct Decision {
     pub plan: Plan,
     pub answer: NamesAnswer,

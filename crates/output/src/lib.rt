@@ -1,5 +1,7 @@
 // The output of a program, written as it comes. A buffer would have to be lent to, and its position handed through, every function that
 // prints; that made up more than half of what the prover did for a program. Nothing is stored, so these functions have no contract.
+#![tactic(auto)]
+
 mod type_names;
 mod words;
 

@@ -1,4 +1,6 @@
 // Writes code page 037, a line for each byte. The gate compares this with IBM's published table, which is the file stdout.
+#![tactic(auto)]
+
 use libc::STDOUT_FILENO;
 
 fn write_line(byte: u8) {

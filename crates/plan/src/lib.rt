@@ -1,5 +1,7 @@
 // What is answered to a reply: which reading wins, from where, and how many columns it has; or a refusal. All of it is decided before anything is
 // written.
+#![tactic(auto)]
+
 ghost use Rattle.std.specs.Prelude.{List, ◌≡◌, ℕ, ◌+◌, ◌≤◌, leb, length};
 ghost use Rattle.search.specs.Search.{pick};
 ghost use Rattle.codepage.specs.Page.{page037};
@@ -20,7 +22,7 @@ use scan::Best;
 use sqlcard::SqlCard;
 
 // How many columns were written. Where the outcome is a refusal, it is 0, and the card is that for success.
-#[derive(Drop)]
+#[derive(Clone, Copy)]
 pub struct SqldardAnswer {
     pub outcome: Outcome,
     pub card: SqlCard,
@@ -28,7 +30,7 @@ pub struct SqldardAnswer {
 }
 
 // What is answered, and the plan of the columns to write: none where the answer is a refusal.
-#[derive(Drop)]
+#[derive(Clone, Copy)]
 pub struct Decision {
     pub plan: Plan,
     pub answer: SqldardAnswer,

@@ -1,4 +1,6 @@
 // A plan, made before anything is written, and its columns one by one: what a descriptor says, the numbers that it is written in, and the record.
+#![tactic(auto)]
+
 ghost use Rattle.std.specs.Prelude.{◌++◌, ◌≡◌, true, ◌+◌, ◌-◌, ◌<◌, ◌≤◌, length, drop};
 ghost use Rattle.codepage.specs.Page.{page037};
 ghost use Rattle.column.specs.Column.{StringsInside};
@@ -13,7 +15,7 @@ use outcome::Outcome;
 use types::ColumnMetadata;
 
 // How the descriptors lie.
-#[derive(Drop)]
+#[derive(Clone, Copy)]
 pub enum Layout {
     Standard,
     Compact,
@@ -22,7 +24,7 @@ pub enum Layout {
 
 // The descriptors start at `start`; at most `limit` are read, `count` of them can be, and `named` of those have names that are not
 // generated. `alone`: the status is read alone on the whole reply.
-#[derive(Drop)]
+#[derive(Clone, Copy)]
 pub struct Plan {
     pub layout: Layout,
     pub order: ByteOrder,
@@ -78,7 +80,7 @@ pub fn column_numbers(
 }
 
 // A column, and where the next descriptor starts.
-#[derive(Drop)]
+#[derive(Clone, Copy)]
 pub struct ColumnRead {
     pub column: ColumnMetadata,
     pub next: usize,

@@ -1,4 +1,6 @@
 // The scan for runs of standard descriptors: from each start of the reply, all in big-endian order, then all in little-endian.
+#![tactic(auto)]
+
 ghost use Rattle.std.specs.Prelude.{◌≡◌, ◌+◌, ◌≤◌, length};
 ghost use Rattle.search.specs.Walks.{keep};
 ghost use Rattle.codepage.specs.Page.{page037};
@@ -8,7 +10,7 @@ ghost use Rattle.scan.specs.Scan.{score, better, run_from, scanOrder, scanBest, 
 use field::ByteOrder;
 
 // A run: where it starts, its byte order, how many columns it has and how many of them have names that are not generated.
-#[derive(Drop)]
+#[derive(Clone, Copy)]
 pub struct Best {
     pub start: usize,
     pub order: ByteOrder,

@@ -1,1 +1,2 @@
 // The words that readers' definitions are made of, and their laws: see specs/ and proofs/. No code.
+#![tactic(auto)]

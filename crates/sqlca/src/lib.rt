@@ -1,4 +1,6 @@
 // The fields of a SQLCA: SQLCODE and its byte order, state and proc, numbers and warnings, the message.
+#![tactic(auto)]
+
 ghost use Rattle.std.specs.Prelude.{◌≡◌, ◌+◌, ◌≤◌, length};
 ghost use Rattle.search.specs.Search.{each};
 ghost use Rattle.codepage.specs.Page.{page037};
@@ -95,7 +97,7 @@ pub fn is_extended(reply: &[u8]) -> bool
 }
 
 // The numbers, rows updated and warnings of an extension; all 0 where it counts as absent.
-#[derive(Drop)]
+#[derive(Clone, Copy)]
 pub struct Extension {
     pub sqlerrd: [i32; 6],
     pub rows_updated: u32,

@@ -1,4 +1,6 @@
 // The status record of a reply, read alone or as the group at the reply's start.
+#![tactic(auto)]
+
 ghost use Rattle.std.specs.Prelude.{◌≡◌, ◌+◌, ◌≤◌, ◌<◌, length};
 ghost use Rattle.codepage.specs.Page.{page037};
 ghost use Rattle.outcome.specs.Refusal.{refusalOf};
@@ -12,7 +14,7 @@ use strings::StringRead;
 
 // A message is its raw string's place and length in the reply, 0 and 0 where there is none.
 #[repr(C)]
-#[derive(Drop)]
+#[derive(Clone, Copy)]
 pub struct SqlCard {
     pub is_null: bool,
     pub sqlcode: i32,
@@ -116,7 +118,7 @@ fn group_message(reply: &[u8]) -> StringRead
 }
 
 // The card is that for success where the outcome is a refusal.
-#[derive(Drop)]
+#[derive(Clone, Copy)]
 pub struct SqlcardAnswer {
     pub outcome: Outcome,
     pub card: SqlCard,
@@ -157,7 +159,7 @@ pub fn parse_sqlcard_data(reply: &[u8]) -> SqlcardAnswer
 }
 
 // The length is how many bytes the group takes. Where the outcome is a refusal, it is 0, and the card is that for success.
-#[derive(Drop)]
+#[derive(Clone, Copy)]
 pub struct GroupAnswer {
     pub outcome: Outcome,
     pub card: SqlCard,

@@ -1,4 +1,6 @@
 // What SQLTYPE and its length, precision, scale and CCSID say of a column: its type, length and code. A type as code and value, and back.
+#![tactic(auto)]
+
 ghost use Rattle.std.specs.Prelude.{◌≡◌};
 ghost use Rattle.sqlda.specs.Types.{isKnown, searchedBase, rowFor, cap_of, type_of, length_of, code_of, sqldaType};
 ghost use Rattle.sqlda.specs.Codes.{value_of, typeWith, is_type};
@@ -6,7 +8,7 @@ ghost use Rattle.sqlda.specs.Codes.{value_of, typeWith, is_type};
 use types::{ColumnMetadata, Db2Type, Kind, TypeRow};
 
 // What SQLTYPE and its length, precision, scale and CCSID say of a column.
-#[derive(Drop)]
+#[derive(Clone, Copy)]
 pub struct SqldaType {
     pub db2_type: Db2Type,
     pub drda_type: u8,

@@ -1,3 +1,1 @@
-pub mod ColumnMetadataRow
 pub mod Exchange
-pub mod Known

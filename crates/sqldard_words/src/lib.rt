@@ -1,4 +1,6 @@
 // The description entries for programs that cannot lend a list of records: each column in 22 words of 64 bits.
+#![tactic(auto)]
+
 ghost use Rattle.std.specs.Prelude.{◌≡◌, ◌≤◌, ◌*◌, ◌/◌, length};
 ghost use Rattle.search.specs.Search.{over};
 ghost use Rattle.codepage.specs.Page.{page037};
@@ -14,7 +16,7 @@ use sqlcard::SqlCard;
 
 // How many columns were written, 22 words each. Where the refusal's number is not 0, it is 0, and the card is that for success.
 #[repr(C)]
-#[derive(Drop)]
+#[derive(Clone, Copy)]
 pub struct SqldardResult {
     pub refusal: Refusal,
     pub card: SqlCard,

@@ -1,12 +1,14 @@
 // Strings at a position of a reply. They have a 16-bit big-endian length, whatever the byte order of numbers.
 // A position past the reply's end says that the reply ended early, and stays as it is: it is how many bytes were expected.
+#![tactic(auto)]
+
 ghost use Rattle.std.specs.Prelude.{◌≡◌};
 ghost use Rattle.strings.specs.Strings.{noString, stringAt, stringsEnd, chosen, pair_at};
 
 use field::ByteOrder;
 
 // A string's bytes lie at `place`, `length` of them, and `next` is past it. Where the reply ended early, place and length are 0.
-#[derive(Drop)]
+#[derive(Clone, Copy)]
 pub struct StringRead {
     pub place: usize,
     pub length: usize,
@@ -14,7 +16,7 @@ pub struct StringRead {
 }
 
 // A walker holds a reply and a position in it. The functions over it are thin: each takes it apart and calls one on the slice and the number.
-#[derive(Drop)]
+#[derive(Clone, Copy)]
 pub struct Walker<'a> {
     pub reply: &'a [u8],
     pub offset: usize,

@@ -1,4 +1,6 @@
 // Texts of a reply: where they lie, and in which alphabet.
+#![tactic(auto)]
+
 ghost use Rattle.std.specs.Prelude.{◌&&◌, ◌≡◌, ◌+◌, ◌/◌, ◌%◌, ◌^◌, ◌<◌, ◌≤◌, ltb, eqb};
 ghost use lib.ListN.{length};
 ghost use Rattle.search.specs.Search.{each};
@@ -7,7 +9,7 @@ ghost use Rattle.text.specs.Chars.{isAscii, isNameChar, isNameOf, isBlankOf};
 ghost use Rattle.text.specs.Text.{leading, kept, text_of};
 
 // Place and length of what trimming leaves; alphabet 0 is a generated name, 1 ASCII, 2 page 037. An empty text is 0, 0, 1.
-#[derive(Drop)]
+#[derive(Clone, Copy)]
 pub struct Text {
     pub place: usize,
     pub length: usize,

@@ -1,4 +1,6 @@
 // Columns and their types, and the table of SQLTYPE's base types.
+#![tactic(auto)]
+
 mod table;
 
 ghost use Rattle.std.specs.Prelude.{◌≡◌};
@@ -8,7 +10,7 @@ use field::ByteOrder;
 use table::TYPES;
 use text::Text;
 
-#[derive(Drop)]
+#[derive(Clone, Copy)]
 pub enum Db2Type {
     SmallInt,
     Integer,
@@ -35,7 +37,7 @@ pub enum Db2Type {
 }
 
 // A column of the reply; number counts from 0.
-#[derive(Drop)]
+#[derive(Clone, Copy)]
 pub struct ColumnMetadata {
     pub number: u16,
     pub db2_type: Db2Type,
@@ -100,7 +102,7 @@ impl ColumnMetadata {
 }
 
 // Which Db2Type a row of the table stands for, without its data.
-#[derive(Drop)]
+#[derive(Clone, Copy)]
 pub enum Kind {
     SmallInt,
     Integer,
@@ -127,7 +129,7 @@ pub enum Kind {
 }
 
 // Base 0 says that the type is not known.
-#[derive(Drop)]
+#[derive(Clone, Copy)]
 pub struct TypeRow {
     pub base: u16,
     pub kind: Kind,

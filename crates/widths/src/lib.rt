@@ -1,4 +1,6 @@
 // The bytes that a column can take in a row.
+#![tactic(auto)]
+
 ghost use Rattle.std.specs.Prelude.{◌≡◌, ◌≤◌};
 ghost use Rattle.search.specs.Search.{pick};
 ghost use Rattle.widths.specs.Width.{isLarge, isVarying, isGraphic, valueWidth, columnWidth};

@@ -1,2 +1,0 @@
--- Made by tools/lists.py: do not edit.
-pub mod sqldard

@@ -1,3 +1,0 @@
--- Made by tools/lists.py: do not edit.
-pub mod Kinds
-pub mod Reads

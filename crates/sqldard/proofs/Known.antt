@@ -1,4 +1,0 @@
--- Made by tools/lists.py: do not edit.
-pub mod fill_columns
-pub mod parse_sqldard
-pub mod parse_sqldard_data
