@@ -45,5 +45,7 @@ pub fn write_decimal(number: u64, buffer: &mut [u8]) -> usize
     if buffer.len() < 24 - start {
         return 0;
     }
-    bytes::copy(&characters[start..], buffer)
+    let count = 24 - start;
+    buffer[0..count].copy_from_slice(&characters[start..24]);
+    count
 }

@@ -24,8 +24,9 @@ pub fn append(line: &mut [u8], used: usize, bytes: &[u8]) -> usize
 {
     let start = least(used, line.len());
     let count = least(bytes.len(), line.len() - start);
-    bytes::copy(&bytes[0..count], &mut line[start..]);
-    start + count
+    let end = start + count;
+    line[start..end].copy_from_slice(&bytes[0..count]);
+    end
 }
 
 pub fn append_decimal(line: &mut [u8], used: usize, number: u64) -> usize
