@@ -1,0 +1,10 @@
+-- The characters stop where those from i on do.
+use Rattle.std.proofs.Common.{◌≡◌, ◌≤◌, ◌-◌}
+use Rattle.compact.specs.Compact.{stop_at}
+use Rattle.compact.proofs.skip_name_chars.Given as goal
+
+abbrev pub invariant-loop-i : goal.invariant-loop-i
+invariant-loop-i l = record { in_range : l.i ≤ l.end; same : stop_at l.reply l.offset l.end ≡ stop_at l.reply l.i l.end }
+
+abbrev pub decreases-loop-i : goal.decreases-loop-i
+decreases-loop-i l = l.end - l.i
