@@ -131,8 +131,8 @@ struct TableTest {
 fn table_here(reply: &[u8], offset: usize, more: bool) -> TableTest
     requires offset_in_bounds { offset + 18 ≤ length reply.now }
     requires ended { Ended reply.now (offset + 2) more }
-    ensures found_value { result.found ≡ tableHere reply.now offset }
-    ensures ended_2 { Ended reply.now (offset + 2) result.more }
+    ensures finds { result.found ≡ tableHere reply.now offset }
+    ensures ends { Ended reply.now (offset + 2) result.more }
 {
     let count = field::u16_at(reply, offset, ByteOrder::LittleEndian);
     if !is_count(count) {
