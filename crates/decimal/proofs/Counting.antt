@@ -7,7 +7,6 @@ use native.Mathlib.Omega.{arith}
 use lib.ListN.{length, get_or, take, drop, set, length-set, length-drop, drop_of_length-le}
 use lib.Seq.{drop-cons, drop-set-lt, get_or-set_same, take_all}
 use borrow.Author.Tests.{lt-ltb, le-ltb}
-use Rattle.search.proofs.Over.{over-copied}
 use Rattle.outcome.specs.Room.{roomLength, roomWritten}
 use Rattle.outcome.proofs.Room.{no_room, has_room}
 use Rattle.decimal.specs.Decimal.{digitOf, digitsOf, decimalOf, Spells}
@@ -102,10 +101,9 @@ module _ {n : ℕ} {cs : List ℕ} {start : ℕ} (s : Spells n cs start) where
         let a = no_room (decimalOf n) buffer (omega (arith, digits-length)) in
         (sym a.gives, sym a.leaves)
 
-    -- what `bytes::copy` gives and leaves
-    pub write-all : 24 - start ≤ length buffer → {r : ℕ} → r ≡ length (lent cs start) → {b : List ℕ}
-        → b ≡ take (length (lent cs start)) (lent cs start) ++ drop (length (lent cs start)) buffer
-        → (r ≡ roomLength (decimalOf n) (length buffer)) × (b ≡ roomWritten (decimalOf n) buffer)
-    write-all h e f =
+    -- what is lent is copied over the front: m stands there
+    pub write-all : 24 - start ≤ length buffer → {m : List ℕ} → m ≡ lent cs start
+        → (24 - start ≡ roomLength (decimalOf n) (length buffer)) × (m ++ drop (24 - start) buffer ≡ roomWritten (decimalOf n) buffer)
+    write-all h e =
         let a = has_room (decimalOf n) buffer (omega (arith, digits-length)) in
-        (e ∙ ap length lent-digits ∙ sym a.gives, f ∙ over-copied (lent cs start) buffer ∙ rw lent-digits (sym a.leaves))
+        (sym digits-length ∙ sym a.gives, rw (e, lent-digits, ← digits-length) (sym a.leaves))

@@ -3,18 +3,16 @@
 -- `append_padded`. Of what its calls ensure, a and e the text and the gap of one cell, b and d those of the next, it says
 --     appended-twice (appended-cell a 6 e) (appended-cell b 5 d) : Appended before used (padded 6 x ++ padded 5 y) after r
 -- and so on, right or left, for more. From 0 on `.holds` of that is: take r after ≡ take (length before) (padded 6 x ++ padded 5 y).
--- In `returns c` the last call is at c.before.before, and each call before it four `.before` further.
 use mathlib.Core.Bool.{Bool, true, false}
 use mathlib.Core.Path.{◌≡◌, refl, sym, ap, ◌∙◌}
 use mathlib.Core.List.{List, [], ◌∷◌, ◌++◌, append_assoc, append-nil}
 use Prim.Native.Nat.{ℕ, zero, suc, ◌+◌, ◌-◌, ◌≤◌, min}
 use native.Mathlib.Omega.{arith}
 use lib.Dec.{leb}
-use lib.ListN.{length, take, drop, length-append, length-take, length-drop, replicate-append-replicate}
+use lib.ListN.{length, take, length-append, length-take, replicate-append-replicate}
 use lib.Seq.{take-nil, take-append-le, take-append-add, take_at, take_all, length-take-le}
 use borrow.Author.Tests.{leb-true, leb-false}
-use borrow.Rule.Slice.PartMut.{put_mid, same_len_mid}
-use Rattle.search.proofs.Over.{over-copied}
+use borrow.Rule.Slice.PartMut.{post_of, put_mid, same_len_mid, mid_len}
 use Rattle.line.specs.Line.{Appended, blanks, gap, padded}
 
 -- ---- the copy
@@ -28,32 +26,20 @@ take-least (suc m) zero (x ∷ l) e = absurd (omega arith)
 take-least (suc m) (suc n) (x ∷ l) e = ap (λ (k : List ℕ). x ∷ k) (take-least m n l (omega arith))
 
 module _ (b : List ℕ) (u : ℕ) (t : List ℕ) (s n : ℕ) (e : s ≡ min u (length b)) (f : n ≡ min (length t) (length b - s)) where
-  -- the line's end is lent from s on, and n bytes of t are copied to its front: m is what `bytes::copy` leaves
-  abbrev part : List ℕ
-  part = take (length b - s) (drop s b)
-
-  part_length : length part ≡ length b - s
-  part_length = length-take-le (length b - s) (drop s b) (omega (arith, length-drop s b))
-
   from-length : length (take n t) ≡ n
   from-length = length-take-le n t (omega arith)
 
-  pub copy-fits : length (take n t) ≤ length part
-  copy-fits = omega (arith, part_length, from-length)
-
-  pub appended-copied : (m : List ℕ) → m ≡ take (length (take n t)) (take n t) ++ drop (length (take n t)) part
-      → Appended b u t (put_mid s (length b - s) b m) (s + n)
+  -- a part of the line, n bytes from s on, takes n bytes of t: m stands there
+  pub appended-copied : (m : List ℕ) → m ≡ take n t → Appended b u t (put_mid s (s + n - s) b m) (s + n)
   appended-copied m g =
       let front : List ℕ = take s b ++ take n t in
-      let back : List ℕ = drop n part ++ drop (length b - s) (drop s b) in
+      let back : List ℕ = post_of s (s + n - s) b in
       let k : length (take s b) ≡ s = length-take-le s b (omega arith) in
       let l : length front ≡ s + n = omega (arith, length-append (take s b) (take n t), from-length) in
-      let h : m ≡ take n t ++ drop n part = g ∙ over-copied (take n t) part ∙ rw from-length refl in
-      let w : put_mid s (length b - s) b m ≡ front ++ back = rw h (simp append_assoc) in
+      let w : put_mid s (s + n - s) b m ≡ front ++ back = rw g (sym (append_assoc (take s b) (take n t) back)) in
       let d : length b ≡ length (take s b) + (length b - s) = omega arith in
-      let j : length m ≡ length part =
-      ap length h ∙ omega (arith, length-append (take n t) (drop n part), length-drop n part, from-length, copy-fits) in
-      let i : length (put_mid s (length b - s) b m) ≡ length b = same_len_mid s (length b - s) b m j in
+      let i : length (put_mid s (s + n - s) b m) ≡ length b =
+      same_len_mid s (s + n - s) b m (omega (arith, ap length g, from-length, mid_len s (s + n) b (omega arith))) in
       record {
         holds = ap (take (s + n)) w
             ∙ take_at front back (s + n) l
