@@ -1,5 +1,5 @@
 -- The loop begins with all rows, of which the definition takes the first that fits.
-use Rattle.std.proofs.Common.{refl, arith}
+use Rattle.std.proofs.Common.{arith}
 use Rattle.types.specs.Rows.{lookup}
 use Rattle.types.proofs.find_type.Goals as goal
 
