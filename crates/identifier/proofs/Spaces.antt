@@ -7,7 +7,7 @@ use mathlib.Core.Bool.{Bool, true, false, not, ◌&&◌, true≢false}
 use lib.ListN.{length, take, drop, take-append-drop, length-drop}
 use lib.Seq.{take_all, drop-drop}
 use lib.Dec.{eqb}
-use borrow.Author.Tests.{eqb-true, eq-eqb, ne_eqb}
+use borrow.Author.Tests.{eqb-true, ne_eqb}
 use Rattle.search.specs.Search.{pick, each, count}
 use Rattle.codepage.specs.Page.{Page}
 use Rattle.codepage.specs.Blank.{isBlank}
