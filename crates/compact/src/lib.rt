@@ -103,8 +103,8 @@ struct NameTest {
 fn name_here(reply: &[u8], end: usize, offset: usize, stop: usize) -> NameTest
     requires offset_lt_end { (offset < end) × (end ≤ lib.ListN.length reply.now) }
     requires stops { Stops reply.now end offset stop }
-    ensures found_value { result.found ≡ nameHere reply.now end offset }
-    ensures stops_2 { Stops reply.now end (offset + 1) result.stop }
+    ensures finds { result.found ≡ nameHere reply.now end offset }
+    ensures ends { Stops reply.now end (offset + 1) result.stop }
 {
     let length = reply[offset] as usize;
     if (1 <= length) & (length <= 64) {
