@@ -28,8 +28,8 @@ fn same_bytes(a: &[u8], b: &[u8]) -> bool
 
 // Whether two texts of ASCII are equal.
 pub fn same_text(reply: &[u8], a: Text, b: Text) -> bool
-    requires inside { Inside reply.now a }
-    requires inside_2 { Inside reply.now b }
+    requires a_inside { Inside reply.now a }
+    requires b_inside { Inside reply.now b }
     ensures { result ≡ sameText reply.now a b }
 {
     let first = a.place;
@@ -77,8 +77,8 @@ fn candidate_at(reply: &[u8], offset: usize) -> Text
 
 // Whether a candidate repeats the last one kept, less than 8 bytes on.
 fn is_near_repeat(reply: &[u8], last: Text, text: Text) -> bool
-    requires inside { Inside reply.now last }
-    requires inside_2 { Inside reply.now text }
+    requires last_inside { Inside reply.now last }
+    requires text_inside { Inside reply.now text }
     ensures { result ≡ isNearRepeat reply.now last text }
 {
     if last.place + 8 <= text.place {
@@ -89,8 +89,8 @@ fn is_near_repeat(reply: &[u8], last: Text, text: Text) -> bool
 
 // Whether there is a candidate, and it is kept.
 fn is_kept(reply: &[u8], last: Text, text: Text) -> bool
-    requires inside { Inside reply.now last }
-    requires inside_2 { Inside reply.now text }
+    requires last_inside { Inside reply.now last }
+    requires text_inside { Inside reply.now text }
     ensures { result ≡ not (eqb text.length 0) && not (isNearRepeat reply.now last text) }
 {
     if text.length == 0 {
@@ -129,7 +129,7 @@ pub struct Candidate {
 }
 
 fn next_candidate(reply: &[u8], last: Text, from: usize) -> Candidate
-    requires inside { Inside reply.now last }
+    requires last_inside { Inside reply.now last }
     requires from_in_bounds { from ≤ length reply.now }
     ensures { (result ≡ nextCandidate reply.now last from)
         × ((Inside reply.now result.text) × (result.next ≤ length reply.now)) }
