@@ -1,6 +1,5 @@
 -- A law for each way out: no room, a type that is not known, strings that the reply ends in, and read.
 use Rattle.std.proofs.Common.{arith}
-use borrow.Author.Tests.{not-true, not-false}
 use Rattle.descriptor.proofs.Steps.{step-short, step-unknown, step_cut, step-read}
 use Rattle.descriptor.proofs.descriptor_step.Goals as goal
 
@@ -10,14 +9,14 @@ returns-then-end-offset-lt16 c = step-short _ _ _ _ c.no_step.ensures (omega (ar
 pub returns-then-not-is_known_sql_type : goal.returns-then-not-is_known_sql_type
 returns-then-not-is_known_sql_type c =
     step-unknown _ _ _ (omega (arith, c.if-end-offset-lt16.false)) _ c.u16_at.ensures _ c.is_known_sql_type.ensures
-    _ (not-true _ c.if-not-is_known_sql_type.true) c.no_step-then-not-is_known_sql_type.ensures
+    _ c.if-not-is_known_sql_type.true c.no_step-then-not-is_known_sql_type.ensures
 
 pub returns-then-end-step : goal.returns-then-end-step
 returns-then-end-step c =
     step_cut _ _ _ (omega (arith, c.if-end-offset-lt16.false)) _ c.u16_at.ensures _ c.is_known_sql_type.ensures
-    (not-false _ c.if-not-is_known_sql_type.false) _ c.sqldoptgrp_step-step.ensures _ c.no_step-then-end-step.ensures c.if-end-step.true
+    c.if-not-is_known_sql_type.false _ c.sqldoptgrp_step-step.ensures _ c.no_step-then-end-step.ensures c.if-end-step.true
 
 pub returns : goal.returns
 returns c =
     step-read _ _ _ (omega (arith, c.if-end-offset-lt16.false)) _ c.u16_at.ensures _ c.is_known_sql_type.ensures
-    (not-false _ c.if-not-is_known_sql_type.false) _ c.sqldoptgrp_step-step.ensures c.if-end-step.false
+    c.if-not-is_known_sql_type.false _ c.sqldoptgrp_step-step.ensures c.if-end-step.false

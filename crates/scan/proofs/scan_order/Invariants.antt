@@ -9,7 +9,7 @@ abbrev pub invariant-loop-start : goal.invariant-loop-start
 invariant-loop-start l = record {
   within : l.start ≤ l.end;
   in_hand : InHand l.best;
-  best_of_all : scanOrder page037 l.order l.reply l.from ≡ best better (run_from page037 l.order l.reply) l.start l.end l.best;
+  best_of_all : scanOrder page037 l.order l.reply l.fn.from ≡ best better (run_from page037 l.order l.reply) l.start l.end l.best;
 }
 
 abbrev pub decreases-loop-start : goal.decreases-loop-start

@@ -1,0 +1,15 @@
+-- Little-endian starts after the big-endian ones.
+use Rattle.std.proofs.Common.{refl, ap, ◌∙◌, arith}
+use Rattle.codepage.specs.Page.{page037}
+use Rattle.field.specs.declared.ByteOrder.TheVariants.{LittleEndian}
+use Rattle.scan.specs.Scan.{score, scanOrder, scanBest}
+use Rattle.scan.proofs.scan_standard_sqldagroups.Goals as goal
+
+pub scan_order-best-requires : goal.scan_order-best-requires
+unfolding score
+scan_order-best-requires c = record { few = record { named = omega arith; count = omega arith }; score = refl }
+
+pub returns : goal.returns
+unfolding scanBest
+returns c =
+    (c.scan_order.ensures.0 ∙ ap (scanOrder page037 LittleEndian _) c.scan_order-best.ensures.0, c.scan_order.ensures.1.few)
