@@ -1,4 +1,6 @@
 // The entries that list columns: D, L, P and d.
+use std::io;
+use std::io::Write;
 use crate::{cards, column_list, lent, puts};
 use field::ByteOrder;
 use sqldard_words::SqldardResult;
@@ -14,63 +16,58 @@ fn described(entry: u8, code_point: u16, reply: &[u8], words: &mut [u64]) -> Sql
 }
 
 // `OK n=COUNT`, then the status and the columns, or the places of their texts; or the refusal.
-fn put_described(entry: u8, reply: &[u8], answer: SqldardResult, words: &[u64], room: &mut [u8]) {
+fn put_described(out: &mut impl Write, entry: u8, reply: &[u8], answer: SqldardResult, words: &[u64], room: &mut [u8]) -> io::Result<()> {
     let refusal = answer.refusal;
     let card = answer.card;
     let count = answer.count;
-    puts::put_count(refusal, count, column_list::are_kept(words, count));
+    puts::put_count(out, refusal, count, column_list::are_kept(words, count))?;
     if refusal.number != 0 {
-        return;
+        return Ok(());
     }
     if entry == b'd' {
-        column_list::put_all_places(words, count);
-        return;
+        return column_list::put_all_places(out, words, count);
     }
-    cards::put_status(reply, card, room);
-    column_list::put_columns(reply, words, count, room);
+    cards::put_status(out, reply, card, room)?;
+    column_list::put_columns(out, reply, words, count, room)
 }
 
 // A description for which all of `words` is lent.
-fn put_lent(entry: u8, code_point: u16, reply: &[u8], room: &mut [u8], words: &mut [u64]) {
+fn put_lent(out: &mut impl Write, entry: u8, code_point: u16, reply: &[u8], room: &mut [u8], words: &mut [u64]) -> io::Result<()> {
     lent::mark_words(words);
     let answer = described(entry, code_point, reply, words);
-    put_described(entry, reply, answer, words, room);
+    put_described(out, entry, reply, answer, words, room)
 }
 
 // One for which as many records are lent.
-fn put_list(
-    entry: u8,
+fn put_list(out: &mut impl Write, entry: u8,
     code_point: u16,
     reply: &[u8],
     records: u16,
     room: &mut [u8],
-    words: &mut [u64],
-) -> bool {
+    words: &mut [u64],) -> io::Result<bool> {
     let end = 22 * records as usize;
     if RECORDS < records {
-        return puts::put_bad();
+        return puts::put_bad(out);
     }
     if words.len() < end {
-        return puts::put_bad();
+        return puts::put_bad(out);
     }
-    put_lent(entry, code_point, reply, room, &mut words[0..end]);
-    true
+    put_lent(out, entry, code_point, reply, room, &mut words[0..end])?;
+    Ok(true)
 }
 
 // D and d: the reply. L: how many records are lent, and the reply. P: the code point, and the reply.
-pub(crate) fn put_description(
-    entry: u8,
+pub(crate) fn put_description(out: &mut impl Write, entry: u8,
     payload: &[u8],
     room: &mut [u8],
-    words: &mut [u64],
-) -> bool {
+    words: &mut [u64],) -> io::Result<bool> {
     if (entry == b'D') | (entry == b'd') {
-        return put_list(entry, 0, payload, RECORDS, room, words);
+        return put_list(out, entry, 0, payload, RECORDS, room, words);
     }
     if payload.len() < 2 {
-        return puts::put_bad();
+        return puts::put_bad(out);
     }
     let number = field::u16_at(payload, 0, ByteOrder::BigEndian);
     let records = if entry == b'L' { number } else { RECORDS };
-    put_list(entry, number, &payload[2..], records, room, words)
+    put_list(out, entry, number, &payload[2..], records, room, words)
 }

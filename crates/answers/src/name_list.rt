@@ -1,4 +1,6 @@
 // The entries that scan for names: N and n.
+use std::io;
+use std::io::Write;
 use crate::{lent, puts};
 use text::Text;
 
@@ -22,38 +24,38 @@ fn are_kept(words: &[u64], count: usize) -> bool {
 }
 
 // A name as its characters, or as its place.
-fn put_name(entry: u8, reply: &[u8], name: Text, room: &mut [u8]) {
+fn put_name(out: &mut impl Write, entry: u8, reply: &[u8], name: Text, room: &mut [u8]) -> io::Result<()> {
     if entry == b'n' {
-        puts::put_text_place(name);
-        return;
+        return puts::put_text_place(out, name);
     }
-    puts::put_text(reply, name, 0, room);
+    puts::put_text(out, reply, name, 0, room)
 }
 
-fn put_all(entry: u8, reply: &[u8], words: &[u64], count: usize, room: &mut [u8]) {
+fn put_all(out: &mut impl Write, entry: u8, reply: &[u8], words: &[u64], count: usize, room: &mut [u8]) -> io::Result<()> {
     let mut i = 0;
     while i < count {
-        put_name(entry, reply, name_in(words, i), room);
+        put_name(out, entry, reply, name_in(words, i), room)?;
         i += 1;
     }
+    Ok(())
 }
 
 // A name scan for which all of `words` is lent.
-fn put_lent(entry: u8, reply: &[u8], room: &mut [u8], words: &mut [u64]) {
+fn put_lent(out: &mut impl Write, entry: u8, reply: &[u8], room: &mut [u8], words: &mut [u64]) -> io::Result<()> {
     lent::mark_words(words);
     let answer = jigshard::name_scan::jigshard_scan_column_names(reply, words);
     let refusal = answer.refusal;
     let count = answer.count;
-    puts::put_count(refusal, count, are_kept(words, count));
-    put_all(entry, reply, words, count, room);
+    puts::put_count(out, refusal, count, are_kept(words, count))?;
+    put_all(out, entry, reply, words, count, room)
 }
 
 // N: the names. n: where they stand in the reply.
-pub(crate) fn put_names(entry: u8, reply: &[u8], room: &mut [u8], words: &mut [u64]) -> bool {
+pub(crate) fn put_names(out: &mut impl Write, entry: u8, reply: &[u8], room: &mut [u8], words: &mut [u64]) -> io::Result<bool> {
     let end = WORDS as usize;
     if words.len() < end {
-        return puts::put_bad();
+        return puts::put_bad(out);
     }
-    put_lent(entry, reply, room, &mut words[0..end]);
-    true
+    put_lent(out, entry, reply, room, &mut words[0..end])?;
+    Ok(true)
 }

@@ -1,35 +1,38 @@
 // What lines are made of.
+use std::io;
+use std::io::Write;
 use outcome::Refusal;
 use text::Text;
 
 // The line for a malformed case, which is the last one: hence false.
-pub(crate) fn put_bad() -> bool {
-    output::put_bytes(b"BAD\n");
-    false
+pub(crate) fn put_bad(out: &mut impl Write) -> io::Result<bool> {
+    output::put_bytes(out, b"BAD\n")?;
+    Ok(false)
 }
 
 // Six values, each after a blank.
-pub(crate) fn put_values(values: &[u64; 6]) {
+pub(crate) fn put_values(out: &mut impl Write, values: &[u64; 6]) -> io::Result<()> {
     let mut i = 0;
     while i < 6 {
-        output::put_value(values[i]);
+        output::put_value(out, values[i])?;
         i += 1;
     }
+    Ok(())
 }
 
 // `place/length` of bytes in a reply.
-pub(crate) fn put_place(place: usize, count: usize) {
-    output::put_number(place as u64);
-    output::put_byte(b'/');
-    output::put_number(count as u64);
+pub(crate) fn put_place(out: &mut impl Write, place: usize, count: usize) -> io::Result<()> {
+    output::put_number(out, place as u64)?;
+    output::put_byte(out, b'/')?;
+    output::put_number(out, count as u64)
 }
 
 // ` place/length/alphabet`.
-pub(crate) fn put_text_place(text: Text) {
-    output::put_byte(b' ');
-    put_place(text.place, text.length);
-    output::put_byte(b'/');
-    output::put_number(text.alphabet as u64);
+pub(crate) fn put_text_place(out: &mut impl Write, text: Text) -> io::Result<()> {
+    output::put_byte(out, b' ')?;
+    put_place(out, text.place, text.length)?;
+    output::put_byte(out, b'/')?;
+    output::put_number(out, text.alphabet as u64)
 }
 
 fn hex_digit(value: u8) -> u8 {
@@ -38,7 +41,7 @@ fn hex_digit(value: u8) -> u8 {
 }
 
 // The digits of the first 32 bytes, written at once.
-fn put_hex_piece(bytes: &[u8]) {
+fn put_hex_piece(out: &mut impl Write, bytes: &[u8]) -> io::Result<()> {
     let mut digits = [0u8; 64];
     let mut i = 0;
     while i < 32 && i < bytes.len() {
@@ -47,30 +50,28 @@ fn put_hex_piece(bytes: &[u8]) {
         digits[2 * i + 1] = hex_digit(byte);
         i += 1;
     }
-    output::put_bytes(&digits[0..2 * i]);
+    output::put_bytes(out, &digits[0..2 * i])
 }
 
 // Two lower-case digits for each byte, `-` where there is none.
-pub(crate) fn put_hex(bytes: &[u8]) {
+pub(crate) fn put_hex(out: &mut impl Write, bytes: &[u8]) -> io::Result<()> {
     if bytes.len() == 0 {
-        output::put_byte(b'-');
-        return;
+        return output::put_byte(out, b'-');
     }
     let mut at = 0;
     while 32 < bytes.len() - at {
-        put_hex_piece(&bytes[at..]);
+        put_hex_piece(out, &bytes[at..])?;
         at += 32;
     }
-    put_hex_piece(&bytes[at..]);
+    put_hex_piece(out, &bytes[at..])
 }
 
 // The first `count` bytes so, `?` where there are not so many.
-pub(crate) fn put_hex_first(bytes: &[u8], count: usize) {
+pub(crate) fn put_hex_first(out: &mut impl Write, bytes: &[u8], count: usize) -> io::Result<()> {
     if bytes.len() < count {
-        output::put_byte(b'?');
-        return;
+        return output::put_byte(out, b'?');
     }
-    put_hex(&bytes[0..count]);
+    put_hex(out, &bytes[0..count])
 }
 
 // Writes a text's characters to `room`: their number, or more than there is room for where the text is not in the reply.
@@ -93,22 +94,20 @@ fn write_text(reply: &[u8], text: Text, number: u16, room: &mut [u8]) -> usize {
 
 // A blank and a text's characters in hex, `?` where it is not in the reply. `number` is
 // its column's, for a generated name; `room` is for the text.
-pub(crate) fn put_text(reply: &[u8], text: Text, number: u16, room: &mut [u8]) {
-    output::put_byte(b' ');
+pub(crate) fn put_text(out: &mut impl Write, reply: &[u8], text: Text, number: u16, room: &mut [u8]) -> io::Result<()> {
+    output::put_byte(out, b' ')?;
     let count = write_text(reply, text, number, room);
-    put_hex_first(room, count);
+    put_hex_first(out, room, count)
 }
 
 // `OK n=COUNT` of what was written to a list, or the refusal; `TOUCHED` where more than that was written.
-pub(crate) fn put_count(refusal: Refusal, count: usize, kept: bool) {
+pub(crate) fn put_count(out: &mut impl Write, refusal: Refusal, count: usize, kept: bool) -> io::Result<()> {
     if !kept {
-        output::put_bytes(b"TOUCHED");
-        return;
+        return output::put_bytes(out, b"TOUCHED");
     }
     if refusal.number != 0 {
-        output::put_refusal(refusal);
-        return;
+        return output::put_refusal(out, refusal);
     }
-    output::put_bytes(b"OK n=");
-    output::put_number(count as u64);
+    output::put_bytes(out, b"OK n=")?;
+    output::put_number(out, count as u64)
 }

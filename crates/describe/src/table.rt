@@ -1,5 +1,7 @@
 // The table of columns: a line of heads, and a line for each column, in cells as wide as what stands in them.
 // A name of Db2 has at most 128 bytes. A longer text is put whole, and moves the rest of its own line only.
+use std::io;
+use std::io::Write;
 const WIDEST: usize = 128;
 
 // The cells of numbers in a row: a type has at most 17 characters, and is at most 128 wide.
@@ -77,88 +79,90 @@ fn widths_of(words: &[u64], count: usize) -> Widths {
 }
 
 // Blanks behind a cell of `width` characters in a column of `column` characters: two at least.
-fn put_gap(width: usize, column: usize) {
+fn put_gap(out: &mut impl Write, width: usize, column: usize) -> io::Result<()> {
     let blanks = [0x20u8; WIDEST];
-    output::put_bytes(b"  ");
+    output::put_bytes(out, b"  ")?;
     if width < column {
-        crate::put_first(&blanks, column - width);
+        crate::put_first(out, &blanks, column - width)?;
     }
+    Ok(())
 }
 
 // The gap behind a head of `width` characters, and what stands behind it.
-fn put_head(width: usize, column: usize, next: &[u8]) {
-    put_gap(width, column);
-    output::put_bytes(next);
+fn put_head(out: &mut impl Write, width: usize, column: usize, next: &[u8]) -> io::Result<()> {
+    put_gap(out, width, column)?;
+    output::put_bytes(out, next)
 }
 
-fn put_heads(widths: Widths) {
-    output::put_bytes(b"number  name");
-    put_head(4, widths.name, b"type");
-    put_head(4, widths.db2_type, b"length  nullable  CCSID  label");
-    put_head(5, widths.label, b"schema");
-    put_head(6, widths.schema, b"table\n");
+fn put_heads(out: &mut impl Write, widths: Widths) -> io::Result<()> {
+    output::put_bytes(out, b"number  name")?;
+    put_head(out, 4, widths.name, b"type")?;
+    put_head(out, 4, widths.db2_type, b"length  nullable  CCSID  label")?;
+    put_head(out, 5, widths.label, b"schema")?;
+    put_head(out, 6, widths.schema, b"table\n")
 }
 
 // A text of the first column, decoded.
-fn put_text(reply: &[u8], columns: &[u64], at: usize) {
+fn put_text(out: &mut impl Write, reply: &[u8], columns: &[u64], at: usize) -> io::Result<()> {
     let mut room = crate::blank_bytes();
     let text = output::text_in(columns, at);
     let number = output::number_in(columns);
     let count = column_name::given_text(reply, number, text, &mut room).length;
-    crate::put_first(&room, count);
+    crate::put_first(out, &room, count)
 }
 
 // A text and its gap.
-fn put_text_cell(reply: &[u8], columns: &[u64], at: usize, width: usize) {
-    put_text(reply, columns, at);
-    put_gap(text_width(columns, at), width);
+fn put_text_cell(out: &mut impl Write, reply: &[u8], columns: &[u64], at: usize, width: usize) -> io::Result<()> {
+    put_text(out, reply, columns, at)?;
+    put_gap(out, text_width(columns, at), width)
 }
 
 // The number of the first column.
-fn put_number_cell(columns: &[u64]) {
+fn put_number_cell(out: &mut impl Write, columns: &[u64]) -> io::Result<()> {
     let column = column_words::column_in(columns, 0);
     let mut line = [0u8; LINE];
     let count = cells::append_number(&mut line, 0, column);
-    crate::put_first(&line, count);
+    crate::put_first(out, &line, count)
 }
 
 // From its type to its CCSID.
-fn put_cells(columns: &[u64], width: usize) {
+fn put_cells(out: &mut impl Write, columns: &[u64], width: usize) -> io::Result<()> {
     let column = column_words::column_in(columns, 0);
     let db2_type = column.db2_type;
     let names = output::all_names();
     let letters = output::type_letters(&names, db2_type);
     let mut line = [0u8; LINE];
     let count = cells::append_cells(&mut line, 0, letters, column, width);
-    crate::put_first(&line, count);
+    crate::put_first(out, &line, count)
 }
 
 // The line of the first column.
-fn put_row(reply: &[u8], columns: &[u64], widths: Widths) {
-    put_number_cell(columns);
-    put_text_cell(reply, columns, NAME, widths.name);
-    put_cells(columns, widths.db2_type);
-    put_text_cell(reply, columns, LABEL, widths.label);
-    put_text_cell(reply, columns, SCHEMA, widths.schema);
-    put_text(reply, columns, TABLE);
-    output::put_byte(b'\n');
+fn put_row(out: &mut impl Write, reply: &[u8], columns: &[u64], widths: Widths) -> io::Result<()> {
+    put_number_cell(out, columns)?;
+    put_text_cell(out, reply, columns, NAME, widths.name)?;
+    put_cells(out, columns, widths.db2_type)?;
+    put_text_cell(out, reply, columns, LABEL, widths.label)?;
+    put_text_cell(out, reply, columns, SCHEMA, widths.schema)?;
+    put_text(out, reply, columns, TABLE)?;
+    output::put_byte(out, b'\n')
 }
 
-fn put_rows(reply: &[u8], words: &[u64], count: usize, widths: Widths) {
+fn put_rows(out: &mut impl Write, reply: &[u8], words: &[u64], count: usize, widths: Widths) -> io::Result<()> {
     let mut i = 0;
     while i < count {
-        put_row(reply, output::columns_from(words, i), widths);
+        put_row(out, reply, output::columns_from(words, i), widths)?;
         i += 1;
     }
+    Ok(())
 }
 
 // The size, and the table of the first `count` columns of a list; none where there are none.
-pub(crate) fn put_table(reply: &[u8], words: &[u64], count: usize) {
-    crate::status::put_size(count, reply.len());
+pub(crate) fn put_table(out: &mut impl Write, reply: &[u8], words: &[u64], count: usize) -> io::Result<()> {
+    crate::status::put_size(out, count, reply.len())?;
     if count == 0 {
-        return;
+        return Ok(());
     }
     let widths = widths_of(words, count);
-    put_heads(widths);
-    put_rows(reply, words, count, widths);
+    put_heads(out, widths)?;
+    put_rows(out, reply, words, count, widths)
 }

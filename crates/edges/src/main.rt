@@ -3,83 +3,83 @@
 // shows and its bytes, with a byte for the length in front of both.
 #![tactic(auto)]
 
-ghost use Rattle.std.specs.Prelude.{◌≤◌};
+ghost use Rattle.std.specs.Prelude.{◌≤◌, IfOk};
 
-use libc::STDIN_FILENO;
+use std::io;
+use std::io::{BufWriter, Write};
 use plan::SqldardAnswer;
 use types::{ColumnMetadata, Db2Type};
 
 // What stands in front of the columns: nothing, or why there are none.
-fn put_head(answer: SqldardAnswer) {
+fn put_head(out: &mut impl Write, answer: SqldardAnswer) -> io::Result<()> {
     let outcome = answer.outcome;
     if outcome::is_refused(outcome) {
-        output::put_refusal(outcome::refusal_of(outcome));
-        return;
+        return output::put_refusal(out, outcome::refusal_of(outcome));
     }
     if answer.count == 0 {
-        output::put_bytes(b"no columns");
+        output::put_bytes(out, b"no columns")?;
     }
+    Ok(())
 }
 
 // A column's name between quotes, so that its blanks are seen.
-fn put_name(reply: &[u8], column: ColumnMetadata) {
+fn put_name(out: &mut impl Write, reply: &[u8], column: ColumnMetadata) -> io::Result<()> {
     let mut buffer = [0u8; 64];
     let text = column_name::name_text(reply, column, &mut buffer);
     let count = text.length;
     // No length beyond the buffer is answered: the test spares the proof of that.
     if buffer.len() < count {
-        output::put_byte(b'?');
-        return;
+        return output::put_byte(out, b'?');
     }
-    output::put_byte(b'"');
-    output::put_characters(&buffer[0..count]);
-    output::put_byte(b'"');
+    output::put_byte(out, b'"')?;
+    output::put_characters(out, &buffer[0..count])?;
+    output::put_byte(out, b'"')
 }
 
-fn put_type(db2_type: Db2Type) {
+fn put_type(out: &mut impl Write, db2_type: Db2Type) -> io::Result<()> {
     let names = output::all_names();
     let letters = output::type_letters(&names, db2_type);
     let mut line = [0u8; 32];
     let count = cells::append_type(&mut line, 0, letters, db2_type);
-    output::put_bytes(&line[0..count]);
+    output::put_bytes(out, &line[0..count])
 }
 
 // A column's name and type, after a comma if it is not the first.
-fn put_column(reply: &[u8], column: ColumnMetadata) {
+fn put_column(out: &mut impl Write, reply: &[u8], column: ColumnMetadata) -> io::Result<()> {
     let db2_type = column.db2_type;
     if 0 < column.number {
-        output::put_bytes(b", ");
+        output::put_bytes(out, b", ")?;
     }
-    put_name(reply, column);
-    output::put_byte(b' ');
-    put_type(db2_type);
+    put_name(out, reply, column)?;
+    output::put_byte(out, b' ')?;
+    put_type(out, db2_type)
 }
 
 // The columns of a reply, in a line.
-fn put_reply(reply: &[u8]) {
+fn put_reply(out: &mut impl Write, reply: &[u8]) -> io::Result<()> {
     let blank = column::blank_column();
     let mut columns = [blank; 16];
     let answer = sqldard::parse_sqldard_data(reply, &mut columns);
     let count = answer.count;
-    put_head(answer);
+    put_head(out, answer)?;
     let mut i = 0;
     while i < count {
         let column = columns[i];
-        put_column(reply, column);
+        put_column(out, reply, column)?;
         i += 1;
     }
-    output::put_byte(b'\n');
+    output::put_byte(out, b'\n')
 }
 
 // The two scores that document 01 gives.
-fn put_scores() {
+fn put_scores(out: &mut impl Write) -> io::Result<()> {
     let of_three = scan::exact_score(1, 3, 2);
     let of_four = scan::exact_score(1, 4, 3);
-    output::put_bytes(b"score of one named, two generated: ");
-    output::put_signed(of_three as i32);
-    output::put_bytes(b"\nscore of one named, three generated: ");
-    output::put_signed(of_four as i32);
-    output::put_byte(b'\n');
+    output::put_bytes(out, b"score of one named, two generated: ")?;
+    output::put_signed(out, of_three as i32)?;
+    output::put_bytes(out, b"\nscore of one named, three generated: ")?;
+    output::put_signed(out, of_four as i32)?;
+    output::put_byte(out, b'\n')
 }
 
 fn wide(byte: u8) -> usize
@@ -89,41 +89,44 @@ fn wide(byte: u8) -> usize
 }
 
 // What the first case shows, and its columns. The case's length, or that of all that is left where it ends early.
-fn put_case(cases: &[u8]) -> usize
-    ensures { 1 ≤ result }
+fn put_case(out: &mut impl Write, cases: &[u8]) -> io::Result<usize>
+    ensures { IfOk result (λ n. 1 ≤ n) }
 {
     let all = cases.len() + 1;
     if cases.len() == 0 {
-        return all;
+        return Ok(all);
     }
     let start = wide(cases[0]) + 2;
     if cases.len() < start {
-        return all;
+        return Ok(all);
     }
     let end = start + wide(cases[start - 1]);
     if cases.len() < end {
-        return all;
+        return Ok(all);
     }
-    output::put_bytes(&cases[1..start - 1]);
-    output::put_bytes(b": ");
-    put_reply(&cases[start..end]);
-    end
+    output::put_bytes(out, &cases[1..start - 1])?;
+    output::put_bytes(out, b": ")?;
+    put_reply(out, &cases[start..end])?;
+    Ok(end)
 }
 
-fn put_cases(cases: &[u8]) {
+fn put_cases(out: &mut impl Write, cases: &[u8]) -> io::Result<()> {
     let mut at = 0;
     while at < cases.len() {
-        let taken = put_case(&cases[at..]);
+        let taken = put_case(out, &cases[at..])?;
         if cases.len() - at < taken {
-            return;
+            return Ok(());
         }
         at += taken;
     }
+    Ok(())
 }
 
-fn main() {
+fn main(rt: HostRuntime) -> io::Result<()> {
     let mut cases = [0u8; 4096];
-    let got = io::read_full(STDIN_FILENO, &mut cases);
-    put_scores();
-    put_cases(&cases[0..got]);
+    let got = input::fill(&mut rt.reader(), &mut cases)?;
+    let mut out = BufWriter::new(rt.alloc(), io::writer(&rt))?;
+    put_scores(&mut out)?;
+    put_cases(&mut out, &cases[0..got])?;
+    out.flush()
 }

@@ -7,32 +7,31 @@ mod words;
 
 ghost use Rattle.std.specs.Prelude.{◌≡◌, nat_abs};
 
-use libc::STDOUT_FILENO;
+use std::io;
+use std::io::Write;
 use outcome::Refusal;
 pub use type_names::{all_names, type_letters, without_blanks};
 pub use words::{columns_from, number_in, text_in};
 
-pub fn put_bytes(bytes: &[u8]) {
-    io::write_all(STDOUT_FILENO, bytes);
+pub fn put_bytes(out: &mut impl Write, bytes: &[u8]) -> io::Result<()> {
+    out.write_all(bytes)
 }
 
-pub fn put_byte(byte: u8) {
+pub fn put_byte(out: &mut impl Write, byte: u8) -> io::Result<()> {
     let bytes = [byte];
-    put_bytes(&bytes);
+    put_bytes(out, &bytes)
 }
 
 // A character below 256: as it is in ASCII, as two bytes of UTF-8 above, and `.` if it is a control.
-fn put_character(character: u8) {
+fn put_character(out: &mut impl Write, character: u8) -> io::Result<()> {
     if is_printable(character) {
-        put_byte(character);
-        return;
+        return put_byte(out, character);
     }
     if character < 0xA0 {
-        put_byte(b'.');
-        return;
+        return put_byte(out, b'.');
     }
     let bytes = [0xC0 + character / 64, 0x80 + character % 64];
-    put_bytes(&bytes);
+    put_bytes(out, &bytes)
 }
 
 fn is_printable(character: u8) -> bool {
@@ -48,23 +47,23 @@ fn are_printable(characters: &[u8]) -> bool {
 }
 
 // Characters, each of a byte, as status records and texts have them. A quick path: those of ASCII are written at once.
-pub fn put_characters(characters: &[u8]) {
+pub fn put_characters(out: &mut impl Write, characters: &[u8]) -> io::Result<()> {
     if are_printable(characters) {
-        put_bytes(characters);
-        return;
+        return put_bytes(out, characters);
     }
     let mut i = 0;
     while i < characters.len() {
-        put_character(characters[i]);
+        put_character(out, characters[i])?;
         i += 1;
     }
+    Ok(())
 }
 
-pub fn put_number(number: u64) {
+pub fn put_number(out: &mut impl Write, number: u64) -> io::Result<()> {
     let digits = decimal::digits_of(number);
     let characters = digits.characters;
     let start = digits.start;
-    put_bytes(&characters[start..]);
+    put_bytes(out, &characters[start..])
 }
 
 // The absolute value, also of -2147483648, which no number of its type is.
@@ -77,27 +76,28 @@ fn magnitude(number: i32) -> u64
     number as u64
 }
 
-pub fn put_signed(number: i32) {
+pub fn put_signed(out: &mut impl Write, number: i32) -> io::Result<()> {
     if number < 0 {
-        put_byte(b'-');
+        put_byte(out, b'-')?;
     }
-    put_number(magnitude(number));
+    put_number(out, magnitude(number))
 }
 
 // A value after a blank.
-pub fn put_value(value: u64) {
-    put_byte(b' ');
-    put_number(value);
+pub fn put_value(out: &mut impl Write, value: u64) -> io::Result<()> {
+    put_byte(out, b' ')?;
+    put_number(out, value)
 }
 
 // A refusal: `E` and its number, then its values, blank between.
-pub fn put_refusal(refusal: Refusal) {
-    put_byte(b'E');
-    put_number(refusal.number as u64);
+pub fn put_refusal(out: &mut impl Write, refusal: Refusal) -> io::Result<()> {
+    put_byte(out, b'E')?;
+    put_number(out, refusal.number as u64)?;
     if 0 < refusal.count {
-        put_value(refusal.first as u64);
+        put_value(out, refusal.first as u64)?;
     }
     if 1 < refusal.count {
-        put_value(refusal.second as u64);
+        put_value(out, refusal.second as u64)?;
     }
+    Ok(())
 }

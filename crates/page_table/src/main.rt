@@ -1,21 +1,14 @@
 // Writes code page 037, a line for each byte. The gate compares this with IBM's published table, which is the file stdout.
 #![tactic(auto)]
 
-use libc::STDOUT_FILENO;
+use std::io;
+use std::io::{BufWriter, Write};
 
-fn write_line(byte: u8) {
-    io::print_hex(STDOUT_FILENO, byte as u64, 2);
-    io::write_all(STDOUT_FILENO, b" U+");
-    io::print_hex(
-        STDOUT_FILENO,
-        codepage::ebcdic037_to_unicode(byte) as u64,
-        4,
-    );
-    io::write_all(STDOUT_FILENO, b"\n");
-}
-
-fn main() {
-    for byte in 0..256u64 {
-        write_line((byte % 256) as u8);
+fn main(rt: HostRuntime) -> io::Result<()> {
+    let mut out = BufWriter::new(rt.alloc(), io::writer(&rt))?;
+    for byte in 0..=255u8 {
+        let character = codepage::ebcdic037_to_unicode(byte);
+        writeln!(out, "{byte:02X} U+{character:04X}")?;
     }
+    out.flush()
 }
