@@ -5,9 +5,9 @@ use types::Db2Type;
 
 // A type with one number: `(4)`.
 fn put_size(out: &mut impl Write, size: u64) -> io::Result<()> {
-    output::put_byte(out, b'(');
+    output::put_byte(out, b'(')?;
     output::put_number(out, size)?;
-    output::put_byte(out, b')?')
+    output::put_byte(out, b')')
 }
 
 fn put_precision(out: &mut impl Write, precision: u8, scale: u8) -> io::Result<()> {
@@ -30,7 +30,7 @@ fn put_values(out: &mut impl Write, db2_type: Db2Type) -> io::Result<()> {
         Db2Type::Graphic(n) => put_size(out, n as u64),
         Db2Type::VarGraphic(n) => put_size(out, n as u64),
         Db2Type::RowId(n) => put_size(out, n as u64),
-        _ => {}
+        _ => Ok(()),
     }
 }
 

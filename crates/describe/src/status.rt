@@ -78,7 +78,7 @@ fn put_reason(out: &mut impl Write, refusal: Refusal) -> io::Result<()> {
         1 => output::put_bytes(out, b", the reply is empty"),
         2 => put_too_short(out, refusal.first, refusal.second),
         5 => output::put_bytes(out, b", the reply is longer than 65536 bytes"),
-        _ => {}
+        _ => Ok(()),
     }
 }
 
