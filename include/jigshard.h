@@ -2,7 +2,7 @@
  * Jigshard: reads the reply in which a Db2 server describes the columns of a result set (DRDA's SQLDARD). A reply here is that object's
  * data, without its length and code point.
  *
- * C11 or C++11, x86-64. Link target/staticlib/libjigshard.a, which 'rt staticlib jigshard' writes; it needs no other library than C's.
+ * C11 or C++11, x86-64. Link target/staticlib/libjigshard.a, which 'tools/build jigshard' writes; it needs no other library than C's.
  *
  *     jigshard_column columns[512];
  *     jigshard_sqldard_result r = jigshard_describe(reply, reply_length, columns, 512);

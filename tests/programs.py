@@ -82,7 +82,7 @@ def take_answers(program=None):
     if program is not None:
         ANSWERS = pathlib.Path(program).resolve()
     if not os.access(ANSWERS, os.X_OK):
-        stop(f"{shown(ANSWERS)} is not there; 'rt check answers' makes target/bin/answers")
+        stop(f"{shown(ANSWERS)} is not there; 'tools/build answers' makes it")
 
 
 def shown(program):

@@ -1,4 +1,4 @@
-//! Links the static library that `rt staticlib jigshard` writes at the top of the repository.
+//! Links the static library that `tools/build jigshard` writes.
 use std::path::Path;
 use std::process::exit;
 
@@ -10,7 +10,7 @@ fn main() {
     println!("cargo:rerun-if-changed={}", archive.display());
     if !archive.is_file() {
         eprintln!(
-            "jigshard: {} is not there; 'rt staticlib jigshard' at the top of the repository makes it",
+            "jigshard: {} is not there; 'tools/build jigshard' at the top of the repository makes it",
             archive.display()
         );
         exit(1);

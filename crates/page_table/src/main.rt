@@ -8,7 +8,7 @@ fn main(rt: HostRuntime) -> io::Result<()> {
     let mut out = BufWriter::new(rt.alloc(), io::writer(&rt))?;
     for byte in 0..=255u8 {
         let character = codepage::ebcdic037_to_unicode(byte);
-        writeln!(out, "{byte:02X} U+{character:04X}")?;
+        writeln!(out, "{byte:02x} U+{character:04x}")?;
     }
     out.flush()
 }
