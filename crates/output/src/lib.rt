@@ -1,5 +1,4 @@
-// The output of a program, written as it comes. A buffer would have to be lent to, and its position handed through, every function that
-// prints; that made up more than half of what the prover did for a program. Nothing is stored, so these functions have no contract.
+// The output of a program, written as it comes. What these functions write has no contract; a write that fails ends the program.
 #![tactic(auto)]
 
 mod type_names;
@@ -7,9 +6,9 @@ mod words;
 
 ghost use Rattle.std.specs.Prelude.{◌≡◌, nat_abs};
 
+use outcome::Refusal;
 use std::io;
 use std::io::Write;
-use outcome::Refusal;
 pub use type_names::{all_names, type_letters, without_blanks};
 pub use words::{columns_from, number_in, text_in};
 
@@ -39,11 +38,7 @@ fn is_printable(character: u8) -> bool {
 }
 
 fn are_printable(characters: &[u8]) -> bool {
-    let mut i = 0;
-    while i < characters.len() && is_printable(characters[i]) {
-        i += 1;
-    }
-    i == characters.len()
+    characters.iter().all(|character| is_printable(*character))
 }
 
 // Characters, each of a byte, as status records and texts have them. A quick path: those of ASCII are written at once.
@@ -51,10 +46,8 @@ pub fn put_characters(out: &mut impl Write, characters: &[u8]) -> io::Result<()>
     if are_printable(characters) {
         return put_bytes(out, characters);
     }
-    let mut i = 0;
-    while i < characters.len() {
-        put_character(out, characters[i])?;
-        i += 1;
+    for character in characters {
+        put_character(out, *character)?;
     }
     Ok(())
 }
