@@ -23,13 +23,11 @@ fn put_state(out: &mut impl Write, state: &[u8; 5], procedure: &[u8; 8], count: 
 
 // The six numbers of SQLERRD, `/` between.
 fn put_errors(out: &mut impl Write, errors: &[i32]) -> io::Result<()> {
-    let mut i = 0;
     let mut mark = b',';
-    while i < errors.len() {
+    for number in errors {
         output::put_byte(out, mark)?;
-        output::put_signed(out, errors[i])?;
+        output::put_signed(out, *number)?;
         mark = b'/';
-        i += 1;
     }
     Ok(())
 }

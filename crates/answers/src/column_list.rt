@@ -81,20 +81,16 @@ fn put_places(out: &mut impl Write, columns: &[u64]) -> io::Result<()> {
 
 // The first `count` columns of a list.
 pub(crate) fn put_columns(out: &mut impl Write, reply: &[u8], words: &[u64], count: usize, room: &mut [u8]) -> io::Result<()> {
-    let mut i = 0;
-    while i < count {
+    for i in 0..count {
         put_column(out, reply, output::columns_from(words, i), room)?;
-        i += 1;
     }
     Ok(())
 }
 
 // The places of their texts.
 pub(crate) fn put_all_places(out: &mut impl Write, words: &[u64], count: usize) -> io::Result<()> {
-    let mut i = 0;
-    while i < count {
+    for i in 0..count {
         put_places(out, output::columns_from(words, i))?;
-        i += 1;
     }
     Ok(())
 }

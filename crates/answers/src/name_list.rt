@@ -32,10 +32,8 @@ fn put_name(out: &mut impl Write, entry: u8, reply: &[u8], name: Text, room: &mu
 }
 
 fn put_all(out: &mut impl Write, entry: u8, reply: &[u8], words: &[u64], count: usize, room: &mut [u8]) -> io::Result<()> {
-    let mut i = 0;
-    while i < count {
+    for i in 0..count {
         put_name(out, entry, reply, name_in(words, i), room)?;
-        i += 1;
     }
     Ok(())
 }

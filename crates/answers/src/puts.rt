@@ -12,10 +12,8 @@ pub(crate) fn put_bad(out: &mut impl Write) -> io::Result<bool> {
 
 // Six values, each after a blank.
 pub(crate) fn put_values(out: &mut impl Write, values: &[u64; 6]) -> io::Result<()> {
-    let mut i = 0;
-    while i < 6 {
-        output::put_value(out, values[i])?;
-        i += 1;
+    for value in values {
+        output::put_value(out, *value)?;
     }
     Ok(())
 }
@@ -35,35 +33,15 @@ pub(crate) fn put_text_place(out: &mut impl Write, text: Text) -> io::Result<()>
     output::put_number(out, text.alphabet as u64)
 }
 
-fn hex_digit(value: u8) -> u8 {
-    let low = value % 16;
-    if low < 10 { 48 + low } else { 87 + low }
-}
-
-// The digits of the first 32 bytes, written at once.
-fn put_hex_piece(out: &mut impl Write, bytes: &[u8]) -> io::Result<()> {
-    let mut digits = [0u8; 64];
-    let mut i = 0;
-    while i < 32 && i < bytes.len() {
-        let byte = bytes[i];
-        digits[2 * i] = hex_digit(byte / 16);
-        digits[2 * i + 1] = hex_digit(byte);
-        i += 1;
-    }
-    output::put_bytes(out, &digits[0..2 * i])
-}
-
 // Two lower-case digits for each byte, `-` where there is none.
 pub(crate) fn put_hex(out: &mut impl Write, bytes: &[u8]) -> io::Result<()> {
-    if bytes.len() == 0 {
+    if bytes.is_empty() {
         return output::put_byte(out, b'-');
     }
-    let mut at = 0;
-    while 32 < bytes.len() - at {
-        put_hex_piece(out, &bytes[at..])?;
-        at += 32;
+    for byte in bytes {
+        write!(out, "{byte:02x}")?;
     }
-    put_hex_piece(out, &bytes[at..])
+    Ok(())
 }
 
 // The first `count` bytes so, `?` where there are not so many.

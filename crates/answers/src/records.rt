@@ -57,10 +57,8 @@ fn field_in(record: &[u8], i: usize) -> u64 {
 
 // The fields of a record as they stand.
 fn fill_fields(record: &[u8], words: &mut [u64]) {
-    let mut i = 0;
-    while i < words.len() {
+    for i in 0..words.len() {
         words[i] = field_in(record, i);
-        i += 1;
     }
 }
 
@@ -86,10 +84,8 @@ fn fill_at(bytes: &[u8], words: &mut [u64], i: usize) {
 }
 
 fn fill_all(bytes: &[u8], words: &mut [u64], count: usize) {
-    let mut i = 0;
-    while i < count {
+    for i in 0..count {
         fill_at(bytes, words, i);
-        i += 1;
     }
 }
 

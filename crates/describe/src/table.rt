@@ -70,10 +70,8 @@ fn widths_of(words: &[u64], count: usize) -> Widths {
         label: 5,
         schema: 6,
     };
-    let mut i = 0;
-    while i < count {
+    for i in 0..count {
         widths = widths_with(widths, output::columns_from(words, i));
-        i += 1;
     }
     widths
 }
@@ -148,10 +146,8 @@ fn put_row(out: &mut impl Write, reply: &[u8], columns: &[u64], widths: Widths) 
 }
 
 fn put_rows(out: &mut impl Write, reply: &[u8], words: &[u64], count: usize, widths: Widths) -> io::Result<()> {
-    let mut i = 0;
-    while i < count {
+    for i in 0..count {
         put_row(out, reply, output::columns_from(words, i), widths)?;
-        i += 1;
     }
     Ok(())
 }
