@@ -60,13 +60,9 @@ fn put_reply(out: &mut impl Write, reply: &[u8]) -> io::Result<()> {
     let blank = column::blank_column();
     let mut columns = [blank; 16];
     let answer = sqldard::parse_sqldard_data(reply, &mut columns);
-    let count = answer.count;
     put_head(out, answer)?;
-    let mut i = 0;
-    while i < count {
-        let column = columns[i];
-        put_column(out, reply, column)?;
-        i += 1;
+    for column in columns.iter().take(answer.count) {
+        put_column(out, reply, *column)?;
     }
     output::put_byte(out, b'\n')
 }
