@@ -1,12 +1,11 @@
 -- A search passes over positions that fail: one step after the other, or to where a weaker test passes.
 use Prim.Native.Nat.{ℕ, zero, suc, ◌+◌, ◌-◌, ◌≤◌, ◌<◌}
 use native.Mathlib.Omega.{arith}
-use mathlib.Core.Path.{◌≡◌, refl, sym, ap, ◌∙◌}
+use mathlib.Core.Path.{◌≡◌, refl, sym}
 use mathlib.Core.List.{List}
 use mathlib.Core.Bool.{Bool, true, false, ◌||◌, false≢true}
-use lib.ListN.{length}
 use Rattle.search.specs.Walks.{first}
-use Rattle.search.proofs.Index.{Found, first-is, first_more}
+use Rattle.search.proofs.Index.{first-is, first_more}
 use Rattle.compact_table.specs.Table.{isFF, ffAt, inEight, nextHere}
 
 module _ (f : ℕ → Bool) (n t : ℕ) where
