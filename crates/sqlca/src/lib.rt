@@ -82,7 +82,7 @@ pub fn fixed_chars(bytes: &[u8], characters: &mut [u8])
     ensures { characters.new ≡ fixedChars page037 bytes.now }
 {
     if all_printable(bytes) {
-        bytes::copy(bytes, characters);
+        characters.copy_from_slice(bytes);
     } else {
         codepage::write_chars(bytes, characters);
     }
@@ -131,7 +131,7 @@ fn warnings(reply: &[u8]) -> [u8; 11]
 {
     let mut sqlwarn = [0u8; 11];
     if reply.len() >= 54 {
-        bytes::copy(&reply[43..54], &mut sqlwarn);
+        sqlwarn.copy_from_slice(&reply[43..54]);
     }
     sqlwarn
 }
