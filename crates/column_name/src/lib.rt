@@ -110,7 +110,7 @@ fn write_text(bytes: &[u8], alphabet: u8, buffer: &mut [u8]) -> NameText
     if alphabet == 2 {
         codepage::write_chars(bytes, buffer);
     } else {
-        bytes::copy(bytes, buffer);
+        buffer[0..n].copy_from_slice(bytes);
     }
     NameText {
         outcome: Outcome::Accepted,
