@@ -21,8 +21,8 @@ loop-i-preserved c =
       filling-more _ _ _ _ _ _ _ c.loop-i.invariant.1 _ _
           (omega (arith, c.loop-i.invariant.1.writing.as_long))
           (omega (arith, c.requires.count_value, c.loop-i-test.true))
-          (c.next_of_read.ensures ∙ read.ensures.ends)
-          (c.column_of_read-column.ensures ∙ rw (← c.next_of_read.ensures) at read.ensures.views),
+          (c.next_of_read-at.ensures ∙ read.ensures.ends)
+          (c.column_of_read-column.ensures ∙ rw (← c.next_of_read-at.ensures) at read.ensures.views),
     )
 
 pub returns : goal.returns
