@@ -28,8 +28,8 @@ fn put_text_words(text: Text, words: &mut [u64], at: usize)
 // Writes the first names that a rule lists, as words.
 fn fill_listed(reply: &[u8], rule: Rule, start: Cursor, count: usize, words: &mut [u64])
     requires within_cursor { WithinCursor reply.now start }
-    requires count_in_bounds { count ≤ length (toCome reply.now rule start) }
-    requires count_in_bounds_2 { count * 3 ≤ length words.old }
+    requires count_listed { count ≤ length (toCome reply.now rule start) }
+    requires count_in_room { count * 3 ≤ length words.old }
     ensures { words.new ≡ over (textWords (take count (toCome reply.now rule start))) words.old }
 {
     let mut cursor = start;
@@ -45,8 +45,8 @@ fn fill_listed(reply: &[u8], rule: Rule, start: Cursor, count: usize, words: &mu
 
 // Writes the names of a run, as words.
 fn fill_run(reply: &[u8], run: NameRun, words: &mut [u64])
-    requires count_value { run.count ≡ length (namesOfRun page037 reply.now run) }
-    requires count_in_bounds { run.count * 3 ≤ length words.old }
+    requires count_of_run { run.count ≡ length (namesOfRun page037 reply.now run) }
+    requires count_in_room { run.count * 3 ≤ length words.old }
     ensures { words.new ≡ over (textWords (namesOfRun page037 reply.now run)) words.old }
 {
     let count = run.count;

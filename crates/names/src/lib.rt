@@ -119,8 +119,8 @@ pub fn decide(reply: &[u8], room: usize) -> Decision
 // Writes the first names that a rule lists.
 fn fill_listed(reply: &[u8], rule: Rule, start: Cursor, count: usize, names: &mut [Text])
     requires within_cursor { WithinCursor reply.now start }
-    requires count_in_bounds { count ≤ length (toCome reply.now rule start) }
-    requires count_in_bounds_2 { count ≤ length names.old }
+    requires count_listed { count ≤ length (toCome reply.now rule start) }
+    requires count_in_room { count ≤ length names.old }
     ensures { names.new ≡ take count (toCome reply.now rule start) ++ drop count names.old }
 {
     let mut cursor = start;
@@ -135,8 +135,8 @@ fn fill_listed(reply: &[u8], rule: Rule, start: Cursor, count: usize, names: &mu
 
 // Writes the names of a run.
 fn fill_run(reply: &[u8], run: NameRun, names: &mut [Text])
-    requires count_value { run.count ≡ length (namesOfRun page037 reply.now run) }
-    requires count_in_bounds { run.count ≤ length names.old }
+    requires count_of_run { run.count ≡ length (namesOfRun page037 reply.now run) }
+    requires count_in_room { run.count ≤ length names.old }
     ensures { names.new ≡ namesOfRun page037 reply.now run ++ drop run.count names.old }
 {
     let count = run.count;

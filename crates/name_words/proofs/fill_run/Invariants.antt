@@ -10,7 +10,7 @@ abbrev pub invariant-loop-i : goal.invariant-loop-i
 invariant-loop-i l =
     (l.i ≤ l.count)
     × ((l.at ≡ l.i * 3)
-    × FillingBy wordsOfText (nameWalk page037 l.reply) (runLimit l.count) l.run.start l.fn.words l.words l.i l.at l.offset)
+    × FillingBy wordsOfText (nameWalk page037 l.reply) (runLimit l.count) l.initial.offset l.fn.words l.words l.i l.at l.offset)
 
 abbrev pub decreases-loop-i : goal.decreases-loop-i
 decreases-loop-i l = l.count - l.i

@@ -6,7 +6,7 @@ use Rattle.name_run.specs.Run.{nameWalk, runLimit}
 use Rattle.names.proofs.fill_run.Given as goal
 
 abbrev pub invariant-loop-i : goal.invariant-loop-i
-invariant-loop-i l = (l.i ≤ l.count) × Filling (nameWalk page037 l.reply) (runLimit l.count) l.run.start l.fn.names l.names l.i l.at
+invariant-loop-i l = (l.i ≤ l.count) × Filling (nameWalk page037 l.reply) (runLimit l.count) l.initial.at l.fn.names l.names l.i l.at
 
 abbrev pub decreases-loop-i : goal.decreases-loop-i
 decreases-loop-i l = l.count - l.i
