@@ -1,6 +1,6 @@
 -- One empty string less is left.
 use Rattle.std.proofs.Common.{◌∙◌, sym, arith}
-use Rattle.descriptor.proofs.NameStrings.{empty-more, empty-none}
+use Rattle.descriptor.proofs.NameStrings.{empty-more}
 use Rattle.descriptor.proofs.are_empty.Goals as goal
 
 pub loop-left-preserved : goal.loop-left-preserved

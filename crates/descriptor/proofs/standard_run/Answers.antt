@@ -1,5 +1,5 @@
 -- The loop walks from descriptor to descriptor; each way out has a law of Runs.
-use Rattle.std.proofs.Common.{refl, arith}
+use Rattle.std.proofs.Common.{refl}
 use Rattle.search.proofs.Walks.{walking-none}
 use Rattle.codepage.specs.Page.{page037}
 use Rattle.descriptor.proofs.Runs.{run_more, run-stop, run-done}

@@ -9,7 +9,7 @@ use Rattle.scan.proofs.best_with_start.Goals as goal
 pub returns-then-not-is_known_sql_type : goal.returns-then-not-is_known_sql_type
 returns-then-not-is_known_sql_type c = (
   start-passed page037 _ _ _ c.requires.start_in_bounds _ c.u16_at.ensures _ c.is_known_sql_type.ensures
-  c.if-not-is_known_sql_type.true _ c.requires.in_hand,
+      c.if-not-is_known_sql_type.true _ c.requires.in_hand,
   c.requires.in_hand,
 )
 
