@@ -1,5 +1,5 @@
 -- The ways out: no room, the characters of page 037, or the bytes themselves.
-use Rattle.std.proofs.Common.{List, ℕ, length, ◌∙◌, sym, ap, arith}
+use Rattle.std.proofs.Common.{List, ℕ, length, ◌∙◌, sym, ap}
 use native.Mathlib.Nat.{sub-zero}
 use Rattle.search.specs.Search.{over}
 use Rattle.codepage.specs.Page.{page037}
