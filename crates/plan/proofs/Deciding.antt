@@ -1,7 +1,7 @@
 -- What the description is on each way out of decide; a plan of no columns; and what a decision says to who carries it out.
 use mathlib.Core.Bool.{Bool, true, false}
 use mathlib.Core.List.{List, [], ◌∷◌, ◌++◌}
-use mathlib.Core.Path.{◌≡◌, refl, sym, ap, ◌∙◌}
+use mathlib.Core.Path.{◌≡◌, refl, sym, ap, subst, ◌∙◌}
 use Prim.Native.Nat.{ℕ, ◌≤◌, ◌<◌}
 use lib.Dec.{leb, ltb}
 use lib.ListN.{length, drop}
@@ -62,6 +62,15 @@ module _ (page : Page) (room : ℕ) (s : List ℕ) where
 
     pub in-room : b ≡ false → length (columnsOf page s p) ≤ room → full ≡ description page room s
     in-room v k = rw (le-leb _ _ k) refl ∙ by-room v
+
+-- with a code point: the same decision under SQLDARD's, else the refusal that names it
+module _ (page : Page) (room : ℕ) (s : List ℕ) (point : ℕ) (d : Decision) where
+  pub decides_own : Decides page room s d (description page room s) → point ≡ 0x2411 → Decides page room s d (withCodePoint page room point s)
+  decides_own t h = subst (Decides page room s d) (own-point page room s point h) t
+
+  pub decides_other : Decides page room s d (refusedWith (4 ∷ point ∷ [])) → (point ≡ 0x2411 → ⊥)
+      → Decides page room s d (withCodePoint page room point s)
+  decides_other t h = subst (Decides page room s d) (other-point page room s point h) t
 
 -- a decision carries `wanted` out: its plan can be filled in, and then the list has the columns in front of what was there
 module _ {page : Page} {room : ℕ} {s : List ℕ} {d : Decision} {wanted : Description} (t : Decides page room s d wanted) where

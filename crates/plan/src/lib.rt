@@ -138,6 +138,7 @@ fn scan_plan(reply: &[u8]) -> Plan
 }
 
 // A byte FF that was not counted with the groups before stands before the last reader's count.
+#[tactic(auto, unfolding(crate::specs::Choice::lastCountAt))]
 fn last_count_offset(reply: &[u8], offset: usize) -> usize
     requires { (offset ≡ countAt reply.now) × (offset + 2 ≤ length reply.now) }
     ensures { (result ≡ lastCountAt reply.now) × (result + 2 ≤ length reply.now) }
@@ -294,6 +295,7 @@ pub fn decide(reply: &[u8], room: usize) -> Decision
     }
 }
 
+#[tactic(auto, using(crate::proofs::Deciding::decides_own))]
 pub fn decide_at(code_point: u16, reply: &[u8], room: usize) -> Decision
     ensures { Decides page037 room reply.now result (withCodePoint page037 room code_point reply.now) }
 {
