@@ -1,17 +1,16 @@
 -- CCSID, names and ends by their cases: for each way out of a function one law.
 use Prim.Native.Nat.{ℕ, ◌+◌, ◌-◌, ◌≤◌, ◌<◌}
 use native.Mathlib.Omega.{arith}
-use mathlib.Core.Path.{◌≡◌, refl, sym, ap, ◌∙◌}
+use mathlib.Core.Path.{◌≡◌, refl, sym, ap}
 use mathlib.Core.List.{List}
 use mathlib.Core.Bool.{Bool, true, false, ◌&&◌}
-use lib.ListN.{length, get_or, take, drop}
+use lib.ListN.{length, get_or}
 use lib.Dec.{leb, eqb, ltb}
 use borrow.Author.Tests.{eq-eqb, ne_eqb, lt-ltb, le-ltb, le-leb, lt-leb, ltb-true, leb-true, leb-false}
-use Rattle.search.specs.Search.{pick, each}
+use Rattle.search.specs.Search.{pick}
 use Rattle.search.specs.Walks.{first}
 use Rattle.search.proofs.Index.{first_done}
 use Rattle.strings.specs.Strings.{noString}
-use Rattle.text.specs.Chars.{isNameChar}
 use Rattle.compact_table.specs.Table.{isFF, ffAt, nextHere, nextCompact}
 use Rattle.compact_table.proofs.Skips.{skip-to}
 use Rattle.compact.specs.declared.Ends.{Ends}
