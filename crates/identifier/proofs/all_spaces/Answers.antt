@@ -4,13 +4,10 @@ use Rattle.search.proofs.Count.{one-most, count-more, count-done}
 use Rattle.identifier.proofs.Spaces.{isOther, all-counted}
 use Rattle.identifier.proofs.all_spaces.Goals as goal
 
-pub overflow_add-others : goal.overflow_add-others
-overflow_add-others c = omega (arith, one-most (isOther (get_or c.args.block.now c.loop-i.i 0)))
-
 pub loop-i-preserved : goal.loop-i-preserved
 loop-i-preserved c = record {
   in_block = omega arith;
-  few = omega (arith, one-most (isOther (get_or c.args.block.now c.loop-i.i 0)));
+  few = omega (arith, one-most);
   counted =
       count-more isOther c.args.block.now 0 c.loop-i.others c.loop-i.i c.loop-i.invariant.counted c.loop-i-test.true
       (isOther (get_or c.args.block.now c.loop-i.i 0)) refl;
