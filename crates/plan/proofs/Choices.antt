@@ -15,7 +15,7 @@ use Rattle.field.specs.declared.ByteOrder.TheVariants.{BigEndian, LittleEndian}
 use Rattle.field.specs.Numbers.{number}
 use Rattle.outcome.specs.declared.Outcome.{Outcome}
 use Rattle.outcome.specs.declared.Outcome.TheVariants.{Accepted, EmptyReply, BufferTooShort}
-use Rattle.column.specs.Column.{hasNames, named_in}
+use Rattle.column.specs.Column.{hasNames}
 use Rattle.descriptor.specs.Reading.{standard, countAt}
 use Rattle.planned.specs.declared.Plan.{Plan}
 use Rattle.planned.specs.declared.Layout.TheVariants.{Last}

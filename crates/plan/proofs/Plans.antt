@@ -7,7 +7,7 @@ use native.Mathlib.Omega.{arith}
 use lib.Dec.{leb}
 use lib.ListN.{length, get_or}
 use borrow.Author.Tests.{eq-eqb, ne_eqb, lt-ltb, le-ltb, le-leb, lt-leb}
-use Rattle.search.specs.Search.{pick, count}
+use Rattle.search.specs.Search.{pick}
 use Rattle.search.specs.Walks.{chain}
 use Rattle.search.proofs.Best.{best-all}
 use Rattle.codepage.specs.Page.{Page}
