@@ -12,8 +12,8 @@ use outcome::Outcome;
 
 // Whether the columns of two lists are cut from a row alike.
 pub fn same_columns(first: &[u64], second: &[u64]) -> bool
-    requires first_value { areColumns first.now ≡ true }
-    requires second_value { areColumns second.now ≡ true }
+    requires first { areColumns first.now ≡ true }
+    requires second { areColumns second.now ≡ true }
     ensures { result ≡ sameCut (columnsIn first.now) (columnsIn second.now) }
 {
     let count = first.len() / 22;
@@ -36,8 +36,8 @@ pub fn same_columns(first: &[u64], second: &[u64]) -> bool
 
 // The sum of the columns' widths, up to a column of a large type.
 pub fn add_widths(words: &[u64]) -> RowAnswer
-    requires words_value { areColumns words.now ≡ true }
-    requires words_len_bound { length words.now / 22 ≤ 4095 }
+    requires are_columns { areColumns words.now ≡ true }
+    requires few { length words.now / 22 ≤ 4095 }
     ensures refuses { refusalOf result.outcome ≡ rowRefusal (columnsIn words.now) }
     ensures gives { result.width ≡ rowAnswer (columnsIn words.now) }
 {
