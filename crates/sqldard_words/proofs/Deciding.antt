@@ -6,7 +6,6 @@ use native.Mathlib.Omega.{arith}
 use lib.ListN.{length}
 use Rattle.search.specs.Search.{over}
 use Rattle.codepage.specs.Page.{Page}
-use Rattle.outcome.specs.declared.Refusal.{Refusal}
 use Rattle.outcome.specs.Refusal.{refusalOf, inNumbers}
 use Rattle.types.specs.declared.ColumnMetadata.{ColumnMetadata}
 use Rattle.planned.specs.Planned.{columnsOf}
