@@ -5,9 +5,9 @@
 
 ghost use Rattle.std.specs.Prelude.{◌≤◌, IfOk};
 
+use plan::SqldardAnswer;
 use std::io;
 use std::io::{BufWriter, Write};
-use plan::SqldardAnswer;
 use types::{ColumnMetadata, Db2Type};
 
 // What stands in front of the columns: nothing, or why there are none.
@@ -71,11 +71,8 @@ fn put_reply(out: &mut impl Write, reply: &[u8]) -> io::Result<()> {
 fn put_scores(out: &mut impl Write) -> io::Result<()> {
     let of_three = scan::exact_score(1, 3, 2);
     let of_four = scan::exact_score(1, 4, 3);
-    output::put_bytes(out, b"score of one named, two generated: ")?;
-    output::put_signed(out, of_three as i32)?;
-    output::put_bytes(out, b"\nscore of one named, three generated: ")?;
-    output::put_signed(out, of_four as i32)?;
-    output::put_byte(out, b'\n')
+    writeln!(out, "score of one named, two generated: {of_three}")?;
+    writeln!(out, "score of one named, three generated: {of_four}")
 }
 
 fn wide(byte: u8) -> usize
