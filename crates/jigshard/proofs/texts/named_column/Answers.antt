@@ -1,0 +1,8 @@
+-- The blank column with its number and its name stored.
+use Rattle.std.proofs.Common.{refl}
+use Rattle.jigshard.specs.Named.{namedColumn}
+use Rattle.jigshard.proofs.texts.named_column.Goals as goal
+
+pub returns : goal.returns
+unfolding namedColumn
+returns c = rw c.blank_column-column.ensures refl
