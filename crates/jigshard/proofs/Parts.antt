@@ -12,7 +12,7 @@ use Rattle.outcome.specs.declared.Refusal.{Refusal}
 use Rattle.outcome.specs.Refusal.{is_refused, inNumbers}
 use Rattle.text.specs.declared.Text.{Text}
 use Rattle.text.specs.Text.{bytes_of}
-use Rattle.column_name.specs.Part.{partRefusal, ownBytes, part_of}
+use Rattle.column_name.specs.Part.{partRefusal, part_of}
 use Rattle.jigshard.specs.Part.{partPlace, partLength}
 
 -- as many as there are at the front are those at the front
