@@ -14,9 +14,6 @@ abbrev withCol : List ℕ → ℕ → List ℕ
 withCol cs start = set (set (set cs (start - 1) 0x4C) (start - 2) 0x4F) (start - 3) 0x43
 
 module _ (number : ℕ) {cs : List ℕ} {start : ℕ} (s : Spells (number + 1) cs start) where
-  pub col-long : length (withCol cs start) ≡ 24
-  col-long = simp length-set s.long
-
   pub col-before : drop (start - 3) (withCol cs start) ≡ generatedName number
   unfolding generatedName
   col-before =

@@ -2,7 +2,7 @@
 use mathlib.Core.Path.{◌≡◌, refl, sym, ap, ◌∙◌}
 use mathlib.Core.Bool.{Bool, true, false, not}
 use mathlib.Core.List.{List, [], ◌∷◌}
-use Prim.Native.Nat.{ℕ, ◌+◌, ◌-◌, ◌<◌, ◌≤◌}
+use Prim.Native.Nat.{ℕ, ◌+◌, ◌<◌, ◌≤◌}
 use native.Mathlib.Omega.{arith}
 use lib.Dec.{ltb}
 use lib.ListN.{get_or, take, drop}
@@ -51,14 +51,6 @@ module _ (s : List ℕ) (t : Text) where
       go false true c p r z = absurd (let y : ◌≡◌ {A = ℕ} 0 1 = cc in omega arith)
       go false false true p r z = absurd (let y : ◌≡◌ {A = ℕ} 0 1 = cc in omega arith)
       go false false false p r z = (ltb-false (lib.ListN.length s) (t.place + t.length) r, ltb-false 65536 (lib.ListN.length s) p)
-
-  pub own-none : t.alphabet ≡ 0 → [] ≡ ownBytes s t
-  own-none h = sym (rw (eq-eqb t.alphabet 0 h) refl)
-
-  pub own-some : (t.alphabet ≡ 0 → ⊥) → take (t.place + t.length - t.place) (drop t.place s) ≡ ownBytes s t
-  own-some h =
-      let e : t.place + t.length - t.place ≡ t.length = omega arith in
-      rw (e, ne_eqb t.alphabet 0 h) refl
 
   -- a refusal here has no values: its number says all
   alone : get_or (partRefusal s t) 0 0 ∷ [] ≡ partRefusal s t

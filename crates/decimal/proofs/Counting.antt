@@ -92,9 +92,6 @@ module _ {n : ℕ} {cs : List ℕ} {start : ℕ} (s : Spells n cs start) where
   pub digits-length : length (decimalOf n) ≡ 24 - start
   digits-length = ap length (sym s.ends) ∙ omega (arith, length-drop start cs, s.long)
 
-  pub lent_length : length (lent cs start) ≡ 24 - start
-  lent_length = ap length lent-digits ∙ digits-length
-
   module _ (buffer : List ℕ) where
     pub write-none : length buffer < 24 - start → (0 ≡ roomLength (decimalOf n) (length buffer)) × (buffer ≡ roomWritten (decimalOf n) buffer)
     write-none h =

@@ -15,7 +15,7 @@ use Rattle.columns.specs.Cut.{mostColumns, sameColumn, sameCut}
 use Rattle.widths.specs.Width.{isLarge, columnWidth}
 use Rattle.widths.specs.Inside.{mostWidth}
 use Rattle.columns.specs.Row.{rowRefusal, rowAnswer}
-use Rattle.columns.proofs.Summing.{Summing, summing-none, summing-more, row-large, row_done}
+use Rattle.columns.proofs.Summing.{Summing, summing-more, row-large, row_done}
 use Rattle.column_words.specs.Columns.{columnIn, isColumn, columnsIn, areColumns}
 use Rattle.column_words.proofs.Columns.{columns-length, columns-at, columns-fit}
 
@@ -79,9 +79,6 @@ module _ (w : List ℕ) where
   pub record Adding (sum i at : ℕ) : Type 0 where
     pub counted : at ≡ i * 22
     pub summing : Summing (columnsIn w) sum i
-
-  pub adding-none : Adding 0 0 0
-  adding-none = record { counted = refl; summing = summing-none (columnsIn w) }
 
   pub few : length w / 22 ≤ 4095 → ltb mostColumns (length (columnsIn w)) ≡ false
   few h = le-ltb mostColumns (length (columnsIn w)) (omega (arith, columns-length w))
