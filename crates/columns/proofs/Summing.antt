@@ -22,9 +22,6 @@ pub record Summing (l : List ColumnMetadata) (w i : ℕ) : Type 0 where
   pub small : w ≤ i * mostWidth
 
 module _ (l : List ColumnMetadata) where
-  pub summing-none : Summing l 0 0
-  summing-none = record { refusal = refl; width = omega arith; small = omega arith }
-
   module _ (w i : ℕ) (t : Summing l w i) (d : ColumnMetadata) where
     pub summing-more : i < length l → false ≡ isLarge (get_or l i d).db2_type → (k : ℕ) → k ≡ columnWidth (get_or l i d) → k ≤ mostWidth
         → Summing l (w + k) (i + 1)

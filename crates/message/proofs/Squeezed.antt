@@ -158,9 +158,6 @@ module _ {f : ℕ → ℕ} {bs b buf : List ℕ} {at : ℕ} {behind : Behind} {i
       (omega (arith, ap length r.text, length-append r.passed (squeezed behind (map f (drop i bs)))))
 
   module _ (h : i < length bs) (c : ℕ) (u : c ≡ f (get_or bs i 0)) where
-    pub written-room : at + length (added behind c) ≤ length buf
-    written-room = omega (arith, written-length, reached-room w.reached h c u)
-
     pub written-more : (buf' : List ℕ) (at' : ℕ) → (at' ≡ at + length (added behind c)) × (buf' ≡ sets buf at (added behind c))
         → (d : Behind) → d ≡ after (isBlank c) behind → Written f bs b buf' at' d (i + 1)
     unfolding reached-more
@@ -173,6 +170,3 @@ module _ {f : ℕ → ℕ} {bs b buf : List ℕ} {at : ℕ} {behind : Behind} {i
               ∙ ap (λ (k : ℕ). sets (over r.passed b) k (added behind c)) r.counted
               ∙ over-more r.passed b (added behind c) (omega (arith, r.counted, reached-room r h c u));
         }
-
-  pub written_all : length bs ≤ i → (at ≡ length (squeezed Nothing (map f bs))) × (buf ≡ over (squeezed Nothing (map f bs)) b)
-  written_all h = (reached-all w.reached h, w.front ∙ rw (passed-all w.reached h) refl)

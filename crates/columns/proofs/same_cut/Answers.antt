@@ -1,6 +1,6 @@
 -- Each turn compares one column of both lists, which are equally long.
 use Rattle.std.proofs.Common.{arith, refl, sym, ◌∙◌}
-use Rattle.search.proofs.Alike.{alike-unequal, alike-more, alike-fails, alike-done}
+use Rattle.search.proofs.Alike.{alike-unequal, alike-fails, alike-done}
 use Rattle.columns.specs.Blank.{noColumn}
 use Rattle.columns.specs.Cut.{sameColumn, sameCut}
 use Rattle.columns.proofs.Cutting.{cut-refused, cut-accepted}
@@ -20,16 +20,6 @@ returns-then-a-b-2 c =
 pub loop-i-init : goal.loop-i-init
 unfolding sameCut
 loop-i-init c = record { even = c.if-a-b-2.false; same = refl }
-
-pub loop-i-preserved : goal.loop-i-preserved
-loop-i-preserved c =
-    let h = c.loop-i-test.true in
-    record {
-      even = c.loop-i.invariant.even;
-      same =
-          alike-more sameColumn c.args.a.now c.args.b.now _ _ _ c.loop-i.invariant.same h (omega (arith, h, c.loop-i.invariant.even))
-          (sym c.same_column.ensures ∙ c.if-not-same_column.false);
-    }
 
 pub returns-then-not-same_column : goal.returns-then-not-same_column
 returns-then-not-same_column c =
