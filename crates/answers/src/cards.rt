@@ -47,7 +47,7 @@ fn put_warnings(out: &mut impl Write, warnings: &[u8; 11]) -> io::Result<()> {
 
 // MESSAGE: its text, written to `room` first; `?` where it is refused.
 fn put_message(out: &mut impl Write, reply: &[u8], place: usize, length: usize, room: &mut [u8]) -> io::Result<()> {
-    let text = jigshard::texts::jigshard_message_text(reply, place, length, room);
+    let text = entries::texts::message_text(reply, place, length, room);
     let refusal = text.refusal;
     output::put_byte(out, b',')?;
     if refusal.number != 0 {
@@ -81,7 +81,7 @@ pub(crate) fn put_status(out: &mut impl Write, reply: &[u8], card: SqlCard, room
 
 // S: the status alone. s: where its message stands in the reply.
 pub(crate) fn put_status_alone(out: &mut impl Write, entry: u8, reply: &[u8], room: &mut [u8]) -> io::Result<bool> {
-    let answer = jigshard::status::jigshard_parse_sqlcard_data(reply);
+    let answer = entries::status::parse_sqlcard_data(reply);
     let refusal = answer.refusal;
     if refusal.number != 0 {
         output::put_refusal(out, refusal)?;
@@ -100,7 +100,7 @@ pub(crate) fn put_status_alone(out: &mut impl Write, entry: u8, reply: &[u8], ro
 
 // G: the SQLCA group and its length.
 pub(crate) fn put_group(out: &mut impl Write, reply: &[u8], room: &mut [u8]) -> io::Result<bool> {
-    let answer = jigshard::status::jigshard_consume_sqlca_group(reply);
+    let answer = entries::status::consume_sqlca_group(reply);
     let refusal = answer.refusal;
     if refusal.number != 0 {
         output::put_refusal(out, refusal)?;

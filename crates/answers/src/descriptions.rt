@@ -10,9 +10,9 @@ const RECORDS: u16 = 4096;
 
 fn described(entry: u8, code_point: u16, reply: &[u8], words: &mut [u64]) -> SqldardResult {
     if entry == b'P' {
-        return jigshard::description::jigshard_parse_sqldard(code_point, reply, words);
+        return entries::description::parse_sqldard(code_point, reply, words);
     }
-    jigshard::description::jigshard_parse_sqldard_data(reply, words)
+    entries::description::parse_sqldard_data(reply, words)
 }
 
 // `OK n=COUNT`, then the status and the columns, or the places of their texts; or the refusal.

@@ -25,7 +25,7 @@ fn put_cut_of(out: &mut impl Write, words: &[u64], middle: usize, count: usize) 
     if words.len() - middle < count {
         return puts::put_bad(out);
     }
-    let answer = jigshard::lists::jigshard_same_cut(
+    let answer = entries::lists::same_cut(
         &words[0..middle],
         &words[middle..middle + count],
     );
@@ -38,7 +38,7 @@ fn put_width_of(out: &mut impl Write, words: &[u64], end: usize) -> io::Result<b
     if words.len() < end {
         return puts::put_bad(out);
     }
-    let answer = jigshard::lists::jigshard_widest_row(&words[0..end]);
+    let answer = entries::lists::widest_row(&words[0..end]);
     put_found(out, answer.refusal, answer.count as u64)?;
     Ok(true)
 }
@@ -48,7 +48,7 @@ fn described(reply: &[u8], words: &mut [u64]) -> usize {
     if words.len() < WORDS {
         return 0;
     }
-    let count = jigshard::description::jigshard_parse_sqldard_data(
+    let count = entries::description::parse_sqldard_data(
         reply,
         &mut words[0..WORDS],
     ).count;

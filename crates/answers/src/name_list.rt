@@ -41,7 +41,7 @@ fn put_all(out: &mut impl Write, entry: u8, reply: &[u8], words: &[u64], count: 
 // A name scan for which all of `words` is lent.
 fn put_lent(out: &mut impl Write, entry: u8, reply: &[u8], room: &mut [u8], words: &mut [u64]) -> io::Result<()> {
     lent::mark_words(words);
-    let answer = jigshard::name_scan::jigshard_scan_column_names(reply, words);
+    let answer = entries::name_scan::scan_column_names(reply, words);
     let refusal = answer.refusal;
     let count = answer.count;
     puts::put_count(out, refusal, count, are_kept(words, count))?;

@@ -54,7 +54,7 @@ pub(crate) fn put_hex_first(out: &mut impl Write, bytes: &[u8], count: usize) ->
 
 // Writes a text's characters to `room`: their number, or more than there is room for where the text is not in the reply.
 fn write_text(reply: &[u8], text: Text, number: u16, room: &mut [u8]) -> usize {
-    let answer = jigshard::texts::jigshard_name_text(
+    let answer = entries::texts::name_text(
         reply,
         number,
         text.place,

@@ -3,7 +3,7 @@ use std::io;
 use std::io::Write;
 use crate::{lent, puts};
 use field::ByteOrder;
-use jigshard::{CountResult, PartResult};
+use entries::{CountResult, PartResult};
 
 // The text in what was lent and marked, or the refusal; `TOUCHED` where more than the text was written.
 fn put_lent(out: &mut impl Write, lent: &[u8], answer: CountResult) -> io::Result<()> {
@@ -20,7 +20,7 @@ fn put_lent(out: &mut impl Write, lent: &[u8], answer: CountResult) -> io::Resul
 
 fn put_message(out: &mut impl Write, reply: &[u8], place: usize, count: usize, lent: &mut [u8]) -> io::Result<()> {
     lent::mark(lent);
-    let answer = jigshard::texts::jigshard_message_text(reply, place, count, lent);
+    let answer = entries::texts::message_text(reply, place, count, lent);
     put_lent(out, lent, answer)
 }
 
@@ -68,7 +68,7 @@ fn named_in(payload: &[u8]) -> Named {
 
 fn put_name(out: &mut impl Write, reply: &[u8], named: Named, lent: &mut [u8]) -> io::Result<()> {
     lent::mark(lent);
-    let answer = jigshard::texts::jigshard_name_text(
+    let answer = entries::texts::name_text(
         reply,
         named.number,
         named.place,
@@ -108,7 +108,7 @@ pub(crate) fn put_name_part(out: &mut impl Write, payload: &[u8]) -> io::Result<
         return puts::put_bad(out);
     }
     let named = named_in(payload);
-    let answer = jigshard::texts::jigshard_name_part(
+    let answer = entries::texts::name_part(
         &payload[11..],
         named.place,
         named.count,

@@ -1,69 +1,146 @@
-// The entries for programs in other languages: the functions of the static library. Numbers, slices of numbers and structs with C's layout
-// cross the boundary; no function asks anything of its caller.
+// The static library for programs in other languages. Each function hands on to the entry of its name, and promises what that does; so programs
+// in Rattle can call the entries too, as none can depend on a static library.
 #![tactic(auto)]
 
-pub mod description;
-pub mod lists;
-pub mod name_scan;
-pub mod status;
-pub mod texts;
-
-ghost use Rattle.std.specs.Prelude.{[], ◌∷◌, ◌≡◌};
+ghost use Rattle.codepage.specs.Page.{page037};
+ghost use Rattle.column_name.specs.Name.{nameLength, nameRefusal, nameWritten};
+ghost use Rattle.column_name.specs.Part.{partRefusal, part_of};
+ghost use Rattle.column_words.specs.Words.{allWords};
+ghost use Rattle.entries.specs.Lists.{wordsCutAnswer, wordsCutRefusal, wordsRowAnswer, wordsRowRefusal};
+ghost use Rattle.entries.specs.Named.{namedColumn};
+ghost use Rattle.entries.specs.Part.{partLength, partPlace};
+ghost use Rattle.message_text.specs.Answer.{messageLength, messageRefusal, messageWritten};
+ghost use Rattle.name_words.specs.Texts.{textWords};
+ghost use Rattle.names.specs.Names.{nameScan};
 ghost use Rattle.outcome.specs.Refusal.{inNumbers};
+ghost use Rattle.plan.specs.Description.{description, withCodePoint};
+ghost use Rattle.search.specs.Search.{over};
+ghost use Rattle.sqlcard.specs.Alone.{aloneCard, aloneRefusal};
+ghost use Rattle.sqlcard.specs.Group.{groupCard, groupLength, groupRefusal};
+ghost use Rattle.std.specs.Prelude.{length, ◌/◌, ◌≡◌};
+ghost use Rattle.text.specs.Text.{textIs};
+ghost use lib.ListN.{drop, take};
 
-use outcome::Refusal;
-use sqlcard::SqlCard;
+use entries::{CountResult, CutResult, GroupResult, PartResult, SqlcardResult};
+use sqldard_words::SqldardResult;
 
-// Where a call is refused, the card is that for success.
-#[repr(C)]
-#[derive(Clone, Copy)]
-pub struct SqlcardResult {
-    pub refusal: Refusal,
-    pub card: SqlCard,
-}
-
-// The length is how many bytes the group takes, 0 where it is refused.
-#[repr(C)]
-#[derive(Clone, Copy)]
-pub struct GroupResult {
-    pub refusal: Refusal,
-    pub card: SqlCard,
-    pub length: usize,
-}
-
-// How many elements were written, or the sum that is the widest row; 0 where the call is refused.
-#[repr(C)]
-#[derive(Clone, Copy)]
-pub struct CountResult {
-    pub refusal: Refusal,
-    pub count: usize,
-}
-
-// Whether rows are cut alike; no where the call is refused.
-#[repr(C)]
-#[derive(Clone, Copy)]
-pub struct CutResult {
-    pub refusal: Refusal,
-    pub same: bool,
-}
-
-// A part of the reply; 0 and 0 where it has no bytes, and where it is refused.
-#[repr(C)]
-#[derive(Clone, Copy)]
-pub struct PartResult {
-    pub refusal: Refusal,
-    pub place: usize,
-    pub length: usize,
-}
-
-// A refusal that comes without values.
-fn refusal_alone(number: u8) -> Refusal
-    ensures { result ≡ inNumbers (number ∷ []) }
+// The entry description, with room for a column in each 22 words. Nothing is written where it refuses.
+#[unsafe(no_mangle)]
+pub extern "C" fn jigshard_parse_sqldard_data(reply: &[u8], columns: &mut [u64]) -> SqldardResult
+    ensures refuses { result.refusal ≡ inNumbers (description page037 (length columns.old / 22) reply.now).refusal }
+    ensures gives { result.card ≡ (description page037 (length columns.old / 22) reply.now).card }
+    ensures counts { result.count ≡ length (description page037 (length columns.old / 22) reply.now).columns }
+    ensures fills { columns.new ≡ over (allWords (description page037 (length columns.old / 22) reply.now).columns) columns.old }
 {
-    Refusal {
-        number,
-        count: 0,
-        first: 0,
-        second: 0,
-    }
+    entries::description::parse_sqldard_data(reply, columns)
+}
+
+// The same with the reply's code point, which must be SQLDARD's.
+#[unsafe(no_mangle)]
+pub extern "C" fn jigshard_parse_sqldard(
+    code_point: u16,
+    reply: &[u8],
+    columns: &mut [u64],
+) -> SqldardResult
+    ensures refuses { result.refusal ≡ inNumbers (withCodePoint page037 (length columns.old / 22) code_point reply.now).refusal }
+    ensures gives { result.card ≡ (withCodePoint page037 (length columns.old / 22) code_point reply.now).card }
+    ensures counts { result.count ≡ length (withCodePoint page037 (length columns.old / 22) code_point reply.now).columns }
+    ensures fills { columns.new ≡ over (allWords (withCodePoint page037 (length columns.old / 22) code_point reply.now).columns) columns.old }
+{
+    entries::description::parse_sqldard(code_point, reply, columns)
+}
+
+// The entry status alone.
+#[unsafe(no_mangle)]
+pub extern "C" fn jigshard_parse_sqlcard_data(reply: &[u8]) -> SqlcardResult
+    ensures refuses { result.refusal ≡ inNumbers (aloneRefusal reply.now) }
+    ensures gives { result.card ≡ aloneCard page037 reply.now }
+{
+    entries::status::parse_sqlcard_data(reply)
+}
+
+// The entry SQLCA group.
+#[unsafe(no_mangle)]
+pub extern "C" fn jigshard_consume_sqlca_group(reply: &[u8]) -> GroupResult
+    ensures refuses { result.refusal ≡ inNumbers (groupRefusal reply.now) }
+    ensures gives { result.card ≡ groupCard page037 reply.now }
+    ensures takes { result.length ≡ groupLength reply.now }
+{
+    entries::status::consume_sqlca_group(reply)
+}
+
+// The entry name scan, with room for a text in each 3 words. Nothing is written where it refuses.
+#[unsafe(no_mangle)]
+pub extern "C" fn jigshard_scan_column_names(reply: &[u8], names: &mut [u64]) -> CountResult
+    ensures refuses { result.refusal ≡ inNumbers (nameScan page037 (length names.old / 3) reply.now).refusal }
+    ensures counts { result.count ≡ length (nameScan page037 (length names.old / 3) reply.now).names }
+    ensures fills { names.new ≡ over (textWords (nameScan page037 (length names.old / 3) reply.now).names) names.old }
+{
+    entries::name_scan::scan_column_names(reply, names)
+}
+
+// The entry name part: where the part lies in the reply. A part without bytes lies at 0.
+#[unsafe(no_mangle)]
+pub extern "C" fn jigshard_name_part(
+    reply: &[u8],
+    place: usize,
+    length: usize,
+    alphabet: u8,
+) -> PartResult
+    ensures refuses { result.refusal ≡ inNumbers (partRefusal reply.now (textIs place length alphabet)) }
+    ensures places { result.place ≡ partPlace reply.now (textIs place length alphabet) }
+    ensures counts { result.length ≡ partLength reply.now (textIs place length alphabet) }
+    ensures gives { take result.length (drop result.place reply.now) ≡ part_of reply.now (textIs place length alphabet) }
+{
+    entries::texts::name_part(reply, place, length, alphabet)
+}
+
+// The entry name text.
+#[unsafe(no_mangle)]
+pub extern "C" fn jigshard_name_text(
+    reply: &[u8],
+    number: u16,
+    place: usize,
+    length: usize,
+    alphabet: u8,
+    buffer: &mut [u8],
+) -> CountResult
+    ensures refuses { result.refusal ≡ inNumbers (nameRefusal page037 reply.now (namedColumn number place length alphabet) (lib.ListN.length buffer.old)) }
+    ensures counts { result.count ≡ nameLength page037 reply.now (namedColumn number place length alphabet) (lib.ListN.length buffer.old) }
+    ensures leaves { buffer.new ≡ nameWritten page037 reply.now (namedColumn number place length alphabet) buffer.old }
+{
+    entries::texts::name_text(reply, number, place, length, alphabet, buffer)
+}
+
+// The entry message text.
+#[unsafe(no_mangle)]
+pub extern "C" fn jigshard_message_text(
+    reply: &[u8],
+    place: usize,
+    length: usize,
+    buffer: &mut [u8],
+) -> CountResult
+    ensures refuses { result.refusal ≡ inNumbers (messageRefusal page037 reply.now place length (lib.ListN.length buffer.old)) }
+    ensures counts { result.count ≡ messageLength page037 reply.now place length (lib.ListN.length buffer.old) }
+    ensures leaves { buffer.new ≡ messageWritten page037 reply.now place length buffer.old }
+{
+    entries::texts::message_text(reply, place, length, buffer)
+}
+
+// The entry same cut: `first` and `second` are lists of columns, 22 words each.
+#[unsafe(no_mangle)]
+pub extern "C" fn jigshard_same_cut(first: &[u64], second: &[u64]) -> CutResult
+    ensures refuses { result.refusal ≡ inNumbers (wordsCutRefusal first.now second.now) }
+    ensures gives { result.same ≡ wordsCutAnswer first.now second.now }
+{
+    entries::lists::same_cut(first, second)
+}
+
+// The entry widest row: `columns` is a list of columns, 22 words each.
+#[unsafe(no_mangle)]
+pub extern "C" fn jigshard_widest_row(columns: &[u64]) -> CountResult
+    ensures refuses { result.refusal ≡ inNumbers (wordsRowRefusal columns.now) }
+    ensures gives { result.count ≡ wordsRowAnswer columns.now }
+{
+    entries::lists::widest_row(columns)
 }

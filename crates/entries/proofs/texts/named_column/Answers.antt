@@ -1,7 +1,7 @@
 -- The blank column with its number and its name stored.
 use Rattle.std.proofs.Common.{refl}
-use Rattle.jigshard.specs.Named.{namedColumn}
-use Rattle.jigshard.proofs.texts.named_column.Goals as goal
+use Rattle.entries.specs.Named.{namedColumn}
+use Rattle.entries.proofs.texts.named_column.Goals as goal
 
 pub returns : goal.returns
 unfolding namedColumn

@@ -1,7 +1,7 @@
 -- The ways out, in the order of the refusals: 5, 255, and the lists compared.
 use Rattle.std.proofs.Common.{refl}
-use Rattle.jigshard.proofs.Answers.{cut-long, cut-unread, cut-read}
-use Rattle.jigshard.proofs.lists.jigshard_same_cut.Goals as goal
+use Rattle.entries.proofs.Answers.{cut-long, cut-unread, cut-read}
+use Rattle.entries.proofs.lists.same_cut.Goals as goal
 
 pub returns-then-first-second : goal.returns-then-first-second
 returns-then-first-second c =

@@ -8,8 +8,7 @@ ghost use Rattle.sqlcard.specs.Group.{groupRefusal, groupCard, groupLength};
 use crate::{GroupResult, SqlcardResult};
 
 // The entry status alone.
-#[unsafe(no_mangle)]
-pub extern "C" fn jigshard_parse_sqlcard_data(reply: &[u8]) -> SqlcardResult
+pub fn parse_sqlcard_data(reply: &[u8]) -> SqlcardResult
     ensures refuses { result.refusal ≡ inNumbers (aloneRefusal reply.now) }
     ensures gives { result.card ≡ aloneCard page037 reply.now }
 {
@@ -23,8 +22,7 @@ pub extern "C" fn jigshard_parse_sqlcard_data(reply: &[u8]) -> SqlcardResult
 }
 
 // The entry SQLCA group.
-#[unsafe(no_mangle)]
-pub extern "C" fn jigshard_consume_sqlca_group(reply: &[u8]) -> GroupResult
+pub fn consume_sqlca_group(reply: &[u8]) -> GroupResult
     ensures refuses { result.refusal ≡ inNumbers (groupRefusal reply.now) }
     ensures gives { result.card ≡ groupCard page037 reply.now }
     ensures takes { result.length ≡ groupLength reply.now }

@@ -7,8 +7,8 @@ ghost use Rattle.text.specs.Text.{textIs};
 ghost use Rattle.message_text.specs.Answer.{messageRefusal, messageLength, messageWritten};
 ghost use Rattle.column_name.specs.Part.{partRefusal, part_of};
 ghost use Rattle.column_name.specs.Name.{nameRefusal, nameLength, nameWritten};
-ghost use Rattle.jigshard.specs.Named.{namedColumn};
-ghost use Rattle.jigshard.specs.Part.{partPlace, partLength};
+ghost use Rattle.entries.specs.Named.{namedColumn};
+ghost use Rattle.entries.specs.Part.{partPlace, partLength};
 
 use crate::{CountResult, PartResult};
 use text::Text;
@@ -30,8 +30,7 @@ fn named_column(number: u16, place: usize, length: usize, alphabet: u8) -> Colum
 }
 
 // The entry name part: where the part lies in the reply. A part without bytes lies at 0.
-#[unsafe(no_mangle)]
-pub extern "C" fn jigshard_name_part(
+pub fn name_part(
     reply: &[u8],
     place: usize,
     length: usize,
@@ -54,8 +53,7 @@ pub extern "C" fn jigshard_name_part(
 }
 
 // The entry name text.
-#[unsafe(no_mangle)]
-pub extern "C" fn jigshard_name_text(
+pub fn name_text(
     reply: &[u8],
     number: u16,
     place: usize,
@@ -77,8 +75,7 @@ pub extern "C" fn jigshard_name_text(
 }
 
 // The entry message text.
-#[unsafe(no_mangle)]
-pub extern "C" fn jigshard_message_text(
+pub fn message_text(
     reply: &[u8],
     place: usize,
     length: usize,

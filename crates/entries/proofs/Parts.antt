@@ -13,7 +13,7 @@ use Rattle.outcome.specs.Refusal.{is_refused, inNumbers}
 use Rattle.text.specs.declared.Text.{Text}
 use Rattle.text.specs.Text.{bytes_of}
 use Rattle.column_name.specs.Part.{partRefusal, part_of}
-use Rattle.jigshard.specs.Part.{partPlace, partLength}
+use Rattle.entries.specs.Part.{partPlace, partLength}
 
 -- as many as there are at the front are those at the front
 take_counted : (n : ℕ) (l : List ℕ) → take (lib.ListN.length (take n l)) l ≡ take n l

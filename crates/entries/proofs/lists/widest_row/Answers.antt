@@ -1,7 +1,7 @@
 -- The ways out, in the order of the refusals: 5, 255, and the widths added up.
 use Rattle.std.proofs.Common.{refl, sym}
-use Rattle.jigshard.proofs.Answers.{row-long, row-unread, row_read}
-use Rattle.jigshard.proofs.lists.jigshard_widest_row.Goals as goal
+use Rattle.entries.proofs.Answers.{row-long, row-unread, row_read}
+use Rattle.entries.proofs.lists.widest_row.Goals as goal
 
 pub returns-then-columns-gt4095 : goal.returns-then-columns-gt4095
 returns-then-columns-gt4095 c =

@@ -1,7 +1,7 @@
 // Same cut and widest row, of lists of columns in words.
 ghost use Rattle.std.specs.Prelude.{◌≡◌};
 ghost use Rattle.outcome.specs.Refusal.{inNumbers};
-ghost use Rattle.jigshard.specs.Lists.{wordsCutRefusal, wordsCutAnswer, wordsRowRefusal, wordsRowAnswer};
+ghost use Rattle.entries.specs.Lists.{wordsCutRefusal, wordsCutAnswer, wordsRowRefusal, wordsRowAnswer};
 
 use crate::{CountResult, CutResult};
 
@@ -11,8 +11,7 @@ const TOO_LONG: u8 = 5;
 const NO_COLUMNS: u8 = 255;
 
 // The entry same cut: `first` and `second` are lists of columns, 22 words each.
-#[unsafe(no_mangle)]
-pub extern "C" fn jigshard_same_cut(first: &[u64], second: &[u64]) -> CutResult
+pub fn same_cut(first: &[u64], second: &[u64]) -> CutResult
     ensures refuses { result.refusal ≡ inNumbers (wordsCutRefusal first.now second.now) }
     ensures gives { result.same ≡ wordsCutAnswer first.now second.now }
 {
@@ -35,8 +34,7 @@ pub extern "C" fn jigshard_same_cut(first: &[u64], second: &[u64]) -> CutResult
 }
 
 // The entry widest row: `columns` is a list of columns, 22 words each.
-#[unsafe(no_mangle)]
-pub extern "C" fn jigshard_widest_row(columns: &[u64]) -> CountResult
+pub fn widest_row(columns: &[u64]) -> CountResult
     ensures refuses { result.refusal ≡ inNumbers (wordsRowRefusal columns.now) }
     ensures gives { result.count ≡ wordsRowAnswer columns.now }
 {

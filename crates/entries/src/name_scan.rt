@@ -9,8 +9,7 @@ ghost use Rattle.name_words.specs.Texts.{textWords};
 use crate::CountResult;
 
 // The entry name scan, with room for a text in each 3 words. Nothing is written where it refuses.
-#[unsafe(no_mangle)]
-pub extern "C" fn jigshard_scan_column_names(reply: &[u8], names: &mut [u64]) -> CountResult
+pub fn scan_column_names(reply: &[u8], names: &mut [u64]) -> CountResult
     ensures refuses { result.refusal ≡ inNumbers (nameScan page037 (length names.old / 3) reply.now).refusal }
     ensures counts { result.count ≡ length (nameScan page037 (length names.old / 3) reply.now).names }
     ensures fills { names.new ≡ over (textWords (nameScan page037 (length names.old / 3) reply.now).names) names.old }

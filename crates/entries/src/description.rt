@@ -9,8 +9,7 @@ ghost use Rattle.plan.specs.Description.{description, withCodePoint};
 use sqldard_words::SqldardResult;
 
 // The entry description, with room for a column in each 22 words. Nothing is written where it refuses.
-#[unsafe(no_mangle)]
-pub extern "C" fn jigshard_parse_sqldard_data(reply: &[u8], columns: &mut [u64]) -> SqldardResult
+pub fn parse_sqldard_data(reply: &[u8], columns: &mut [u64]) -> SqldardResult
     ensures refuses { result.refusal ≡ inNumbers (description page037 (length columns.old / 22) reply.now).refusal }
     ensures gives { result.card ≡ (description page037 (length columns.old / 22) reply.now).card }
     ensures counts { result.count ≡ length (description page037 (length columns.old / 22) reply.now).columns }
@@ -20,8 +19,7 @@ pub extern "C" fn jigshard_parse_sqldard_data(reply: &[u8], columns: &mut [u64])
 }
 
 // The same with the reply's code point, which must be SQLDARD's.
-#[unsafe(no_mangle)]
-pub extern "C" fn jigshard_parse_sqldard(
+pub fn parse_sqldard(
     code_point: u16,
     reply: &[u8],
     columns: &mut [u64],

@@ -17,7 +17,7 @@ use Rattle.columns.proofs.Summing.{row-refused}
 use Rattle.column_words.specs.Columns.{columnsIn, areColumns}
 use Rattle.column_words.proofs.Columns.{columns-length}
 use Rattle.list_words.proofs.Lists.{few}
-use Rattle.jigshard.specs.Lists.{wordsCutRefusal, wordsCutAnswer, wordsRowRefusal, wordsRowAnswer}
+use Rattle.entries.specs.Lists.{wordsCutRefusal, wordsCutAnswer, wordsRowRefusal, wordsRowAnswer}
 
 module _ (a b : List ℕ) (refusal : Refusal) (same : Bool) where
   pub cut-long : (ltb 4095 (length a / 22) || ltb 4095 (length b / 22)) ≡ true → refusal ≡ inNumbers (5 ∷ []) → same ≡ false

@@ -3,9 +3,9 @@ use Rattle.std.proofs.Common.{ap, ◌∙◌}
 use Rattle.types.specs.declared.ColumnMetadata.{ColumnMetadata}
 use Rattle.text.specs.Text.{textIs}
 use Rattle.column_name.specs.Part.{partRefusal, part_of}
-use Rattle.jigshard.specs.Named.{namedColumn}
-use Rattle.jigshard.proofs.Parts.{part-empty, part-there}
-use Rattle.jigshard.proofs.texts.jigshard_name_part.Goals as goal
+use Rattle.entries.specs.Named.{namedColumn}
+use Rattle.entries.proofs.Parts.{part-empty, part-there}
+use Rattle.entries.proofs.texts.name_part.Goals as goal
 
 pub returns-then-count-eq0 : goal.returns-then-count-eq0
 unfolding namedColumn
