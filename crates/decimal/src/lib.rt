@@ -46,6 +46,6 @@ pub fn write_decimal(number: u64, buffer: &mut [u8]) -> usize
         return 0;
     }
     let count = 24 - start;
-    buffer[0..count].copy_from_slice(&characters[start..24]);
+    buffer[0..count].copy_from_slice(&characters[start..]);
     count
 }
