@@ -18,31 +18,6 @@ use Rattle.compact.specs.Compact.{nameHere, isOther, stop_at, Stops}
 
 -- ---- a name character: the tests in any order
 
-turned3 : (a b c : Bool) → (c || b || a) ≡ (a || b || c)
-turned3 true b c = or-true (c || b)
-turned3 false b c = or-false (c || b) ∙ or_comm c b
-
-turned4 : (a b c d : Bool) → (d || c || b || a) ≡ (a || b || c || d)
-turned4 true b c d = or-true (d || c || b)
-turned4 false b c d = or-false (d || c || b) ∙ turned3 b c d
-
-turned5 : (a b c d e : Bool) → (e || d || c || b || a) ≡ (a || b || c || d || e)
-turned5 true b c d e = or-true (e || d || c || b)
-turned5 false b c d e = or-false (e || d || c || b) ∙ turned4 b c d e
-
-turned6 : (a b c d e f : Bool) → (f || e || d || c || b || a) ≡ (a || b || c || d || e || f)
-turned6 true b c d e f = or-true (f || e || d || c || b)
-turned6 false b c d e f = or-false (f || e || d || c || b) ∙ turned5 b c d e f
-
-turned7 : (a b c d e f g : Bool) → (g || f || e || d || c || b || a) ≡ (a || b || c || d || e || f || g)
-turned7 true b c d e f g = or-true (g || f || e || d || c || b)
-turned7 false b c d e f g = or-false (g || f || e || d || c || b) ∙ turned6 b c d e f g
-
-pub name-char : (c : ℕ)
-    → (eqb c 0x40 || eqb c 0x23 || eqb c 0x24 || eqb c 0x5F || (leb 0x30 c && leb c 0x39) || (leb 0x61 c && leb c 0x7A) || (leb 0x41 c && leb c 0x5A)) ≡ isNameChar c
-name-char c =
-    turned7 (leb 0x41 c && leb c 0x5A) (leb 0x61 c && leb c 0x7A) (leb 0x30 c && leb c 0x39) (eqb c 0x5F) (eqb c 0x24) (eqb c 0x23) (eqb c 0x40)
-
 -- ---- a test of k elements from q on
 
 module _ (f : ℕ → Bool) (s : List ℕ) where
@@ -79,12 +54,6 @@ module _ (f : ℕ → Bool) (s : List ℕ) where
           sym (one-fails k q t (omega arith) (rw e r.from) (omega arith) (not-true (f (get_or s t 0)) y))
 
 -- ---- where name characters stop
-
--- eight tests, each of one byte
-pub by-eight : (f : ℕ → Bool) (s : List ℕ) (q : ℕ) (a b c d e g h i : Bool) → a ≡ f (get_or s q 0) → b ≡ f (get_or s (q + 1) 0) → c ≡ f (get_or s (q + 2) 0)
-    → d ≡ f (get_or s (q + 3) 0) → e ≡ f (get_or s (q + 4) 0) → g ≡ f (get_or s (q + 5) 0) → h ≡ f (get_or s (q + 6) 0) → i ≡ f (get_or s (q + 7) 0)
-    → (not a || not b || not c || not d || not e || not g || not h || not i) ≡ inEight (λ j. not (f (get_or s j 0))) q
-by-eight f s q a b c d e g h i x0 x1 x2 x3 x4 x5 x6 x7 = rw (x0, x1, x2, x3, x4, x5, x6, x7) refl
 
 pub stop-eight : (s : List ℕ) (i e t : ℕ) → i + 8 ≤ e → inEight (isOther s) i ≡ false → t ≡ stop_at s i e → t ≡ stop_at s (i + 8) e
 unfolding stop_at

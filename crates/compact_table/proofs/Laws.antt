@@ -81,9 +81,6 @@ module _ (s : List ℕ) (p : ℕ) where
 pub ended-first : (s : List ℕ) (p : ℕ) → Ended s p true
 ended-first s p e = absurd (false≢true (sym e))
 
-pub ended_by : (s : List ℕ) (p q : ℕ) → q ≡ nextCompact s p → Ended s p (leb q (length s))
-ended_by s p q e f = let z = leb-false q (length s) f in omega arith
-
 -- what has no next, has none from a later position on
 pub ended-later : (s : List ℕ) (p q : ℕ) (more : Bool) → p ≤ q → Ended s p more → Ended s q more
 unfolding nextCompact

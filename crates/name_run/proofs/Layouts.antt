@@ -29,26 +29,6 @@ use Rattle.descriptor.proofs.Groups.{Inside, dxPair-inside}
 use Rattle.name_run.specs.declared.ScannedName.{ScannedName}
 use Rattle.name_run.specs.Layout.{isNameString, nameStrings, nameIn, hasOptions, isNamedLayout, layoutEnd, noName, scannedNameAt}
 
--- ---- the first of some strings
-
-module _ (page : Page) (s : List ℕ) (m t x : StringRead) where
-  abbrev firstName : StringRead
-  firstName = firstIn (isNameString page s) (m ∷ t ∷ x ∷ []) (noString 0)
-
-  pub first-m : isNameString page s m ≡ true → m ≡ firstName
-  first-m a = rw a refl
-
-  module _ (a : isNameString page s m ≡ false) where
-    pub first-s : isNameString page s t ≡ true → t ≡ firstName
-    first-s b = rw (a, b) refl
-
-    module _ (b : isNameString page s t ≡ false) where
-      pub first-x : isNameString page s x ≡ true → x ≡ firstName
-      first-x c = rw (a, b, c) refl
-
-      pub first-none : isNameString page s x ≡ false → noString 0 ≡ firstName
-      first-none c = rw (a, b, c) refl
-
 -- a string without bytes is no name
 empty-none : (page : Page) (s : List ℕ) (r : StringRead) → r.length ≡ 0 → isNameString page s r ≡ false
 empty-none page s r e = rw e (identifier-empty page s r.place)

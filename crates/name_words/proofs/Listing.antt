@@ -1,4 +1,4 @@
--- Names written as words, 3 a name: the loop over those that a rule lists, whose invariant is `Filling`, and what a decision lets be written.
+-- Names written as words, 3 a name: the loop over those that a rule lists, whose invariant is `Filling`.
 use mathlib.Core.Path.{◌≡◌, refl, ◌∙◌}
 use mathlib.Core.Bool.{true, false}
 use mathlib.Core.List.{List, ◌∷◌, ◌++◌, append_assoc, flat_map}
@@ -69,24 +69,3 @@ module _ (s : List ℕ) (rule : Rule) (start : Cursor) (n : ℕ) (l₀ : List �
         let z = remaining-none s rule n at i t.remaining h in
         words-over (take n (toCome s rule start)) j l l₀ (omega (arith, t.counted, z.0, length-take-le n (toCome s rule start) k))
         (writing-end (rw z.1 at t.writing))
-
--- a decision carries `wanted` out, with room for a text in each 3 of the words that are lent
-module _ {page : Page} {s : List ℕ} {d : Decision} {wanted : NameScan} (l₀ : List ℕ) (t : Decides page (length l₀ / 3) s d wanted) where
-  pub can-list-words : d.plan.listed ≡ true
-      → (WithinCursor s d.plan.cursor) × ((d.plan.count ≤ length (toCome s d.plan.rule d.plan.cursor)) × (d.plan.count * 3 ≤ length l₀))
-  can-list-words h = let c = can-list t h in (c.0, (c.1.0, omega (arith, c.1.1)))
-
-  pub can-run-words : d.plan.listed ≡ false → (d.plan.run.count ≡ length (namesOfRun page s d.plan.run)) × (d.plan.run.count * 3 ≤ length l₀)
-  can-run-words h = let c = can-run t h in (c.0, omega (arith, c.1))
-
-  whole : (names : List Text) (l : List ℕ) → l ≡ over (textWords names) l₀ → names ≡ wanted.names
-      → (refusalOf d.answer.outcome ≡ wanted.refusal) × ((d.answer.count ≡ length wanted.names) × (l ≡ over (textWords wanted.names) l₀))
-  whole names l g h = (t.refuses, (t.counts, g ∙ rw h refl))
-
-  pub listed-words : d.plan.listed ≡ true → (l : List ℕ) → l ≡ over (textWords (take d.plan.count (toCome s d.plan.rule d.plan.cursor))) l₀
-      → (refusalOf d.answer.outcome ≡ wanted.refusal) × ((d.answer.count ≡ length wanted.names) × (l ≡ over (textWords wanted.names) l₀))
-  listed-words h l g = whole (take d.plan.count (toCome s d.plan.rule d.plan.cursor)) l g (t.plans.lists h)
-
-  pub run-words : d.plan.listed ≡ false → (l : List ℕ) → l ≡ over (textWords (namesOfRun page s d.plan.run)) l₀
-      → (refusalOf d.answer.outcome ≡ wanted.refusal) × ((d.answer.count ≡ length wanted.names) × (l ≡ over (textWords wanted.names) l₀))
-  run-words h l g = whole (namesOfRun page s d.plan.run) l g (t.plans.runs h).0

@@ -140,12 +140,6 @@ counts-scan page s =
     (best-all (Counts page s) better (run_from page BigEndian s) 0 (length s - 17) no_run (counts-none page s) (counts-run page BigEndian s))
     (counts-run page LittleEndian s)
 
-pub full-limit : (x : Best) → 1 ≤ x.count → 512 ≡ limitOf x
-full-limit x h = sym (ap (λ (b : Bool). pick b 512 0) (le-leb 1 x.count h))
-
-pub no-limit : (x : Best) → x.count < 1 → 0 ≡ limitOf x
-no-limit x h = sym (ap (λ (b : Bool). pick b 512 0) (lt-leb 1 x.count h))
-
 scan-counted : (page : Page) (s : List ℕ) (b : Best) (n : ℕ) → n ≡ limitOf b → Counts page s b
     → planWith Standard b.order true b.start n (record { count = b.count; named = b.named })
     ≡ counted page s (planned Standard b.order true b.start (limitOf b))
@@ -163,22 +157,6 @@ scan-is page s r b n e f g =
 -- ---- the last reader
 
 module _ (s : List ℕ) (p n : ℕ) (e : p ≡ countAt s) (f : n ≡ number LittleEndian 2 s p) where
-  pub last-small : n ≤ 256 → p ≡ lastCountAt s
-  unfolding lastCountAt
-  last-small h = rw (← e, ← f, le-ltb 256 n h) refl
-
-  pub last-short : 256 < n → length s < p + 3 → p ≡ lastCountAt s
-  unfolding lastCountAt
-  last-short h g = rw (← e, ← f, lt-ltb 256 n h, lt-leb (p + 3) (length s) g) refl
-
-  pub last_on : 256 < n → p + 3 ≤ length s → get_or s p 0 ≡ 0xFF → p + 1 ≡ lastCountAt s
-  unfolding lastCountAt
-  last_on h g i = rw (← e, ← f, lt-ltb 256 n h, le-leb (p + 3) (length s) g, eq-eqb (get_or s p 0) 0xFF i) refl
-
-  pub last-here : 256 < n → p + 3 ≤ length s → (get_or s p 0 ≡ 0xFF → ⊥) → p ≡ lastCountAt s
-  unfolding lastCountAt
-  last-here h g i = rw (← e, ← f, lt-ltb 256 n h, le-leb (p + 3) (length s) g, ne_eqb (get_or s p 0) 0xFF i) refl
-
 module _ (page : Page) (s : List ℕ) where
   pub last_empty : (r : Plan) → r ≡ emptyPlan EmptyReply → length s ≡ 0 → r ≡ lastPlan page s
   unfolding lastPlan

@@ -52,15 +52,6 @@ module _ (l : Layout) (order : ByteOrder) (k : ℕ) (s : List ℕ) (p : ℕ) (r 
   abbrev As : Layout → Type 0
   As m = r ≡ describedBy m order k s p
 
-  pub by-standard : l ≡ Standard → r ≡ describedAt order s p → r ≡ describedBy l order k s p
-  by-standard e f = subst As (sym e) f
-
-  pub by-compact : l ≡ Compact → r ≡ compactAt s p (endBy ends.Compact k s p) → r ≡ describedBy l order k s p
-  by-compact e f = subst As (sym e) f
-
-  pub by_last : l ≡ Last → r ≡ compactAt s p (endBy ends.Last k s p) → r ≡ describedBy l order k s p
-  by_last e f = subst As (sym e) f
-
 -- ---- for the walk
 
 next-by : (page : Page) (s : List ℕ) (l : Layout) (order : ByteOrder) (k p : ℕ) → (describedBy l order k s p).next ≡ (walkBy page s l order).end k p
@@ -95,7 +86,3 @@ module _ (page : Page) (s : List ℕ) (plan : Plan) (k p : ℕ) where
 pub next-is : (page : Page) (s : List ℕ) (plan : Plan) (k p : ℕ) (d : Described) → d ≡ describedBy plan.layout plan.order k s p
     → d.next ≡ (walk_of page s plan).end k p
 next-is page s plan k p d e = ap (λ (x : Described). x.next) e ∙ described-next page s plan k p
-
-pub numbers-are : (page : Page) (s : List ℕ) (i : ℕ) (d d' : Described) (l rest : List ℕ) → d ≡ d' → l ≡ numbersOf page s i d ++ rest
-    → l ≡ numbersOf page s i d' ++ rest
-numbers-are page s i d d' l rest e f = f ∙ ap (λ (x : Described). numbersOf page s i x ++ rest) e

@@ -26,12 +26,9 @@ module _ {A : Type 0} (t b : List A) where
       let z : length b ≤ length t = omega arith in
       rw (drop_of_length-le b z) (append-nil t)
 
-  -- as the toolchain's `bytes::copy` says it
+  -- written whole: its elements, and what lies past them
   pub over-copied : take (length t) t ++ drop (length t) b ≡ over t b
   over-copied = rw (take-length t) refl
-
-  pub copied-whole : length t ≡ length b → take (length t) t ++ drop (length t) b ≡ t
-  copied-whole h = over-copied ∙ over-whole h
 
 -- an element of a list that was mapped
 pub get_d_map : {A B : Type 0} (f : A → B) (l : List A) (i : ℕ) (d : A) (e : B) → i < length l → get_or (map f l) i e ≡ f (get_or l i d)

@@ -1,4 +1,4 @@
--- The extension: a list of six numbers, the warnings that were copied, and the ways out of its reader.
+-- The extension: its warnings where they are there, and the ways out of its reader.
 use mathlib.Core.Path.{◌≡◌, sym, ap, subst, ◌∙◌}
 use mathlib.Core.Bool.{Bool, true, false, not}
 use mathlib.Core.List.{List, [], ◌∷◌}
@@ -14,18 +14,10 @@ use Rattle.field.specs.Numbers.{number, signed}
 use Rattle.sqlca.specs.Code.{numbersOrder}
 use Rattle.sqlca.specs.Extension.{isExtended, numbersFrom, rows_of, warningsOf, noExtension, extensionIn, extensionOf}
 
--- equal numbers make equal lists of six
-pub six : {a b c d e f a' b' c' d' e' f' : ℤ} → a ≡ a' → b ≡ b' → c ≡ c' → d ≡ d' → e ≡ e' → f ≡ f'
-    → ◌≡◌ {A = List ℤ} (a ∷ b ∷ c ∷ d ∷ e ∷ f ∷ []) (a' ∷ b' ∷ c' ∷ d' ∷ e' ∷ f' ∷ [])
-six p q r s t u = λ i. p i ∷ q i ∷ r i ∷ s i ∷ t i ∷ u i ∷ []
-
 -- ---- warnings
 
 pub warnings-there : (s : List ℕ) → 54 ≤ length s → warningsOf s ≡ take 11 (drop 43 s)
 warnings-there s h = ap (λ (b : Bool). pick b (take 11 (drop 43 s)) (replicate 11 0)) (le-leb 54 (length s) h)
-
-pub warnings-none : (s : List ℕ) → length s < 54 → warningsOf s ≡ replicate 11 0
-warnings-none s h = ap (λ (b : Bool). pick b (take 11 (drop 43 s)) (replicate 11 0)) (lt-leb 54 (length s) h)
 
 -- ---- the reader's ways out
 

@@ -19,11 +19,6 @@ use Rattle.sqlcard.specs.declared.SqlCard.{SqlCard}
 use Rattle.sqlcard.specs.Card.{successCard, cardWith}
 use Rattle.sqlcard.specs.Alone.{startsNull, is_null, stringsStart, aloneEnd, aloneMessage, aloneRefusal, aloneCard}
 
--- an empty reply does not start with FF
-pub empty-not-null : (s : List ℕ) → length s ≡ 0 → false ≡ startsNull s
-empty-not-null [] h = refl
-empty-not-null (b ∷ bs) h = absurd (omega arith)
-
 pub null-not-empty : (s : List ℕ) → startsNull s ≡ true → 0 < length s
 null-not-empty [] e = absurd (true≢false (sym e))
 null-not-empty (b ∷ bs) e = omega arith

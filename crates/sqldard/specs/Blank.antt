@@ -1,7 +1,0 @@
--- The record that stands for what is past the end of a list of columns.
-use Rattle.types.specs.declared.ColumnMetadata.{ColumnMetadata}
-use Rattle.column.specs.Column.{blankColumn}
-
--- a list is never read past its end: any record will do (01, Answers: a record holds ..)
-abbrev pub noColumn : ColumnMetadata
-noColumn = blankColumn
