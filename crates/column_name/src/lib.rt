@@ -46,8 +46,7 @@ fn own_bytes<'a>(reply: &'a [u8], name: Text) -> &'a [u8]
     &reply[place..end]
 }
 
-// The entry name part. The number of the refusal goes to `refusal`, as an enum can neither hold the part nor be lent; it is 0 where the part is
-// given, and the part is empty where it is not.
+// The entry name part. The number of the refusal goes to `refusal`: 0 where the part is given; the part is empty where it is not.
 pub fn name_part<'a>(reply: &'a [u8], column: ColumnMetadata, refusal: &mut u8) -> &'a [u8]
     ensures refuses { refusal.new ∷ [] ≡ partRefusal reply.now column.name }
     ensures gives { result.now ≡ part_of reply.now column.name }
