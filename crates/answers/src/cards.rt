@@ -1,9 +1,9 @@
 // The entries that read a status record, S, s and G, and how one is written:
 // ` st=NULL,CODE,STATE,PROC,E1/E2/E3/E4/E5/E6,FETCHED,UPDATED,WARNINGS,MESSAGE`.
-use std::io;
-use std::io::Write;
 use crate::puts;
 use sqlcard::SqlCard;
+use std::io;
+use std::io::Write;
 
 // NULL and CODE.
 fn put_code(out: &mut impl Write, is_null: bool, sqlcode: i32) -> io::Result<()> {
@@ -14,7 +14,12 @@ fn put_code(out: &mut impl Write, is_null: bool, sqlcode: i32) -> io::Result<()>
 }
 
 // STATE and PROC: of SQLERRPROC as many bytes as the record has.
-fn put_state(out: &mut impl Write, state: &[u8; 5], procedure: &[u8; 8], count: u8) -> io::Result<()> {
+fn put_state(
+    out: &mut impl Write,
+    state: &[u8; 5],
+    procedure: &[u8; 8],
+    count: u8,
+) -> io::Result<()> {
     output::put_byte(out, b',')?;
     puts::put_hex(out, state)?;
     output::put_byte(out, b',')?;
@@ -46,7 +51,13 @@ fn put_warnings(out: &mut impl Write, warnings: &[u8; 11]) -> io::Result<()> {
 }
 
 // MESSAGE: its text, written to `room` first; `?` where it is refused.
-fn put_message(out: &mut impl Write, reply: &[u8], place: usize, length: usize, room: &mut [u8]) -> io::Result<()> {
+fn put_message(
+    out: &mut impl Write,
+    reply: &[u8],
+    place: usize,
+    length: usize,
+    room: &mut [u8],
+) -> io::Result<()> {
     let text = entries::texts::message_text(reply, place, length, room);
     let refusal = text.refusal;
     output::put_byte(out, b',')?;
@@ -73,14 +84,24 @@ fn put_second(out: &mut impl Write, card: SqlCard) -> io::Result<()> {
     put_warnings(out, &warnings)
 }
 
-pub(crate) fn put_status(out: &mut impl Write, reply: &[u8], card: SqlCard, room: &mut [u8]) -> io::Result<()> {
+pub(crate) fn put_status(
+    out: &mut impl Write,
+    reply: &[u8],
+    card: SqlCard,
+    room: &mut [u8],
+) -> io::Result<()> {
     put_first(out, card)?;
     put_second(out, card)?;
     put_message(out, reply, card.message_place, card.message_length, room)
 }
 
 // S: the status alone. s: where its message stands in the reply.
-pub(crate) fn put_status_alone(out: &mut impl Write, entry: u8, reply: &[u8], room: &mut [u8]) -> io::Result<bool> {
+pub(crate) fn put_status_alone(
+    out: &mut impl Write,
+    entry: u8,
+    reply: &[u8],
+    room: &mut [u8],
+) -> io::Result<bool> {
     let answer = entries::status::parse_sqlcard_data(reply);
     let refusal = answer.refusal;
     if refusal.number != 0 {

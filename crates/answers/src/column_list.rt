@@ -1,9 +1,9 @@
 // Columns as lines have them: ` C NUMBER NAME TYPE CODE LENGTH NULLABLE PRECISION SCALE CCSID ORDER BASE SCHEMA LABEL`,
 // or the places of their texts.
-use std::io;
-use std::io::Write;
 use crate::{lent, puts, type_values};
 use field::ByteOrder;
+use std::io;
+use std::io::Write;
 use types::ColumnMetadata;
 
 // Where the texts of a column start in its words.
@@ -23,13 +23,24 @@ fn put_order(out: &mut impl Write, order: ByteOrder) -> io::Result<()> {
 }
 
 // A text of the first column.
-fn put_text(out: &mut impl Write, reply: &[u8], columns: &[u64], at: usize, room: &mut [u8]) -> io::Result<()> {
+fn put_text(
+    out: &mut impl Write,
+    reply: &[u8],
+    columns: &[u64],
+    at: usize,
+    room: &mut [u8],
+) -> io::Result<()> {
     let text = output::text_in(columns, at);
     puts::put_text(out, reply, text, output::number_in(columns), room)
 }
 
 // ` C NUMBER NAME`.
-fn put_front(out: &mut impl Write, reply: &[u8], columns: &[u64], room: &mut [u8]) -> io::Result<()> {
+fn put_front(
+    out: &mut impl Write,
+    reply: &[u8],
+    columns: &[u64],
+    room: &mut [u8],
+) -> io::Result<()> {
     output::put_bytes(out, b" C")?;
     output::put_value(out, output::number_in(columns) as u64)?;
     put_text(out, reply, columns, NAME, room)
@@ -58,13 +69,23 @@ fn put_numbers(out: &mut impl Write, column: ColumnMetadata) -> io::Result<()> {
 }
 
 // ` BASE SCHEMA LABEL`.
-fn put_texts(out: &mut impl Write, reply: &[u8], columns: &[u64], room: &mut [u8]) -> io::Result<()> {
+fn put_texts(
+    out: &mut impl Write,
+    reply: &[u8],
+    columns: &[u64],
+    room: &mut [u8],
+) -> io::Result<()> {
     put_text(out, reply, columns, BASE, room)?;
     put_text(out, reply, columns, SCHEMA, room)?;
     put_text(out, reply, columns, LABEL, room)
 }
 
-fn put_column(out: &mut impl Write, reply: &[u8], columns: &[u64], room: &mut [u8]) -> io::Result<()> {
+fn put_column(
+    out: &mut impl Write,
+    reply: &[u8],
+    columns: &[u64],
+    room: &mut [u8],
+) -> io::Result<()> {
     put_front(out, reply, columns, room)?;
     put_type(out, column_words::column_in(columns, 0))?;
     put_numbers(out, column_words::column_in(columns, 0))?;
@@ -80,7 +101,13 @@ fn put_places(out: &mut impl Write, columns: &[u64]) -> io::Result<()> {
 }
 
 // The first `count` columns of a list.
-pub(crate) fn put_columns(out: &mut impl Write, reply: &[u8], words: &[u64], count: usize, room: &mut [u8]) -> io::Result<()> {
+pub(crate) fn put_columns(
+    out: &mut impl Write,
+    reply: &[u8],
+    words: &[u64],
+    count: usize,
+    room: &mut [u8],
+) -> io::Result<()> {
     for i in 0..count {
         put_column(out, reply, output::columns_from(words, i), room)?;
     }

@@ -1,9 +1,9 @@
 // The entries that list columns: D, L, P and d.
-use std::io;
-use std::io::Write;
 use crate::{cards, column_list, lent, puts};
 use field::ByteOrder;
 use sqldard_words::SqldardResult;
+use std::io;
+use std::io::Write;
 
 // The records that are lent at most.
 const RECORDS: u16 = 4096;
@@ -16,7 +16,14 @@ fn described(entry: u8, code_point: u16, reply: &[u8], words: &mut [u64]) -> Sql
 }
 
 // `OK n=COUNT`, then the status and the columns, or the places of their texts; or the refusal.
-fn put_described(out: &mut impl Write, entry: u8, reply: &[u8], answer: SqldardResult, words: &[u64], room: &mut [u8]) -> io::Result<()> {
+fn put_described(
+    out: &mut impl Write,
+    entry: u8,
+    reply: &[u8],
+    answer: SqldardResult,
+    words: &[u64],
+    room: &mut [u8],
+) -> io::Result<()> {
     let refusal = answer.refusal;
     let card = answer.card;
     let count = answer.count;
@@ -32,19 +39,29 @@ fn put_described(out: &mut impl Write, entry: u8, reply: &[u8], answer: SqldardR
 }
 
 // A description for which all of `words` is lent.
-fn put_lent(out: &mut impl Write, entry: u8, code_point: u16, reply: &[u8], room: &mut [u8], words: &mut [u64]) -> io::Result<()> {
+fn put_lent(
+    out: &mut impl Write,
+    entry: u8,
+    code_point: u16,
+    reply: &[u8],
+    room: &mut [u8],
+    words: &mut [u64],
+) -> io::Result<()> {
     lent::mark_words(words);
     let answer = described(entry, code_point, reply, words);
     put_described(out, entry, reply, answer, words, room)
 }
 
 // One for which as many records are lent.
-fn put_list(out: &mut impl Write, entry: u8,
+fn put_list(
+    out: &mut impl Write,
+    entry: u8,
     code_point: u16,
     reply: &[u8],
     records: u16,
     room: &mut [u8],
-    words: &mut [u64],) -> io::Result<bool> {
+    words: &mut [u64],
+) -> io::Result<bool> {
     let end = 22 * records as usize;
     if RECORDS < records {
         return puts::put_bad(out);
@@ -57,10 +74,13 @@ fn put_list(out: &mut impl Write, entry: u8,
 }
 
 // D and d: the reply. L: how many records are lent, and the reply. P: the code point, and the reply.
-pub(crate) fn put_description(out: &mut impl Write, entry: u8,
+pub(crate) fn put_description(
+    out: &mut impl Write,
+    entry: u8,
     payload: &[u8],
     room: &mut [u8],
-    words: &mut [u64],) -> io::Result<bool> {
+    words: &mut [u64],
+) -> io::Result<bool> {
     if (entry == b'D') | (entry == b'd') {
         return put_list(out, entry, 0, payload, RECORDS, room, words);
     }

@@ -1,9 +1,9 @@
 // The entries that ask of lists of columns: C and W of described replies, Q and R of records in the payload.
-use std::io;
-use std::io::Write;
 use crate::{puts, records};
 use field::ByteOrder;
 use outcome::Refusal;
+use std::io;
+use std::io::Write;
 
 // The words of the 4,096 records that are lent for a description.
 const WORDS: usize = 90_112;
@@ -18,17 +18,19 @@ fn put_found(out: &mut impl Write, refusal: Refusal, value: u64) -> io::Result<(
 }
 
 // Same cut of two lists: 1 or 0. The first takes the words up to `middle`, the second `count` words from there on.
-fn put_cut_of(out: &mut impl Write, words: &[u64], middle: usize, count: usize) -> io::Result<bool> {
+fn put_cut_of(
+    out: &mut impl Write,
+    words: &[u64],
+    middle: usize,
+    count: usize,
+) -> io::Result<bool> {
     if words.len() < middle {
         return puts::put_bad(out);
     }
     if words.len() - middle < count {
         return puts::put_bad(out);
     }
-    let answer = entries::lists::same_cut(
-        &words[0..middle],
-        &words[middle..middle + count],
-    );
+    let answer = entries::lists::same_cut(&words[0..middle], &words[middle..middle + count]);
     put_found(out, answer.refusal, answer.same as u64)?;
     Ok(true)
 }
@@ -48,10 +50,7 @@ fn described(reply: &[u8], words: &mut [u64]) -> usize {
     if words.len() < WORDS {
         return 0;
     }
-    let count = entries::description::parse_sqldard_data(
-        reply,
-        &mut words[0..WORDS],
-    ).count;
+    let count = entries::description::parse_sqldard_data(reply, &mut words[0..WORDS]).count;
     if 4096 < count {
         return 0;
     }
@@ -59,7 +58,12 @@ fn described(reply: &[u8], words: &mut [u64]) -> usize {
 }
 
 // The lists that two replies describe, one behind the other in `words`.
-fn put_cut_of_replies(out: &mut impl Write, first: &[u8], second: &[u8], words: &mut [u64]) -> io::Result<bool> {
+fn put_cut_of_replies(
+    out: &mut impl Write,
+    first: &[u8],
+    second: &[u8],
+    words: &mut [u64],
+) -> io::Result<bool> {
     let middle = described(first, words);
     if words.len() < middle {
         return puts::put_bad(out);
@@ -69,7 +73,11 @@ fn put_cut_of_replies(out: &mut impl Write, first: &[u8], second: &[u8], words: 
 }
 
 // C: same cut. In front of the two replies stands the length of the first.
-pub(crate) fn put_same_cut(out: &mut impl Write, payload: &[u8], words: &mut [u64]) -> io::Result<bool> {
+pub(crate) fn put_same_cut(
+    out: &mut impl Write,
+    payload: &[u8],
+    words: &mut [u64],
+) -> io::Result<bool> {
     if payload.len() < 4 {
         return puts::put_bad(out);
     }
@@ -81,13 +89,22 @@ pub(crate) fn put_same_cut(out: &mut impl Write, payload: &[u8], words: &mut [u6
 }
 
 // W: the widest row of the list that a reply describes.
-pub(crate) fn put_widest_row(out: &mut impl Write, reply: &[u8], words: &mut [u64]) -> io::Result<bool> {
+pub(crate) fn put_widest_row(
+    out: &mut impl Write,
+    reply: &[u8],
+    words: &mut [u64],
+) -> io::Result<bool> {
     let end = described(reply, words);
     put_width_of(out, words, end)
 }
 
 // The two lists' bytes, if they are records; their words as those of two replies.
-fn put_cut_of_lists(out: &mut impl Write, first: &[u8], second: &[u8], words: &mut [u64]) -> io::Result<bool> {
+fn put_cut_of_lists(
+    out: &mut impl Write,
+    first: &[u8],
+    second: &[u8],
+    words: &mut [u64],
+) -> io::Result<bool> {
     let middle = records::fill_records(first, words);
     if words.len() < middle {
         return puts::put_bad(out);
@@ -105,7 +122,11 @@ fn counted(bytes: &[u8]) -> usize {
 }
 
 // Q: same cut of two lists of records, each after its count.
-pub(crate) fn put_same_cut_of_records(out: &mut impl Write, payload: &[u8], words: &mut [u64]) -> io::Result<bool> {
+pub(crate) fn put_same_cut_of_records(
+    out: &mut impl Write,
+    payload: &[u8],
+    words: &mut [u64],
+) -> io::Result<bool> {
     let first = counted(payload);
     if payload.len() < first {
         return puts::put_bad(out);
@@ -120,7 +141,11 @@ pub(crate) fn put_same_cut_of_records(out: &mut impl Write, payload: &[u8], word
 }
 
 // R: the widest row of records.
-pub(crate) fn put_widest_row_of_records(out: &mut impl Write, payload: &[u8], words: &mut [u64]) -> io::Result<bool> {
+pub(crate) fn put_widest_row_of_records(
+    out: &mut impl Write,
+    payload: &[u8],
+    words: &mut [u64],
+) -> io::Result<bool> {
     let end = records::fill_records(payload, words);
     put_width_of(out, words, end)
 }

@@ -19,9 +19,17 @@ use std::io;
 use std::io::{BufReader, BufWriter, Read, Write};
 
 // Answers a case, false where it is malformed: an entry is a function and an arm. `room` is lent for texts, `words` for lists.
-fn put_answer(out: &mut impl Write, entry: u8, payload: &[u8], room: &mut [u8], words: &mut [u64]) -> io::Result<bool> {
+fn put_answer(
+    out: &mut impl Write,
+    entry: u8,
+    payload: &[u8],
+    room: &mut [u8],
+    words: &mut [u64],
+) -> io::Result<bool> {
     match entry {
-        b'D' | b'd' | b'L' | b'P' => descriptions::put_description(out, entry, payload, room, words),
+        b'D' | b'd' | b'L' | b'P' => descriptions::put_description(
+            out, entry, payload, room, words,
+        ),
         b'S' | b's' => cards::put_status_alone(out, entry, payload, room),
         b'G' => cards::put_group(out, payload, room),
         b'N' | b'n' => name_list::put_names(out, entry, payload, room, words),

@@ -1,7 +1,7 @@
 // The entries that scan for names: N and n.
+use crate::{lent, puts};
 use std::io;
 use std::io::Write;
-use crate::{lent, puts};
 use text::Text;
 
 // The words of the 8,192 texts that are lent.
@@ -24,14 +24,27 @@ fn are_kept(words: &[u64], count: usize) -> bool {
 }
 
 // A name as its characters, or as its place.
-fn put_name(out: &mut impl Write, entry: u8, reply: &[u8], name: Text, room: &mut [u8]) -> io::Result<()> {
+fn put_name(
+    out: &mut impl Write,
+    entry: u8,
+    reply: &[u8],
+    name: Text,
+    room: &mut [u8],
+) -> io::Result<()> {
     if entry == b'n' {
         return puts::put_text_place(out, name);
     }
     puts::put_text(out, reply, name, 0, room)
 }
 
-fn put_all(out: &mut impl Write, entry: u8, reply: &[u8], words: &[u64], count: usize, room: &mut [u8]) -> io::Result<()> {
+fn put_all(
+    out: &mut impl Write,
+    entry: u8,
+    reply: &[u8],
+    words: &[u64],
+    count: usize,
+    room: &mut [u8],
+) -> io::Result<()> {
     for i in 0..count {
         put_name(out, entry, reply, name_in(words, i), room)?;
     }
@@ -39,7 +52,13 @@ fn put_all(out: &mut impl Write, entry: u8, reply: &[u8], words: &[u64], count: 
 }
 
 // A name scan for which all of `words` is lent.
-fn put_lent(out: &mut impl Write, entry: u8, reply: &[u8], room: &mut [u8], words: &mut [u64]) -> io::Result<()> {
+fn put_lent(
+    out: &mut impl Write,
+    entry: u8,
+    reply: &[u8],
+    room: &mut [u8],
+    words: &mut [u64],
+) -> io::Result<()> {
     lent::mark_words(words);
     let answer = entries::name_scan::scan_column_names(reply, words);
     let refusal = answer.refusal;
@@ -49,7 +68,13 @@ fn put_lent(out: &mut impl Write, entry: u8, reply: &[u8], room: &mut [u8], word
 }
 
 // N: the names. n: where they stand in the reply.
-pub(crate) fn put_names(out: &mut impl Write, entry: u8, reply: &[u8], room: &mut [u8], words: &mut [u64]) -> io::Result<bool> {
+pub(crate) fn put_names(
+    out: &mut impl Write,
+    entry: u8,
+    reply: &[u8],
+    room: &mut [u8],
+    words: &mut [u64],
+) -> io::Result<bool> {
     let end = WORDS as usize;
     if words.len() < end {
         return puts::put_bad(out);

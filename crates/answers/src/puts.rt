@@ -1,7 +1,7 @@
 // What lines are made of.
+use outcome::Refusal;
 use std::io;
 use std::io::Write;
-use outcome::Refusal;
 use text::Text;
 
 // The line for a malformed case, which is the last one: hence false.
@@ -72,14 +72,25 @@ fn write_text(reply: &[u8], text: Text, number: u16, room: &mut [u8]) -> usize {
 
 // A blank and a text's characters in hex, `?` where it is not in the reply. `number` is
 // its column's, for a generated name; `room` is for the text.
-pub(crate) fn put_text(out: &mut impl Write, reply: &[u8], text: Text, number: u16, room: &mut [u8]) -> io::Result<()> {
+pub(crate) fn put_text(
+    out: &mut impl Write,
+    reply: &[u8],
+    text: Text,
+    number: u16,
+    room: &mut [u8],
+) -> io::Result<()> {
     output::put_byte(out, b' ')?;
     let count = write_text(reply, text, number, room);
     put_hex_first(out, room, count)
 }
 
 // `OK n=COUNT` of what was written to a list, or the refusal; `TOUCHED` where more than that was written.
-pub(crate) fn put_count(out: &mut impl Write, refusal: Refusal, count: usize, kept: bool) -> io::Result<()> {
+pub(crate) fn put_count(
+    out: &mut impl Write,
+    refusal: Refusal,
+    count: usize,
+    kept: bool,
+) -> io::Result<()> {
     if !kept {
         return output::put_bytes(out, b"TOUCHED");
     }

@@ -1,9 +1,9 @@
 // The entries that give a text, written into what they are lent, or a part of the reply: M, T and U.
+use crate::{lent, puts};
+use entries::{CountResult, PartResult};
+use field::ByteOrder;
 use std::io;
 use std::io::Write;
-use crate::{lent, puts};
-use field::ByteOrder;
-use entries::{CountResult, PartResult};
 
 // The text in what was lent and marked, or the refusal; `TOUCHED` where more than the text was written.
 fn put_lent(out: &mut impl Write, lent: &[u8], answer: CountResult) -> io::Result<()> {
@@ -18,14 +18,24 @@ fn put_lent(out: &mut impl Write, lent: &[u8], answer: CountResult) -> io::Resul
     puts::put_hex_first(out, lent, answer.count)
 }
 
-fn put_message(out: &mut impl Write, reply: &[u8], place: usize, count: usize, lent: &mut [u8]) -> io::Result<()> {
+fn put_message(
+    out: &mut impl Write,
+    reply: &[u8],
+    place: usize,
+    count: usize,
+    lent: &mut [u8],
+) -> io::Result<()> {
     lent::mark(lent);
     let answer = entries::texts::message_text(reply, place, count, lent);
     put_lent(out, lent, answer)
 }
 
 // M: a message's text. In front of the reply stand its place, its length and how many bytes are lent.
-pub(crate) fn put_message_text(out: &mut impl Write, payload: &[u8], room: &mut [u8]) -> io::Result<bool> {
+pub(crate) fn put_message_text(
+    out: &mut impl Write,
+    payload: &[u8],
+    room: &mut [u8],
+) -> io::Result<bool> {
     if payload.len() < 10 {
         return puts::put_bad(out);
     }
@@ -80,7 +90,11 @@ fn put_name(out: &mut impl Write, reply: &[u8], named: Named, lent: &mut [u8]) -
 }
 
 // T: a name's text. In front of the reply stand the column's number, its name's place, length and alphabet, and how many bytes are lent.
-pub(crate) fn put_name_text(out: &mut impl Write, payload: &[u8], room: &mut [u8]) -> io::Result<bool> {
+pub(crate) fn put_name_text(
+    out: &mut impl Write,
+    payload: &[u8],
+    room: &mut [u8],
+) -> io::Result<bool> {
     if payload.len() < 13 {
         return puts::put_bad(out);
     }

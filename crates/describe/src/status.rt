@@ -1,8 +1,8 @@
 // A reply in words: its status and size; or, alone, why it was refused.
-use std::io;
-use std::io::Write;
 use outcome::Refusal;
 use sqlcard::SqlCard;
+use std::io;
+use std::io::Write;
 
 // `1 row`, `2 rows`.
 fn put_counted(out: &mut impl Write, count: usize, word: &[u8]) -> io::Result<()> {

@@ -2,6 +2,7 @@
 // A name of Db2 has at most 128 bytes. A longer text is put whole, and moves the rest of its own line only.
 use std::io;
 use std::io::Write;
+
 const WIDEST: usize = 128;
 
 // The cells of numbers in a row: a type has at most 17 characters, and is at most 128 wide.
@@ -110,7 +111,13 @@ fn put_text(out: &mut impl Write, reply: &[u8], columns: &[u64], at: usize) -> i
 }
 
 // A text and its gap.
-fn put_text_cell(out: &mut impl Write, reply: &[u8], columns: &[u64], at: usize, width: usize) -> io::Result<()> {
+fn put_text_cell(
+    out: &mut impl Write,
+    reply: &[u8],
+    columns: &[u64],
+    at: usize,
+    width: usize,
+) -> io::Result<()> {
     put_text(out, reply, columns, at)?;
     put_gap(out, text_width(columns, at), width)
 }
@@ -145,7 +152,13 @@ fn put_row(out: &mut impl Write, reply: &[u8], columns: &[u64], widths: Widths) 
     output::put_byte(out, b'\n')
 }
 
-fn put_rows(out: &mut impl Write, reply: &[u8], words: &[u64], count: usize, widths: Widths) -> io::Result<()> {
+fn put_rows(
+    out: &mut impl Write,
+    reply: &[u8],
+    words: &[u64],
+    count: usize,
+    widths: Widths,
+) -> io::Result<()> {
     for i in 0..count {
         put_row(out, reply, output::columns_from(words, i), widths)?;
     }
@@ -153,7 +166,12 @@ fn put_rows(out: &mut impl Write, reply: &[u8], words: &[u64], count: usize, wid
 }
 
 // The size, and the table of the first `count` columns of a list; none where there are none.
-pub(crate) fn put_table(out: &mut impl Write, reply: &[u8], words: &[u64], count: usize) -> io::Result<()> {
+pub(crate) fn put_table(
+    out: &mut impl Write,
+    reply: &[u8],
+    words: &[u64],
+    count: usize,
+) -> io::Result<()> {
     crate::status::put_size(out, count, reply.len())?;
     if count == 0 {
         return Ok(());

@@ -19,11 +19,7 @@ pub fn parse_sqldard_data(reply: &[u8], columns: &mut [u64]) -> SqldardResult
 }
 
 // The same with the reply's code point, which must be SQLDARD's.
-pub fn parse_sqldard(
-    code_point: u16,
-    reply: &[u8],
-    columns: &mut [u64],
-) -> SqldardResult
+pub fn parse_sqldard(code_point: u16, reply: &[u8], columns: &mut [u64]) -> SqldardResult
     ensures refuses { result.refusal ≡ inNumbers (withCodePoint page037 (length columns.old / 22) code_point reply.now).refusal }
     ensures gives { result.card ≡ (withCodePoint page037 (length columns.old / 22) code_point reply.now).card }
     ensures counts { result.count ≡ length (withCodePoint page037 (length columns.old / 22) code_point reply.now).columns }

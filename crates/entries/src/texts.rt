@@ -30,12 +30,7 @@ fn named_column(number: u16, place: usize, length: usize, alphabet: u8) -> Colum
 }
 
 // The entry name part: where the part lies in the reply. A part without bytes lies at 0.
-pub fn name_part(
-    reply: &[u8],
-    place: usize,
-    length: usize,
-    alphabet: u8,
-) -> PartResult
+pub fn name_part(reply: &[u8], place: usize, length: usize, alphabet: u8) -> PartResult
     ensures refuses { result.refusal ≡ inNumbers (partRefusal reply.now (textIs place length alphabet)) }
     ensures places { result.place ≡ partPlace reply.now (textIs place length alphabet) }
     ensures counts { result.length ≡ partLength reply.now (textIs place length alphabet) }
@@ -75,12 +70,7 @@ pub fn name_text(
 }
 
 // The entry message text.
-pub fn message_text(
-    reply: &[u8],
-    place: usize,
-    length: usize,
-    buffer: &mut [u8],
-) -> CountResult
+pub fn message_text(reply: &[u8], place: usize, length: usize, buffer: &mut [u8]) -> CountResult
     ensures refuses { result.refusal ≡ inNumbers (messageRefusal page037 reply.now place length (lib.ListN.length buffer.old)) }
     ensures counts { result.count ≡ messageLength page037 reply.now place length (lib.ListN.length buffer.old) }
     ensures leaves { buffer.new ≡ messageWritten page037 reply.now place length buffer.old }

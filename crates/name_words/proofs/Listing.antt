@@ -1,27 +1,19 @@
 -- Names written as words, 3 a name: the loop over those that a rule lists, whose invariant is `Filling`.
 use mathlib.Core.Path.{◌≡◌, refl, ◌∙◌}
-use mathlib.Core.Bool.{true, false}
 use mathlib.Core.List.{List, ◌∷◌, ◌++◌, append_assoc, flat_map}
-use Prim.Native.Nat.{ℕ, suc, ◌+◌, ◌-◌, ◌*◌, ◌/◌, ◌≤◌, ◌<◌}
+use Prim.Native.Nat.{ℕ, suc, ◌+◌, ◌-◌, ◌*◌, ◌≤◌, ◌<◌}
 use native.Mathlib.Numerals.{add-one}
 use native.Mathlib.Omega.{arith}
 use lib.ListN.{length, take, drop, set}
 use lib.Seq.{sets-eq, length-take-le}
 use Rattle.search.specs.Search.{over}
 use Rattle.search.proofs.Writing.{Writing, writing_start, writing-block, writing-end, blocks-length}
-use Rattle.codepage.specs.Page.{Page}
-use Rattle.outcome.specs.Refusal.{refusalOf}
 use Rattle.text.specs.declared.Text.{Text}
 use Rattle.candidates.specs.View.{shown}
 use Rattle.listing.specs.declared.Rule.{Rule}
 use Rattle.listing.specs.declared.Cursor.{Cursor}
 use Rattle.listing.specs.Listing.{toCome, WithinCursor}
-use Rattle.name_run.specs.Run.{namesOfRun}
-use Rattle.names.specs.declared.Decision.{Decision}
-use Rattle.names.specs.Names.{NameScan}
-use Rattle.names.specs.Decision.{Decides}
 use Rattle.names.proofs.Listed.{Remaining, remaining-all, remaining-next, remaining-more, remaining-none}
-use Rattle.names.proofs.Deciding.{can-list, can-run}
 use Rattle.name_words.specs.Texts.{wordsOfText, textWords}
 
 -- a text's words are stored one by one

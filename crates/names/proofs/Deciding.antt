@@ -1,23 +1,12 @@
 -- The name scan's answer by its cases.
-use mathlib.Core.Path.{◌≡◌, refl, sym, ap, ◌∙◌}
-use mathlib.Core.Bool.{true, false, false≢true}
-use mathlib.Core.List.{List, [], ◌∷◌, ◌++◌}
+use mathlib.Core.Path.{◌≡◌, refl}
+use mathlib.Core.List.{List, [], ◌∷◌}
 use Prim.Native.Nat.{ℕ, ◌≤◌, ◌<◌}
 use native.Mathlib.Omega.{arith}
-use lib.ListN.{length, take, drop, length-take}
+use lib.ListN.{length}
 use borrow.Author.Tests.{lt-ltb, le-ltb}
-use Rattle.search.specs.Search.{over}
 use Rattle.codepage.specs.Page.{Page}
-use Rattle.outcome.specs.Refusal.{refusalOf}
-use Rattle.text.specs.declared.Text.{Text}
-use Rattle.listing.specs.declared.Rule.{Rule}
-use Rattle.listing.specs.declared.Cursor.{Cursor}
-use Rattle.listing.specs.Listing.{toCome, WithinCursor}
-use Rattle.name_run.specs.Run.{namesOfRun}
-use Rattle.names.specs.declared.Plan.{Plan}
-use Rattle.names.specs.declared.Decision.{Decision}
-use Rattle.names.specs.Names.{columnNames, NameScan, refusedWith, nameScan}
-use Rattle.names.specs.Decision.{listedPlan, Plans, Decides}
+use Rattle.names.specs.Names.{columnNames, refusedWith, nameScan}
 
 module _ (page : Page) (room : ℕ) (s : List ℕ) where
   pub too_long : 65536 < length s → refusedWith (5 ∷ []) ≡ nameScan page room s

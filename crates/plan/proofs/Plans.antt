@@ -5,9 +5,8 @@ use mathlib.Core.List.{List, [], ◌∷◌}
 use Prim.Native.Nat.{ℕ, ◌+◌, ◌-◌, ◌≤◌, ◌<◌}
 use native.Mathlib.Omega.{arith}
 use lib.Dec.{leb}
-use lib.ListN.{length, get_or}
-use borrow.Author.Tests.{eq-eqb, ne_eqb, lt-ltb, le-ltb, le-leb, lt-leb}
-use Rattle.search.specs.Search.{pick}
+use lib.ListN.{length}
+use borrow.Author.Tests.{eq-eqb, ne_eqb, lt-ltb, le-ltb, le-leb}
 use Rattle.search.specs.Walks.{chain}
 use Rattle.search.proofs.Best.{best-all}
 use Rattle.codepage.specs.Page.{Page}
@@ -156,7 +155,6 @@ scan-is page s r b n e f g =
 
 -- ---- the last reader
 
-module _ (s : List ℕ) (p n : ℕ) (e : p ≡ countAt s) (f : n ≡ number LittleEndian 2 s p) where
 module _ (page : Page) (s : List ℕ) where
   pub last_empty : (r : Plan) → r ≡ emptyPlan EmptyReply → length s ≡ 0 → r ≡ lastPlan page s
   unfolding lastPlan
