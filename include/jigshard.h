@@ -243,8 +243,8 @@ jigshard_count_result jigshard_name_text(const uint8_t *reply, size_t reply_leng
 jigshard_count_result jigshard_message_text(const uint8_t *reply, size_t reply_length, size_t place, size_t length, uint8_t *buffer,
                                             size_t buffer_length);
 
-/* Same cut: whether two lists have equally many columns and, column by column, equal codes (drda_type), lengths, precisions, scales and byte
-   orders. Refuses: 5 either list over 4,095 columns; 255 where the words of either are no columns: not a whole number of them, a type that there
+/* Same cut: whether two lists have equally many columns and, column by column, equal codes (drda_type), lengths, precisions, scales, byte
+   orders and CCSIDs. Refuses: 5 either list over 4,095 columns; 255 where the words of either are no columns: not a whole number of them, a type that there
    is not, or a field out of its range. Lists that the library wrote are columns. */
 jigshard_cut_result jigshard_same_cut(const uint64_t *first, size_t first_length, const uint64_t *second, size_t second_length);
 

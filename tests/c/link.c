@@ -134,6 +134,10 @@ static void check_lists(void)
     others[0].length = 5;
     jigshard_cut_result cut = jigshard_columns_same_cut(columns, 1, others, 1);
     CHECK(cut.refusal.number == JIGSHARD_ACCEPTED && !cut.same);
+    others[0] = columns[0];
+    others[0].ccsid = 37; /* the length is as it was */
+    cut = jigshard_columns_same_cut(columns, 1, others, 1);
+    CHECK(cut.refusal.number == JIGSHARD_ACCEPTED && !cut.same);
 
     others[0].length = 65536;
     check_refusal(jigshard_columns_same_cut(columns, 1, others, 1).refusal, JIGSHARD_NOT_COLUMNS, 0, 0, 0);

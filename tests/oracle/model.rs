@@ -1,5 +1,5 @@
 //! Answers that the Rust has no function for: name part, name text, same cut and widest row, by
-//! documents 01 (Answers, Numbers of refusal) and 02 (T-02). Written for the tests, from the papers
+//! documents 01 (Answers, Numbers of refusal) and 02 (T-02, T-05). Written for the tests, from the papers
 //! alone. The lists of C and W are the Rust's, and so is the character of a byte in page 037; T and
 //! U take what the case says of a name, Q and R what it says of columns.
 
@@ -84,8 +84,8 @@ pub struct Column {
     double_byte: bool,
     nullable: bool,
     length: u16,
-    /// Code, precision, scale and byte order.
-    cut: (u8, u8, u8, bool),
+    /// Code, precision, scale, byte order and, by 02, T-05, CCSID.
+    cut: (u8, u8, u8, bool, u16),
 }
 
 #[derive(Clone, Copy, PartialEq)]
@@ -119,6 +119,7 @@ impl Column {
                 column.precision,
                 column.scale,
                 column.byte_order == ByteOrder::BigEndian,
+                column.ccsid,
             ),
         }
     }
@@ -142,7 +143,13 @@ impl Column {
             double_byte: matches!(record[2], 0x3C | 0x3E),
             nullable: record[8] == 1,
             length: u16::from_be_bytes([record[6], record[7]]),
-            cut: (record[5], record[9], record[10], record[13] == 0),
+            cut: (
+                record[5],
+                record[9],
+                record[10],
+                record[13] == 0,
+                u16::from_be_bytes([record[11], record[12]]),
+            ),
         })
     }
 }

@@ -193,8 +193,8 @@ pub fn message_text(
     counted(sys::message_text(reply, place, length, buffer))
 }
 
-/// Whether two lists cut a row alike: as many columns, and column by column equal codes, lengths, precisions, scales and
-/// byte orders.
+/// Whether two lists cut a row alike, and into values of equal CCSIDs: as many columns, and column by column equal codes,
+/// lengths, precisions, scales, byte orders and CCSIDs.
 ///
 /// # Errors
 /// [`Refusal::ReplyTooLong`] where either list has more than [`MAX_COLUMNS`].

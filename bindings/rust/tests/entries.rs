@@ -288,6 +288,11 @@ fn lists_made_up() {
         ..column
     };
     assert_eq!(same_cut(&[column], &[other]), Ok(false));
+    // A ticket column whose CCSID changed from 37 to 1208, its length kept.
+    let [before, after] = [37, 1208].map(|ccsid| Column { ccsid, ..column });
+    assert_eq!(same_cut(&[before], &[after]), Ok(false));
+    assert_eq!(same_cut(&[before, after], &[after, before]), Ok(false));
+    assert_eq!(same_cut(&[before, after], &[before, after]), Ok(true));
     for db2_type in [Db2Type::Blob, Db2Type::Clob, Db2Type::DbClob, Db2Type::Xml] {
         let large = Column { db2_type, ..column };
         assert_eq!(

@@ -8,7 +8,7 @@ use lib.ListN.{take, drop}
 use Rattle.codepage.specs.Page.{page037}
 use Rattle.field.specs.declared.ByteOrder.TheVariants.{BigEndian}
 use Rattle.descriptor.specs.Exchange.{withColumn}
-use Rattle.columns.specs.Cut.{sameColumn, cutAnswer}
+use Rattle.columns.specs.Cut.{coarseColumn, sameColumn, cutAnswer}
 use Rattle.columns.proofs.Same.{cut-refl}
 use Rattle.sqldard.specs.Exchanged.{newColumn, newColumns, Exchangeable, Exchanged}
 use Rattle.sqldard.proofs.Exchange.{exchange-theorem}
@@ -47,7 +47,7 @@ from-A d x = exchange-answer page037 1 replyA 0 d x columnA refl (omega arith) r
 
 -- A and B differ in length
 pub a-b-cut : cutAnswer (list_of replyA) (list_of replyB) ≡ false
-unfolding everything sameColumn
+unfolding everything coarseColumn sameColumn
 a-b-cut = ap (λ (s : List ℕ). cutAnswer (list_of replyA) (list_of s)) (sym a-to-b) ∙ from-A (doorOf 0x06 0xC4) a-to-b-asked
 
 pub a-a-cut : cutAnswer (list_of replyA) (list_of replyA) ≡ true
@@ -66,7 +66,7 @@ unfolding everything
 gate-asked = record { column = omega arith; complete = refl; within = omega arith; enough = omega arith; named = refl }
 
 pub gate-cut : cutAnswer (list_of replyA) (list_of replyGate) ≡ true
-unfolding everything sameColumn
+unfolding everything coarseColumn sameColumn
 gate-cut = from-A gate gate-asked
 
 pub gate-row : SameRow (list_of replyA) (list_of replyGate)

@@ -13,13 +13,14 @@ use Rattle.types.specs.declared.Db2Type.{Db2Type}
 use Rattle.column.specs.Column.{generatedText}
 use Rattle.widths.specs.Width.{valueWidth, columnWidth}
 use Rattle.widths.specs.Inside.{mostWidth}
-use Rattle.columns.specs.Cut.{sameColumn, sameCut, cutRefusal, cutAnswer}
+use Rattle.columns.specs.Cut.{coarseColumn, sameColumn, sameCut, cutRefusal, cutAnswer}
+use Rattle.columns.specs.Finer.{coarseCut, coarseAnswer}
 use Rattle.columns.specs.Row.{rowWidth, largeRefusal, rowRefusal, rowAnswer}
 use Rattle.columns.specs.Consistent.{ConsistentFrom, Consistent}
 
--- a column with this number, type, code, length, nullable, byte order and name
-abbrev column : ℕ → Db2Type → ℕ → ℕ → Bool → ByteOrder → Text → ColumnMetadata
-column number type code size nullable order name = record {
+-- a column with this CCSID, number, type, code, length, nullable, byte order and name
+abbrev columnIn : ℕ → ℕ → Db2Type → ℕ → ℕ → Bool → ByteOrder → Text → ColumnMetadata
+columnIn ccsid number type code size nullable order name = record {
   number = number;
   db2_type = type;
   drda_type = code;
@@ -27,13 +28,17 @@ column number type code size nullable order name = record {
   nullable = nullable;
   precision = 0;
   scale = 0;
-  ccsid = 1208;
+  ccsid = ccsid;
   byte_order = order;
   name = name;
   label = emptyText;
   base_table_name = emptyText;
   schema_name = emptyText;
 }
+
+-- in UTF-8
+abbrev column : ℕ → Db2Type → ℕ → ℕ → Bool → ByteOrder → Text → ColumnMetadata
+column = columnIn 1208
 
 -- the first column, in BE and named DOOR
 abbrev door : Db2Type → ℕ → ℕ → Bool → ColumnMetadata
@@ -54,7 +59,7 @@ listD = column 0 (Db2Type.Char 4) 0x30 4 false BigEndian generatedText ∷ []
 
 -- to unfold this is to unfold both entries, for a proof that computes them
 unfoldable everything : Unit {0}
-unfolding sameColumn sameCut cutRefusal cutAnswer valueWidth columnWidth rowWidth largeRefusal rowRefusal rowAnswer ConsistentFrom
+unfolding coarseColumn sameColumn sameCut coarseCut cutRefusal cutAnswer coarseAnswer valueWidth columnWidth rowWidth largeRefusal rowRefusal rowAnswer ConsistentFrom
 everything = tt
 
 -- A's and B's rows are their lengths
@@ -75,6 +80,21 @@ case_count = (refl, refl)
 pub case-order : cutAnswer listA (column 0 (Db2Type.Char 4) 0x30 4 false LittleEndian (textIs 25 4 1) ∷ []) ≡ false
 unfolding everything
 case-order = refl
+
+-- A's column in this CCSID, which changed from 37 to 1208 while the length stayed: no, where the rule so far said yes; equal ones are equal, 0 too
+abbrev listIn : ℕ → List ColumnMetadata
+listIn ccsid = columnIn ccsid 0 (Db2Type.Char 4) 0x30 4 false BigEndian (textIs 25 4 1) ∷ []
+
+pub case-ccsid : (cutAnswer (listIn 37) listA ≡ false) × ((coarseAnswer (listIn 37) listA ≡ true)
+    × ((cutAnswer (listIn 37) (listIn 37) ≡ true) × (cutAnswer (listIn 0) (listIn 0) ≡ true)))
+unfolding everything
+case-ccsid = (refl, (refl, (refl, refl)))
+
+-- 5 comes before any difference
+pub case-cut-most : (cutRefusal (replicate 4096 (door (Db2Type.Char 4) 0x30 4 false)) (listIn 37) ≡ 5 ∷ [])
+    × (cutAnswer (replicate 4096 (door (Db2Type.Char 4) 0x30 4 false)) (replicate 4096 (door (Db2Type.Char 4) 0x30 4 false)) ≡ false)
+unfolding everything
+case-cut-most = (refl, refl)
 
 -- a nullable VarChar(10) after A: 4 and 10 + 1 + 2
 pub case-varying : rowAnswer (door (Db2Type.Char 4) 0x30 4 false ∷ column 1 (Db2Type.VarChar 10) 0x33 10 true BigEndian emptyText ∷ []) ≡ 17

@@ -1,4 +1,4 @@
--- Consistent lists that make the same cut have the same widest row: what the width takes of a column is said by its code and its length.
+-- Consistent lists that are cut alike have the same widest row: what the width takes of a column is said by its code and its length.
 -- And what T-02 made of the sum.
 use mathlib.Core.Path.{◌≡◌, refl, sym, ◌∙◌}
 use mathlib.Core.Bool.{Bool, true, false, false≢true, not, and-eq-true_iff}
@@ -11,11 +11,13 @@ use Rattle.types.specs.declared.ColumnMetadata.{ColumnMetadata}
 use Rattle.types.specs.declared.Db2Type.{Db2Type}
 use Rattle.sqlda.specs.Types.{code_of}
 use Rattle.widths.specs.Width.{isLarge, isGraphic, valueWidth, columnWidth}
-use Rattle.columns.specs.Cut.{sameColumn, sameCut}
+use Rattle.columns.specs.Cut.{coarseColumn, sameCut}
+use Rattle.columns.specs.Finer.{coarseCut}
 use Rattle.columns.specs.Row.{rowWidth, largeRefusal, rowRefusal, rowAnswer}
 use Rattle.columns.specs.Graphic.{plainWidth, graphicLengths, hasNoGraphic, Grown}
 use Rattle.columns.specs.Consistent.{ConsistentColumn, ConsistentFrom, Consistent}
 use Rattle.columns.proofs.Same.{Same, same_parts}
+use Rattle.columns.proofs.Finer.{finer}
 
 -- nullable is a code's last bit: a type's own code is even
 even : (t : Db2Type) → code_of t % 2 ≡ 0
@@ -67,28 +69,33 @@ module _ (i : ℕ) (c d : ColumnMetadata) (p : ConsistentColumn i c) (q : Consis
 
 -- ---- the lists
 
-rows-too : (i : ℕ) (a b : List ColumnMetadata) → ConsistentFrom i a → ConsistentFrom i b → alike sameColumn a b ≡ true
+rows-too : (i : ℕ) (a b : List ColumnMetadata) → ConsistentFrom i a → ConsistentFrom i b → alike coarseColumn a b ≡ true
     → (largeRefusal a ≡ largeRefusal b) × (rowWidth a ≡ rowWidth b)
 unfolding ConsistentFrom largeRefusal rowWidth
 rows-too i [] [] p q e = (refl, refl)
 rows-too i [] (d ∷ m) p q e = absurd (false≢true e)
 rows-too i (c ∷ l) [] p q e = absurd (false≢true e)
 rows-too i (c ∷ l) (d ∷ m) p q e =
-    let both = (and-eq-true_iff (sameColumn c d) (alike sameColumn l m)).0 e in
+    let both = (and-eq-true_iff (coarseColumn c d) (alike coarseColumn l m)).0 e in
     let s = same_parts c d both.0 in
     let r = rows-too (suc i) l m p.1 q.1 both.1 in (
       rw (large-too i c d p.0 q.0 s, r.0, p.0.numbered, q.0.numbered) refl,
       rw (width-too i c d p.0 q.0 s, r.1) refl,
     )
 
--- widest row refuses both with the same number and values, or answers the same of both
+-- widest row refuses both with the same number and values, or answers the same of both: by the rule before T-05
+pub coarse-cut-rows : (a b : List ColumnMetadata) → Consistent a → Consistent b → coarseCut a b ≡ true
+    → (rowRefusal a ≡ rowRefusal b) × (rowAnswer a ≡ rowAnswer b)
+unfolding coarseCut rowRefusal rowAnswer
+coarse-cut-rows a b p q e =
+    let r = rows-too 0 a b p q e in
+    let n = alike-length coarseColumn a b e in
+    (rw (n, r.0) refl, rw (n, r.0, r.1) refl)
+
+-- and so by same cut, which implies it
 pub same-cut-rows : (a b : List ColumnMetadata) → Consistent a → Consistent b → sameCut a b ≡ true
     → (rowRefusal a ≡ rowRefusal b) × (rowAnswer a ≡ rowAnswer b)
-unfolding sameCut rowRefusal rowAnswer
-same-cut-rows a b p q e =
-    let r = rows-too 0 a b p q e in
-    let n = alike-length sameColumn a b e in
-    (rw (n, r.0) refl, rw (n, r.0, r.1) refl)
+same-cut-rows a b p q e = coarse-cut-rows a b p q ((finer a b).implies e)
 
 -- ---- the sum before T-02
 

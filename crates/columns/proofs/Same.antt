@@ -1,4 +1,4 @@
--- Same cut is an equivalence of lists, and so is what its entry answers, of lists that it does not refuse.
+-- Same cut and the rule before it are equivalences of lists; so is what the entry answers, of lists that it does not refuse.
 use mathlib.Core.Path.{◌≡◌, refl, sym, ◌∙◌}
 use mathlib.Core.Bool.{Bool, true, false, false≢true, and-eq-true_iff}
 use mathlib.Core.List.{List, [], ◌∷◌}
@@ -9,10 +9,13 @@ use borrow.Author.Tests.{eqb-true, eqb-false, eq-eqb, ne_eqb, ltb-false, le-ltb}
 use Rattle.search.proofs.Alike.{alike_refl, alike-sym, alike-trans}
 use Rattle.types.specs.declared.ColumnMetadata.{ColumnMetadata}
 use Rattle.column.specs.Numbers.{orderNumber}
-use Rattle.columns.specs.Cut.{mostColumns, sameColumn, sameCut, cutRefusal, cutAnswer}
+use Rattle.columns.specs.Cut.{mostColumns, coarseColumn, sameCcsid, sameColumn, sameCut, cutRefusal, cutAnswer}
+use Rattle.columns.specs.Finer.{coarseCut, Equivalence}
 use Rattle.columns.proofs.Cutting.{cut-accepted, cut-refused}
 
--- what two columns that are cut alike have in common
+-- ---- two columns, by the rule so far
+
+-- what two columns that are cut alike by it have in common
 pub record Same (c d : ColumnMetadata) : Type 0 where
   pub code : c.drda_type ≡ d.drda_type
   pub size : c.length ≡ d.length
@@ -20,8 +23,8 @@ pub record Same (c d : ColumnMetadata) : Type 0 where
   pub scaled : c.scale ≡ d.scale
   pub order : orderNumber c.byte_order ≡ orderNumber d.byte_order
 
-pub same_parts : (c d : ColumnMetadata) → sameColumn c d ≡ true → Same c d
-unfolding sameColumn
+pub same_parts : (c d : ColumnMetadata) → coarseColumn c d ≡ true → Same c d
+unfolding coarseColumn
 same_parts c d e =
     let p = (and-eq-true_iff _ _).0 e in
     let q = (and-eq-true_iff _ _).0 p.1 in
@@ -35,13 +38,13 @@ same_parts c d e =
       order = eqb-true _ _ s.1;
     }
 
-pub same_whole : (c d : ColumnMetadata) → Same c d → sameColumn c d ≡ true
-unfolding sameColumn
+pub same_whole : (c d : ColumnMetadata) → Same c d → coarseColumn c d ≡ true
+unfolding coarseColumn
 same_whole c d s =
     rw (eq-eqb _ _ s.code, eq-eqb _ _ s.size, eq-eqb _ _ s.precise, eq-eqb _ _ s.scaled) (eq-eqb _ _ s.order)
 
-pub column-refl : (c : ColumnMetadata) → sameColumn c c ≡ true
-column-refl c = same_whole c c (record { code = refl; size = refl; precise = refl; scaled = refl; order = refl })
+pub coarse-refl : (c : ColumnMetadata) → coarseColumn c c ≡ true
+coarse-refl c = same_whole c c (record { code = refl; size = refl; precise = refl; scaled = refl; order = refl })
 
 eqb-sym : (a b : ℕ) → eqb a b ≡ eqb b a
 eqb-sym a b = go (eqb a b) refl
@@ -50,9 +53,9 @@ eqb-sym a b = go (eqb a b) refl
     go true e = e ∙ sym (eq-eqb b a (sym (eqb-true a b e)))
     go false e = e ∙ sym (ne_eqb b a (λ x. eqb-false a b e (sym x)))
 
-column-sym : (c d : ColumnMetadata) → sameColumn c d ≡ sameColumn d c
-unfolding sameColumn
-column-sym c d =
+coarse-sym : (c d : ColumnMetadata) → coarseColumn c d ≡ coarseColumn d c
+unfolding coarseColumn
+coarse-sym c d =
     rw (
       eqb-sym c.drda_type d.drda_type,
       eqb-sym c.length d.length,
@@ -61,8 +64,8 @@ column-sym c d =
       eqb-sym (orderNumber c.byte_order) (orderNumber d.byte_order),
     ) refl
 
-column-trans : (c d e : ColumnMetadata) → sameColumn c d ≡ true → sameColumn d e ≡ true → sameColumn c e ≡ true
-column-trans c d e p q =
+coarse-trans : (c d e : ColumnMetadata) → coarseColumn c d ≡ true → coarseColumn d e ≡ true → coarseColumn c e ≡ true
+coarse-trans c d e p q =
     let s = same_parts c d p in
     let t = same_parts d e q in
     same_whole c e (record {
@@ -72,6 +75,28 @@ column-trans c d e p q =
       scaled = s.scaled ∙ t.scaled;
       order = s.order ∙ t.order;
     })
+
+-- ---- two columns, with their CCSIDs
+
+pub ccsid-refl : (c : ColumnMetadata) → sameCcsid c c ≡ true
+ccsid-refl c = eq-eqb c.ccsid c.ccsid refl
+
+column-refl : (c : ColumnMetadata) → sameColumn c c ≡ true
+unfolding sameColumn
+column-refl c = rw (coarse-refl c) (ccsid-refl c)
+
+column-sym : (c d : ColumnMetadata) → sameColumn c d ≡ sameColumn d c
+unfolding sameColumn
+column-sym c d = rw (coarse-sym c d, eqb-sym c.ccsid d.ccsid) refl
+
+column-trans : (c d e : ColumnMetadata) → sameColumn c d ≡ true → sameColumn d e ≡ true → sameColumn c e ≡ true
+unfolding sameColumn
+column-trans c d e p q =
+    let u = (and-eq-true_iff (coarseColumn c d) (sameCcsid c d)).0 p in
+    let v = (and-eq-true_iff (coarseColumn d e) (sameCcsid d e)).0 q in
+    rw (coarse-trans c d e u.0 v.0) (eq-eqb c.ccsid e.ccsid (eqb-true c.ccsid d.ccsid u.1 ∙ eqb-true d.ccsid e.ccsid v.1))
+
+-- ---- lists
 
 pub same-cut-refl : (a : List ColumnMetadata) → sameCut a a ≡ true
 unfolding sameCut
@@ -84,6 +109,18 @@ same-cut-sym a b = alike-sym sameColumn column-sym a b
 pub same-cut-trans : (a b c : List ColumnMetadata) → sameCut a b ≡ true → sameCut b c ≡ true → sameCut a c ≡ true
 unfolding sameCut
 same-cut-trans a b c p q = alike-trans sameColumn column-trans a b c p q
+
+pub cut-equivalence : Equivalence sameCut
+cut-equivalence = record { reflexive = same-cut-refl; symmetric = same-cut-sym; transitive = same-cut-trans }
+
+pub coarse-equivalence : Equivalence coarseCut
+unfolding coarseCut
+coarse-equivalence =
+    record {
+      reflexive = alike_refl coarseColumn coarse-refl;
+      symmetric = alike-sym coarseColumn coarse-sym;
+      transitive = alike-trans coarseColumn coarse-trans;
+    }
 
 -- ---- the entry's answer
 

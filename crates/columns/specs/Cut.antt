@@ -1,4 +1,4 @@
--- Same cut: two lists of columns by which rows are cut alike (01, Answers: same cut).
+-- Same cut: two lists of columns by which rows are cut alike, and their characters read alike (01, Answers: same cut; 02, T-05).
 use Rattle.std.specs.Prelude.{Bool, false, ◌&&◌, ◌||◌, List, [], ◌∷◌, ℕ, eqb, ltb, length}
 use Rattle.search.specs.Search.{pick, alike}
 use Rattle.outcome.specs.Refusal.{is_refused}
@@ -9,15 +9,23 @@ use Rattle.column.specs.Numbers.{orderNumber}
 abbrev pub mostColumns : ℕ
 mostColumns = 4095
 
--- equal drda_type, length, precision, scale and byte order (01, Answers: same cut)
-unfoldable pub sameColumn : ColumnMetadata → ColumnMetadata → Bool
-sameColumn c d =
+-- equal drda_type, length, precision, scale and byte order (01, Answers: same cut; 02, T-05: the rule so far)
+unfoldable pub coarseColumn : ColumnMetadata → ColumnMetadata → Bool
+coarseColumn c d =
     eqb c.drda_type d.drda_type
     && (eqb c.length d.length
     && (eqb c.precision d.precision
     && (eqb c.scale d.scale && eqb (orderNumber c.byte_order) (orderNumber d.byte_order))))
 
--- equal count, and so column by column (01, Answers: same cut)
+-- equal CCSIDs (02, T-05)
+abbrev pub sameCcsid : ColumnMetadata → ColumnMetadata → Bool
+sameCcsid c d = eqb c.ccsid d.ccsid
+
+-- alike by the rule so far, and equal CCSIDs (02, T-05: same cut)
+unfoldable pub sameColumn : ColumnMetadata → ColumnMetadata → Bool
+sameColumn c d = coarseColumn c d && sameCcsid c d
+
+-- equal count, and so column by column (01, Answers: same cut; 02, T-05)
 unfoldable pub sameCut : List ColumnMetadata → List ColumnMetadata → Bool
 sameCut a b = alike sameColumn a b
 
@@ -25,6 +33,6 @@ sameCut a b = alike sameColumn a b
 unfoldable pub cutRefusal : List ColumnMetadata → List ColumnMetadata → List ℕ
 cutRefusal a b = pick (ltb mostColumns (length a) || ltb mostColumns (length b)) (5 ∷ []) (0 ∷ [])
 
--- what the entry answers (01, Answers: same cut); no, where it is refused (DECISIONS, Forms 12)
+-- what the entry answers (01, Answers: same cut; 02, T-05); no, where it is refused (DECISIONS, Forms 12)
 unfoldable pub cutAnswer : List ColumnMetadata → List ColumnMetadata → Bool
 cutAnswer a b = pick (is_refused (cutRefusal a b)) false (sameCut a b)

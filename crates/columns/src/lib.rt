@@ -3,7 +3,7 @@
 
 ghost use Rattle.std.specs.Prelude.{◌≡◌};
 ghost use Rattle.outcome.specs.Refusal.{refusalOf};
-ghost use Rattle.columns.specs.Cut.{sameColumn, cutRefusal, cutAnswer};
+ghost use Rattle.columns.specs.Cut.{coarseColumn, sameColumn, cutRefusal, cutAnswer};
 ghost use Rattle.columns.specs.Row.{rowRefusal, rowAnswer};
 
 use outcome::Outcome;
@@ -23,9 +23,9 @@ pub struct RowAnswer {
     pub width: usize,
 }
 
-// Whether two columns are cut from a row alike.
-pub fn same_column(c: ColumnMetadata, d: ColumnMetadata) -> bool
-    ensures { result ≡ sameColumn c d }
+// Whether two columns are cut from a row alike, whatever their CCSIDs.
+fn coarse_column(c: ColumnMetadata, d: ColumnMetadata) -> bool
+    ensures { result ≡ coarseColumn c d }
 {
     let order = c.byte_order;
     let other = d.byte_order;
@@ -34,6 +34,13 @@ pub fn same_column(c: ColumnMetadata, d: ColumnMetadata) -> bool
             & ((c.precision == d.precision)
                 & ((c.scale == d.scale)
                     & (column::order_number(order) == column::order_number(other)))))
+}
+
+// Whether two columns are cut from a row alike, and have equal CCSIDs.
+pub fn same_column(c: ColumnMetadata, d: ColumnMetadata) -> bool
+    ensures { result ≡ sameColumn c d }
+{
+    coarse_column(c, d) & (c.ccsid == d.ccsid)
 }
 
 fn number_of(column: ColumnMetadata) -> u16

@@ -1,6 +1,6 @@
--- The ways out of same cut and widest row over words: too long, no columns, and as the lists are answered.
+-- The ways out of same cut and widest row over words: too long, no columns, and as the lists are answered. And what a yes implies.
 use mathlib.Core.Path.{◌≡◌, refl, ap, ◌∙◌}
-use mathlib.Core.Bool.{Bool, true, false, ◌&&◌, ◌||◌}
+use mathlib.Core.Bool.{Bool, true, false, false≢true, ◌&&◌, ◌||◌}
 use mathlib.Core.List.{List, [], ◌∷◌}
 use Prim.Native.Nat.{ℕ, ◌/◌, ◌≤◌, ◌<◌}
 use native.Mathlib.Omega.{arith}
@@ -10,14 +10,16 @@ use borrow.Author.Tests.{lt-ltb}
 use Rattle.search.specs.Search.{pick}
 use Rattle.outcome.specs.declared.Refusal.{Refusal}
 use Rattle.outcome.specs.Refusal.{inNumbers}
-use Rattle.columns.specs.Cut.{mostColumns, sameCut}
+use Rattle.columns.specs.Cut.{mostColumns, sameCut, cutAnswer}
+use Rattle.columns.specs.Finer.{coarseAnswer}
 use Rattle.columns.specs.Row.{rowRefusal, rowAnswer}
 use Rattle.columns.proofs.Cutting.{cut-refused, cut-accepted}
+use Rattle.columns.proofs.Finer.{finer}
 use Rattle.columns.proofs.Summing.{row-refused}
 use Rattle.column_words.specs.Columns.{columnsIn, areColumns}
 use Rattle.column_words.proofs.Columns.{columns-length}
 use Rattle.list_words.proofs.Lists.{few}
-use Rattle.entries.specs.Lists.{wordsCutRefusal, wordsCutAnswer, wordsRowRefusal, wordsRowAnswer}
+use Rattle.entries.specs.Lists.{wordsCutRefusal, wordsCutAnswer, WordsFiner, wordsRowRefusal, wordsRowAnswer}
 
 module _ (a b : List ℕ) (refusal : Refusal) (same : Bool) where
   pub cut-long : (ltb 4095 (length a / 22) || ltb 4095 (length b / 22)) ≡ true → refusal ≡ inNumbers (5 ∷ []) → same ≡ false
@@ -44,6 +46,15 @@ module _ (a b : List ℕ) (refusal : Refusal) (same : Bool) where
   cut-read h g e f =
       let z = cut-accepted (columnsIn a) (columnsIn b) (rw (columns-length a, columns-length b) h) same f in
       (e ∙ rw (columns-length a, columns-length b, h, g) (ap inNumbers z.0), rw g z.1)
+
+-- words that stand for no columns are answered no
+pub words-finer : (a b : List ℕ) → WordsFiner a b
+unfolding wordsCutAnswer
+words-finer a b = record { implies = go (areColumns a && areColumns b) }
+  where
+    go : (t : Bool) → pick t (cutAnswer (columnsIn a) (columnsIn b)) false ≡ true → coarseAnswer (columnsIn a) (columnsIn b) ≡ true
+    go true e = (finer (columnsIn a) (columnsIn b)).answer-implies e
+    go false e = absurd (false≢true e)
 
 module _ (w : List ℕ) (refusal : Refusal) (count : ℕ) where
   pub row-long : 4095 < length w / 22 → refusal ≡ inNumbers (5 ∷ []) → count ≡ 0

@@ -1,7 +1,8 @@
 -- Same cut and widest row of lists in words (01, Answers: same cut, widest row).
-use Rattle.std.specs.Prelude.{Bool, false, ◌&&◌, ◌||◌, List, [], ◌∷◌, ℕ, ltb, length}
+use Rattle.std.specs.Prelude.{◌≡◌, Bool, true, false, ◌&&◌, ◌||◌, List, [], ◌∷◌, ℕ, ltb, length}
 use Rattle.search.specs.Search.{pick}
 use Rattle.columns.specs.Cut.{mostColumns, cutRefusal, cutAnswer}
+use Rattle.columns.specs.Finer.{coarseAnswer}
 use Rattle.columns.specs.Row.{rowRefusal, rowAnswer}
 use Rattle.column_words.specs.Columns.{columnsIn, areColumns}
 
@@ -18,6 +19,10 @@ wordsCutRefusal a b =
 -- as the lists are answered (01, Answers: same cut); no, where the words stand for none (DECISIONS, Forms 12)
 unfoldable pub wordsCutAnswer : List ℕ → List ℕ → Bool
 wordsCutAnswer a b = pick (areColumns a && areColumns b) (cutAnswer (columnsIn a) (columnsIn b)) false
+
+-- where this is yes, the rule before T-05 says yes of the lists that the words stand for (02, T-05: the finer one implies the coarser)
+pub record WordsFiner (a b : List ℕ) : Type 0 where
+  pub implies : wordsCutAnswer a b ≡ true → coarseAnswer (columnsIn a) (columnsIn b) ≡ true
 
 -- 5 over 4,095 records, then 255, else as the list is refused (01, Numbers of refusal: widest row; of 255, DECISIONS, Forms 31)
 unfoldable pub wordsRowRefusal : List ℕ → List ℕ

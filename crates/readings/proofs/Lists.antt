@@ -22,7 +22,7 @@ use Rattle.columns.specs.Consistent.{ConsistentFrom, Consistent}
 use Rattle.columns.specs.Cut.{mostColumns}
 use Rattle.columns.specs.Row.{rowRefusal}
 use Rattle.columns.proofs.Same.{cut-answered}
-use Rattle.columns.proofs.Rows.{same-cut-rows}
+use Rattle.columns.proofs.Rows.{coarse-cut-rows, same-cut-rows}
 use Rattle.plan.specs.Description.{refusedWith, statusOf, answerBy, description, withCodePoint}
 use Rattle.readings.specs.Listed.{Listed, Compared}
 use Rattle.readings.proofs.Consistent.{standard-consistent, compact-consistent, scan-consistent, last-consistent}
@@ -133,6 +133,7 @@ listed-compared a b p q =
     record {
       accepts = t.0;
       answers = t.1;
+      coarse-rows = λ e. let r = coarse-cut-rows a b p.consistent q.consistent e in record { refusal = r.0; answer = r.1 };
       rows = λ e. let r = same-cut-rows a b p.consistent q.consistent e in record { refusal = r.0; answer = r.1 };
     }
 

@@ -5,6 +5,7 @@ use Rattle.std.specs.Prelude.{true, List, [], ◌∷◌, ◌≡◌, ◌≤◌, l
 use Rattle.types.specs.declared.ColumnMetadata.{ColumnMetadata}
 use Rattle.columns.specs.Consistent.{Consistent}
 use Rattle.columns.specs.Cut.{mostColumns, sameCut, cutRefusal, cutAnswer}
+use Rattle.columns.specs.Finer.{coarseCut}
 use Rattle.columns.specs.Row.{largeRefusal, rowRefusal, rowAnswer}
 
 -- one list: numbered in order, each code its type's; few enough for same cut and widest row (01, Answers; 01, Numbers of refusal)
@@ -19,8 +20,10 @@ pub record SameRow (a b : List ColumnMetadata) : Type 0 where
   pub refusal : rowRefusal a ≡ rowRefusal b
   pub answer : rowAnswer a ≡ rowAnswer b
 
--- two lists: same cut does not refuse them, and where it says yes widest row says the same of both (01, Answers: same cut, widest row)
+-- two lists: same cut does not refuse them; where the rule before T-05 says yes, widest row says the same of both, and so where same cut does
+-- (01, Answers: same cut, widest row; 02, T-05)
 pub record Compared (a b : List ColumnMetadata) : Type 0 where
   pub accepts : cutRefusal a b ≡ 0 ∷ []
   pub answers : cutAnswer a b ≡ sameCut a b
+  pub coarse-rows : coarseCut a b ≡ true → SameRow a b
   pub rows : sameCut a b ≡ true → SameRow a b
