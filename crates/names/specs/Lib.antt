@@ -1,3 +1,2 @@
-pub mod Blank
 pub mod Names
 pub mod Decision
