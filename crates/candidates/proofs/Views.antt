@@ -9,30 +9,30 @@ use lib.ListN.{length}
 use borrow.Author.Tests.{lt-ltb, le-ltb, ltb-true, ne_eqb}
 use Rattle.search.specs.Search.{pick, front}
 use Rattle.search.specs.Walks.{first_of, first}
-use Rattle.search.proofs.Index.{first-is}
+use Rattle.search.proofs.Index.{first_is}
 use Rattle.field.specs.declared.ByteOrder.TheVariants.{BigEndian}
 use Rattle.field.specs.Numbers.{number}
 use Rattle.text.specs.declared.Text.{Text}
-use Rattle.text.specs.Text.{emptyText}
+use Rattle.text.specs.Text.{empty_text}
 use Rattle.candidates.specs.declared.Candidate.{Candidate}
 use Rattle.candidates.specs.declared.View.{View}
-use Rattle.candidates.specs.Candidates.{stringTextAt, isCandidate, isNearRepeat, isKept, candidatesIn, candidatesFrom, candidates}
-use Rattle.candidates.specs.View.{next_at, nextCandidate, shown, shifted, behind, inView}
+use Rattle.candidates.specs.Candidates.{string_text_at, is_candidate, is_near_repeat, is_kept, candidates_in, candidates_from, candidates}
+use Rattle.candidates.specs.View.{next_at, next_candidate, shown, shifted, behind, in_view}
 use Rattle.candidates.proofs.Candidates.{passes}
 
 module _ (s : List ℕ) where
   -- those from position q on, the first of them there
   abbrev headed : ℕ → List Text
-  headed q = pick (ltb q (length s)) (stringTextAt s q ∷ candidatesFrom s (stringTextAt s q) (suc q)) []
+  headed q = pick (ltb q (length s)) (string_text_at s q ∷ candidates_from s (string_text_at s q) (suc q)) []
 
-  by_first : (last : Text) (k p : ℕ) → p + k ≡ length s → candidatesIn s last k p ≡ headed (first_of (isKept s last) k p)
-  unfolding candidatesIn candidatesFrom first_of
+  by_first : (last : Text) (k p : ℕ) → p + k ≡ length s → candidates_in s last k p ≡ headed (first_of (is_kept s last) k p)
+  unfolding candidates_in candidates_from first_of
   by_first last zero p h = rw (le-ltb p (length s) (omega arith)) refl
-  by_first last (suc k) p h = go (isKept s last p) (by_first last k (suc p) (omega arith))
+  by_first last (suc k) p h = go (is_kept s last p) (by_first last k (suc p) (omega arith))
     where
-      go : (b : Bool) → candidatesIn s last k (suc p) ≡ headed (first_of (isKept s last) k (suc p))
-          → front b (stringTextAt s p) (candidatesIn s (pick b (stringTextAt s p) last) k (suc p))
-          ≡ headed (pick b p (first_of (isKept s last) k (suc p)))
+      go : (b : Bool) → candidates_in s last k (suc p) ≡ headed (first_of (is_kept s last) k (suc p))
+          → front b (string_text_at s p) (candidates_in s (pick b (string_text_at s p) last) k (suc p))
+          ≡ headed (pick b p (first_of (is_kept s last) k (suc p)))
       go true e =
           let n : length s - suc p ≡ k = omega arith in
           rw (lt-ltb p (length s) (omega arith), n) refl
@@ -40,43 +40,43 @@ module _ (s : List ℕ) where
 
   module _ (last : Text) (p : ℕ) (h : p ≤ length s) where
     long : next_at s last p < length s → 2 ≤ number BigEndian 2 s (next_at s last p)
-    unfolding isKept
+    unfolding is_kept
     long k =
-        let q = (first-is (isKept s last) p (length s) h).passes k in
+        let q = (first_is (is_kept s last) p (length s) h).passes k in
         passes s (next_at s last p)
-        ((and-eq-true_iff (isCandidate s (next_at s last p)) (not (isNearRepeat s last (stringTextAt s (next_at s last p))))).0 q).0
+        ((and-eq-true_iff (is_candidate s (next_at s last p)) (not (is_near_repeat s last (string_text_at s (next_at s last p))))).0 q).0
 
     -- the next candidate heads those from p on
-    pub candidates-next : candidatesFrom s last p ≡ shown (nextCandidate s last p).text (candidatesFrom s (nextCandidate s last p).text (nextCandidate s last p).next)
-    unfolding candidatesFrom nextCandidate first
-    candidates-next = by_first last (length s - p) p (omega arith) ∙ go (ltb (next_at s last p) (length s)) refl
+    pub candidates_next : candidates_from s last p ≡ shown (next_candidate s last p).text (candidates_from s (next_candidate s last p).text (next_candidate s last p).next)
+    unfolding candidates_from next_candidate first
+    candidates_next = by_first last (length s - p) p (omega arith) ∙ go (ltb (next_at s last p) (length s)) refl
       where
         go : (b : Bool) → ltb (next_at s last p) (length s) ≡ b
-            → headed (next_at s last p) ≡ shown (nextCandidate s last p).text (candidatesFrom s (nextCandidate s last p).text (nextCandidate s last p).next)
+            → headed (next_at s last p) ≡ shown (next_candidate s last p).text (candidates_from s (next_candidate s last p).text (next_candidate s last p).next)
         go true e =
             let n = long (ltb-true (next_at s last p) (length s) e) in
             rw (e, ne_eqb (number BigEndian 2 s (next_at s last p)) 0 (λ z. omega arith)) refl
         go false e = rw e refl
 
-    pub next-shown : (c : Candidate) → c ≡ nextCandidate s last p → candidatesFrom s last p ≡ shown c.text (candidatesFrom s c.text c.next)
-    next-shown c e = candidates-next ∙ ap (λ (c : Candidate). shown c.text (candidatesFrom s c.text c.next)) (sym e)
+    pub next_shown : (c : Candidate) → c ≡ next_candidate s last p → candidates_from s last p ≡ shown c.text (candidates_from s c.text c.next)
+    next_shown c e = candidates_next ∙ ap (λ (c : Candidate). shown c.text (candidates_from s c.text c.next)) (sym e)
 
   -- what is behind the first one in view is in the next view
-  pub behind-shifted : (v : View) → v.next ≤ length s → behind s v ≡ inView s (shifted s v)
-  unfolding behind inView shifted
-  behind-shifted v h =
-      ap (λ (l : List Text). shown v.second (shown v.third (shown v.fourth (shown v.fifth l)))) (candidates-next v.fifth v.next h)
+  pub behind_shifted : (v : View) → v.next ≤ length s → behind s v ≡ in_view s (shifted s v)
+  unfolding behind in_view shifted
+  behind_shifted v h =
+      ap (λ (l : List Text). shown v.second (shown v.third (shown v.fourth (shown v.fifth l)))) (candidates_next v.fifth v.next h)
 
   -- five times the next one: all are in view
-  pub view_first : (n : Text) (a b c d e : Candidate) → n ≡ emptyText → a ≡ nextCandidate s n 0 → b ≡ nextCandidate s a.text a.next
-      → c ≡ nextCandidate s b.text b.next → d ≡ nextCandidate s c.text c.next → e ≡ nextCandidate s d.text d.next
+  pub view_first : (n : Text) (a b c d e : Candidate) → n ≡ empty_text → a ≡ next_candidate s n 0 → b ≡ next_candidate s a.text a.next
+      → c ≡ next_candidate s b.text b.next → d ≡ next_candidate s c.text c.next → e ≡ next_candidate s d.text d.next
       → a.next ≤ length s → b.next ≤ length s → c.next ≤ length s → d.next ≤ length s
-      → inView s (record { first = a.text; second = b.text; third = c.text; fourth = d.text; fifth = e.text; next = e.next }) ≡ candidates s
-  unfolding inView behind candidates
+      → in_view s (record { first = a.text; second = b.text; third = c.text; fourth = d.text; fifth = e.text; next = e.next }) ≡ candidates s
+  unfolding in_view behind candidates
   view_first n a b c d e z f g h i j k l m o =
       sym
-      (ap (λ (t : Text). candidatesFrom s t 0) (sym z) ∙ next-shown n 0 (omega arith) a f
-      ∙ ap (λ (x : List Text). shown a.text x) (next-shown a.text a.next k b g
-      ∙ ap (λ (x : List Text). shown b.text x) (next-shown b.text b.next l c h
-      ∙ ap (λ (x : List Text). shown c.text x) (next-shown c.text c.next m d i
-      ∙ ap (λ (x : List Text). shown d.text x) (next-shown d.text d.next o e j)))))
+      (ap (λ (t : Text). candidates_from s t 0) (sym z) ∙ next_shown n 0 (omega arith) a f
+      ∙ ap (λ (x : List Text). shown a.text x) (next_shown a.text a.next k b g
+      ∙ ap (λ (x : List Text). shown b.text x) (next_shown b.text b.next l c h
+      ∙ ap (λ (x : List Text). shown c.text x) (next_shown c.text c.next m d i
+      ∙ ap (λ (x : List Text). shown d.text x) (next_shown d.text d.next o e j)))))

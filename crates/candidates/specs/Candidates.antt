@@ -4,46 +4,46 @@ use Rattle.search.specs.Search.{pick, front, alike}
 use Rattle.field.specs.declared.ByteOrder.TheVariants.{BigEndian}
 use Rattle.field.specs.Numbers.{number}
 use Rattle.text.specs.declared.Text.{Text}
-use Rattle.text.specs.Text.{textIs, emptyText, bytes_of}
-use Rattle.identifier.specs.Identifier.{isIdentifier}
+use Rattle.text.specs.Text.{text_is, empty_text, bytes_of}
+use Rattle.identifier.specs.Identifier.{is_identifier}
 
 -- two texts of ASCII are equal: they have the same bytes (01, Name scan: a repeat)
-unfoldable pub sameText : List ℕ → Text → Text → Bool
-sameText s t u = alike eqb (bytes_of s t) (bytes_of s u)
+unfoldable pub same_text : List ℕ → Text → Text → Bool
+same_text s t u = alike eqb (bytes_of s t) (bytes_of s u)
 
 -- the text whose length stands at p, in ASCII: name characters are (01, Name scan: BE-length strings)
-abbrev pub stringTextAt : List ℕ → ℕ → Text
-stringTextAt s p = textIs (p + 2) (number BigEndian 2 s p) 1
+abbrev pub string_text_at : List ℕ → ℕ → Text
+string_text_at s p = text_is (p + 2) (number BigEndian 2 s p) 1
 
 -- 2 to 128 bytes that lie in the reply, all name characters, not generated (01, Name scan: candidates)
-unfoldable pub isCandidate : List ℕ → ℕ → Bool
-isCandidate s p =
+unfoldable pub is_candidate : List ℕ → ℕ → Bool
+is_candidate s p =
     leb (p + 2) (length s)
     && (leb 2 (number BigEndian 2 s p)
-    && (leb (p + 2 + number BigEndian 2 s p) (length s) && isIdentifier (bytes_of s (stringTextAt s p))))
+    && (leb (p + 2 + number BigEndian 2 s p) (length s) && is_identifier (bytes_of s (string_text_at s p))))
 
 -- a repeat of the last one kept, less than 8 bytes on (01, Name scan)
-unfoldable pub isNearRepeat : List ℕ → Text → Text → Bool
-isNearRepeat s last t = ltb t.place (last.place + 8) && sameText s t last
+unfoldable pub is_near_repeat : List ℕ → Text → Text → Bool
+is_near_repeat s last t = ltb t.place (last.place + 8) && same_text s t last
 
 -- the candidate whose length stands at p, an empty text where there is none (01, Name scan)
-unfoldable pub candidateAt : List ℕ → ℕ → Text
-candidateAt s p = pick (isCandidate s p) (stringTextAt s p) emptyText
+unfoldable pub candidate_at : List ℕ → ℕ → Text
+candidate_at s p = pick (is_candidate s p) (string_text_at s p) empty_text
 
 -- a candidate at p that is kept (01, Name scan: is skipped)
-unfoldable pub isKept : List ℕ → Text → ℕ → Bool
-isKept s last p = isCandidate s p && not (isNearRepeat s last (stringTextAt s p))
+unfoldable pub is_kept : List ℕ → Text → ℕ → Bool
+is_kept s last p = is_candidate s p && not (is_near_repeat s last (string_text_at s p))
 
 -- the candidates kept among the k positions from p on, behind the last one kept (01, Name scan)
-unfoldable pub candidatesIn : List ℕ → Text → ℕ → ℕ → List Text
-candidatesIn s last zero p = []
-candidatesIn s last (suc k) p =
-    front (isKept s last p) (stringTextAt s p) (candidatesIn s (pick (isKept s last p) (stringTextAt s p) last) k (suc p))
+unfoldable pub candidates_in : List ℕ → Text → ℕ → ℕ → List Text
+candidates_in s last zero p = []
+candidates_in s last (suc k) p =
+    front (is_kept s last p) (string_text_at s p) (candidates_in s (pick (is_kept s last p) (string_text_at s p) last) k (suc p))
 
 -- those from p on (01, Name scan)
-unfoldable pub candidatesFrom : List ℕ → Text → ℕ → List Text
-candidatesFrom s last p = candidatesIn s last (length s - p) p
+unfoldable pub candidates_from : List ℕ → Text → ℕ → List Text
+candidates_from s last p = candidates_in s last (length s - p) p
 
 -- those of a reply: nothing is kept before the first (01, Name scan)
 unfoldable pub candidates : List ℕ → List Text
-candidates s = candidatesFrom s emptyText 0
+candidates s = candidates_from s empty_text 0

@@ -3,9 +3,9 @@
 
 ghost use Rattle.std.specs.Prelude.{false, not, ◌&&◌, ◌≡◌, ℕ, ◌≤◌, ◌<◌, eqb, length};
 ghost use Rattle.search.specs.Search.{alike};
-ghost use Rattle.text.specs.Text.{emptyText};
-ghost use Rattle.candidates.specs.Candidates.{sameText, isCandidate, candidateAt, isNearRepeat, candidates};
-ghost use Rattle.candidates.specs.View.{Inside, nextCandidate, shifted, inView, Within};
+ghost use Rattle.text.specs.Text.{empty_text};
+ghost use Rattle.candidates.specs.Candidates.{same_text, is_candidate, candidate_at, is_near_repeat, candidates};
+ghost use Rattle.candidates.specs.View.{Inside, next_candidate, shifted, in_view, Within};
 
 use field::ByteOrder;
 use text::Text;
@@ -30,7 +30,7 @@ fn same_bytes(a: &[u8], b: &[u8]) -> bool
 pub fn same_text(reply: &[u8], a: Text, b: Text) -> bool
     requires a_inside { Inside reply.now a }
     requires b_inside { Inside reply.now b }
-    ensures { result ≡ sameText reply.now a b }
+    ensures { result ≡ same_text reply.now a b }
 {
     let first = a.place;
     let second = b.place;
@@ -40,7 +40,7 @@ pub fn same_text(reply: &[u8], a: Text, b: Text) -> bool
 }
 
 pub fn no_text() -> Text
-    ensures { result ≡ emptyText }
+    ensures { result ≡ empty_text }
 {
     Text {
         place: 0,
@@ -52,7 +52,7 @@ pub fn no_text() -> Text
 // The candidate whose length stands at `offset`; an empty text where there is none.
 fn candidate_at(reply: &[u8], offset: usize) -> Text
     requires { offset ≤ length reply.now }
-    ensures { (result ≡ candidateAt reply.now offset) × (Inside reply.now result) }
+    ensures { (result ≡ candidate_at reply.now offset) × (Inside reply.now result) }
 {
     if reply.len() - offset < 2 {
         return no_text();
@@ -79,7 +79,7 @@ fn candidate_at(reply: &[u8], offset: usize) -> Text
 fn is_near_repeat(reply: &[u8], last: Text, text: Text) -> bool
     requires last_inside { Inside reply.now last }
     requires text_inside { Inside reply.now text }
-    ensures { result ≡ isNearRepeat reply.now last text }
+    ensures { result ≡ is_near_repeat reply.now last text }
 {
     if last.place + 8 <= text.place {
         return false;
@@ -91,7 +91,7 @@ fn is_near_repeat(reply: &[u8], last: Text, text: Text) -> bool
 fn is_kept(reply: &[u8], last: Text, text: Text) -> bool
     requires last_inside { Inside reply.now last }
     requires text_inside { Inside reply.now text }
-    ensures { result ≡ not (eqb text.length 0) && not (isNearRepeat reply.now last text) }
+    ensures { result ≡ not (eqb text.length 0) && not (is_near_repeat reply.now last text) }
 {
     if text.length == 0 {
         return false;
@@ -104,7 +104,7 @@ fn is_kept(reply: &[u8], last: Text, text: Text) -> bool
 fn next_length(reply: &[u8], from: usize) -> usize
     requires { from ≤ length reply.now }
     ensures { ((from ≤ result) × (result ≤ length reply.now))
-        × ((p : ℕ) → from ≤ p → p < result → isCandidate reply.now p ≡ false) }
+        × ((p : ℕ) → from ≤ p → p < result → is_candidate reply.now p ≡ false) }
 {
     let end = reply.len();
     if end < 2 {
@@ -131,7 +131,7 @@ pub struct Candidate {
 fn next_candidate(reply: &[u8], last: Text, from: usize) -> Candidate
     requires last_inside { Inside reply.now last }
     requires from_in_bounds { from ≤ length reply.now }
-    ensures { (result ≡ nextCandidate reply.now last from)
+    ensures { (result ≡ next_candidate reply.now last from)
         × ((Inside reply.now result.text) × (result.next ≤ length reply.now)) }
 {
     let mut offset = next_length(reply, from);
@@ -164,7 +164,7 @@ pub struct View {
 
 // The view of a reply's first candidates.
 pub fn first_view(reply: &[u8]) -> View
-    ensures { (inView reply.now result ≡ candidates reply.now) × (Within reply.now result) }
+    ensures { (in_view reply.now result ≡ candidates reply.now) × (Within reply.now result) }
 {
     let one = next_candidate(reply, no_text(), 0);
     let first = one.text;

@@ -2,20 +2,20 @@
 use mathlib.Core.Path.{◌≡◌, refl}
 use mathlib.Core.List.{[], ◌∷◌}
 use Rattle.codepage.specs.Page.{page037}
-use Rattle.plan.specs.Description.{refusedWith, description, withCodePoint}
-use Rattle.cases.specs.Replies.{replyA}
+use Rattle.plan.specs.Description.{refused_with, description, with_code_point}
+use Rattle.cases.specs.Replies.{reply_a}
 use Rattle.cases.specs.Collection.{EveryCase}
 use Rattle.cases.proofs.Compute.{everything}
 
-pub every-case-holds : EveryCase
+pub every_case_holds : EveryCase
 unfolding everything
-every-case-holds = record { letters = refl; holds = (refl, (refl, (refl, (refl, (refl, (refl, (refl, (refl, (refl, (refl, (refl, (refl, tt)))))))))))) }
+every_case_holds = record { letters = refl; holds = (refl, (refl, (refl, (refl, (refl, (refl, (refl, (refl, (refl, (refl, (refl, (refl, tt)))))))))))) }
 
 -- A with no record lent: 6, 1 needed; and under another code point: 4 with it
-pub a-no-room : description page037 0 replyA ≡ refusedWith (6 ∷ 1 ∷ [])
+pub a_no_room : description page037 0 reply_a ≡ refused_with (6 ∷ 1 ∷ [])
 unfolding everything
-a-no-room = refl
+a_no_room = refl
 
-pub a-other-point : withCodePoint page037 1 0x2408 replyA ≡ refusedWith (4 ∷ 0x2408 ∷ [])
+pub a_other_point : with_code_point page037 1 0x2408 reply_a ≡ refused_with (4 ∷ 0x2408 ∷ [])
 unfolding everything
-a-other-point = refl
+a_other_point = refl

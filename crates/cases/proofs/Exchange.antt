@@ -7,69 +7,69 @@ use native.Mathlib.Omega.{arith}
 use lib.ListN.{take, drop}
 use Rattle.codepage.specs.Page.{page037}
 use Rattle.field.specs.declared.ByteOrder.TheVariants.{BigEndian}
-use Rattle.descriptor.specs.Exchange.{withColumn}
-use Rattle.columns.specs.Cut.{coarseColumn, sameColumn, cutAnswer}
-use Rattle.columns.proofs.Same.{cut-refl}
-use Rattle.sqldard.specs.Exchanged.{newColumn, newColumns, Exchangeable, Exchanged}
-use Rattle.sqldard.proofs.Exchange.{exchange-theorem}
+use Rattle.descriptor.specs.Exchange.{with_column}
+use Rattle.columns.specs.Cut.{coarse_column, same_column, cut_answer}
+use Rattle.columns.proofs.Same.{cut_refl}
+use Rattle.sqldard.specs.Exchanged.{new_column, new_columns, Exchangeable, Exchanged}
+use Rattle.sqldard.proofs.Exchange.{exchange_theorem}
 use Rattle.readings.specs.Listed.{SameRow}
-use Rattle.readings.proofs.Lists.{reading-few, same-cut-same-row}
-use Rattle.readings.proofs.Exchange.{exchange-answer}
-use Rattle.cases.specs.Replies.{doorOf, replyA, replyB, columnA, columnB}
+use Rattle.readings.proofs.Lists.{reading_few, same_cut_same_row}
+use Rattle.readings.proofs.Exchange.{exchange_answer}
+use Rattle.cases.specs.Replies.{door_of, reply_a, reply_b, column_a, column_b}
 use Rattle.cases.specs.Questions.{list_of}
 use Rattle.cases.proofs.Compute.{everything}
 
 -- ---- A to B: the theorem asks nothing that cannot be had
 
-pub a-to-b-asked : Exchangeable page037 1 replyA 0 (doorOf 0x06 0xC4)
+pub a_to_b_asked : Exchangeable page037 1 reply_a 0 (door_of 0x06 0xC4)
 unfolding everything
-a-to-b-asked = record { column = omega arith; complete = refl; within = omega arith; enough = omega arith; named = refl }
+a_to_b_asked = record { column = omega arith; complete = refl; within = omega arith; enough = omega arith; named = refl }
 
 -- the new reply is B
-pub a-to-b : withColumn BigEndian replyA 0 (doorOf 0x06 0xC4) ≡ replyB
+pub a_to_b : with_column BigEndian reply_a 0 (door_of 0x06 0xC4) ≡ reply_b
 unfolding everything
-a-to-b = refl
+a_to_b = refl
 
 -- and its list, by the theorem, is B's
-pub a-to-b-columns : newColumns page037 BigEndian replyA 0 (doorOf 0x06 0xC4) ≡ columnB ∷ []
+pub a_to_b_columns : new_columns page037 BigEndian reply_a 0 (door_of 0x06 0xC4) ≡ column_b ∷ []
 unfolding everything
-a-to-b-columns = refl
+a_to_b_columns = refl
 
-pub a-to-b-exchanged : Exchanged page037 1 replyA 0 (doorOf 0x06 0xC4)
-a-to-b-exchanged = exchange-theorem page037 1 replyA 0 (doorOf 0x06 0xC4) a-to-b-asked
+pub a_to_b_exchanged : Exchanged page037 1 reply_a 0 (door_of 0x06 0xC4)
+a_to_b_exchanged = exchange_theorem page037 1 reply_a 0 (door_of 0x06 0xC4) a_to_b_asked
 
 -- ---- what same cut answers of A and the new reply, whose column is described by d
 
-from-A : (d : List ℕ) → Exchangeable page037 1 replyA 0 d
-    → cutAnswer (list_of replyA) (list_of (withColumn BigEndian replyA 0 d)) ≡ sameColumn columnA (newColumn page037 BigEndian replyA 0 d)
+from_a : (d : List ℕ) → Exchangeable page037 1 reply_a 0 d
+    → cut_answer (list_of reply_a) (list_of (with_column BigEndian reply_a 0 d)) ≡ same_column column_a (new_column page037 BigEndian reply_a 0 d)
 unfolding everything
-from-A d x = exchange-answer page037 1 replyA 0 d x columnA refl (omega arith) refl
+from_a d x = exchange_answer page037 1 reply_a 0 d x column_a refl (omega arith) refl
 
 -- A and B differ in length
-pub a-b-cut : cutAnswer (list_of replyA) (list_of replyB) ≡ false
-unfolding everything coarseColumn sameColumn
-a-b-cut = ap (λ (s : List ℕ). cutAnswer (list_of replyA) (list_of s)) (sym a-to-b) ∙ from-A (doorOf 0x06 0xC4) a-to-b-asked
+pub a_b_cut : cut_answer (list_of reply_a) (list_of reply_b) ≡ false
+unfolding everything coarse_column same_column
+a_b_cut = ap (λ (s : List ℕ). cut_answer (list_of reply_a) (list_of s)) (sym a_to_b) ∙ from_a (door_of 0x06 0xC4) a_to_b_asked
 
-pub a-a-cut : cutAnswer (list_of replyA) (list_of replyA) ≡ true
-a-a-cut = cut-refl (list_of replyA) (reading-few page037 1 replyA)
+pub a_a_cut : cut_answer (list_of reply_a) (list_of reply_a) ≡ true
+a_a_cut = cut_refl (list_of reply_a) (reading_few page037 1 reply_a)
 
 -- ---- A with the name GATE: rows are cut as before, and are as wide
 
 abbrev gate : List ℕ
-gate = take 21 (doorOf 0x04 0xC4) ++ (0x47 ∷ 0x41 ∷ 0x54 ∷ 0x45 ∷ drop 25 (doorOf 0x04 0xC4))
+gate = take 21 (door_of 0x04 0xC4) ++ (0x47 ∷ 0x41 ∷ 0x54 ∷ 0x45 ∷ drop 25 (door_of 0x04 0xC4))
 
-abbrev replyGate : List ℕ
-replyGate = withColumn BigEndian replyA 0 gate
+abbrev reply_gate : List ℕ
+reply_gate = with_column BigEndian reply_a 0 gate
 
-gate-asked : Exchangeable page037 1 replyA 0 gate
+gate_asked : Exchangeable page037 1 reply_a 0 gate
 unfolding everything
-gate-asked = record { column = omega arith; complete = refl; within = omega arith; enough = omega arith; named = refl }
+gate_asked = record { column = omega arith; complete = refl; within = omega arith; enough = omega arith; named = refl }
 
-pub gate-cut : cutAnswer (list_of replyA) (list_of replyGate) ≡ true
-unfolding everything coarseColumn sameColumn
-gate-cut = from-A gate gate-asked
+pub gate_cut : cut_answer (list_of reply_a) (list_of reply_gate) ≡ true
+unfolding everything coarse_column same_column
+gate_cut = from_a gate gate_asked
 
-pub gate-row : SameRow (list_of replyA) (list_of replyGate)
-gate-row =
-    let t = same-cut-same-row page037 page037 1 1 replyA replyGate in
-    t.rows (sym t.answers ∙ gate-cut)
+pub gate_row : SameRow (list_of reply_a) (list_of reply_gate)
+gate_row =
+    let t = same_cut_same_row page037 page037 1 1 reply_a reply_gate in
+    t.rows (sym t.answers ∙ gate_cut)

@@ -1,11 +1,11 @@
 -- The lettered cases of document 01, A to L, and that they all hold; proved in proofs/Cases.antt.
 use Rattle.std.specs.Prelude.{◌≡◌, List, [], ◌∷◌, map, ℕ, ℤ, pos, negsuc}
 use Prim.Native.String.{String}
-use Rattle.text.specs.Text.{textIs}
+use Rattle.text.specs.Text.{text_is}
 use Rattle.types.specs.declared.ColumnMetadata.{ColumnMetadata}
-use Rattle.sqlcard.specs.Card.{successCard}
-use Rattle.plan.specs.Description.{Description, refusedWith}
-use Rattle.cases.specs.Replies.{replyA, replyB, replyC, replyD, columnA, columnB, columnC, columnD}
+use Rattle.sqlcard.specs.Card.{success_card}
+use Rattle.plan.specs.Description.{Description, refused_with}
+use Rattle.cases.specs.Replies.{reply_a, reply_b, reply_c, reply_d, column_a, column_b, column_c, column_d}
 use Rattle.cases.specs.Questions.{Question, Size, Describe, Names, WidestRow, Decode, Sqlcode, CompactCcsid, DecimalLength, Answer, Described, Called, Wide, Decoded, Code, Number, answer}
 
 -- a question, and what document 01 says to it (01, Replies on the edge)
@@ -28,7 +28,7 @@ case x l = record { letter = x; claims = l }
 
 -- accepted, with the status for success and these columns (01, Answers)
 abbrev pub accepted : List ColumnMetadata → Description
-accepted columns = record { refusal = 0 ∷ []; card = successCard; columns = columns }
+accepted columns = record { refusal = 0 ∷ []; card = success_card; columns = columns }
 
 -- DOOR in ASCII (01, Replies on the edge: A, I)
 abbrev pub door : List ℕ
@@ -46,24 +46,24 @@ minus100 = negsuc 99
 abbrev pub cases : List Case
 cases =
     case "A"
-    (says (Size replyA) (Number 41) ∷
-    says (Describe replyA) (Described (accepted (columnA ∷ []))) ∷
-    says (Names replyA) (Called (door ∷ [])) ∷
+    (says (Size reply_a) (Number 41) ∷
+    says (Describe reply_a) (Described (accepted (column_a ∷ []))) ∷
+    says (Names reply_a) (Called (door ∷ [])) ∷
     []) ∷
-    case "B" (says (Describe replyB) (Described (accepted (columnB ∷ []))) ∷ []) ∷
-    case "C" (says (Describe replyC) (Described (accepted (columnC ∷ []))) ∷ says (WidestRow replyC) (Wide (0 ∷ []) 5) ∷ []) ∷
-    case "D" (says (Describe replyD) (Described (accepted (columnD ∷ []))) ∷ says (Names replyD) (Called (col1 ∷ [])) ∷ []) ∷
-    case "E" (says (Describe []) (Described (refusedWith (1 ∷ []))) ∷ []) ∷
-    case "F" (says (Describe (0x00 ∷ [])) (Described (refusedWith (2 ∷ 19 ∷ 1 ∷ []))) ∷ []) ∷
-    case "G" (says (Describe (0xFF ∷ 0x00 ∷ [])) (Described (refusedWith (2 ∷ 14 ∷ 2 ∷ []))) ∷ []) ∷
+    case "B" (says (Describe reply_b) (Described (accepted (column_b ∷ []))) ∷ []) ∷
+    case "C" (says (Describe reply_c) (Described (accepted (column_c ∷ []))) ∷ says (WidestRow reply_c) (Wide (0 ∷ []) 5) ∷ []) ∷
+    case "D" (says (Describe reply_d) (Described (accepted (column_d ∷ []))) ∷ says (Names reply_d) (Called (col1 ∷ [])) ∷ []) ∷
+    case "E" (says (Describe []) (Described (refused_with (1 ∷ []))) ∷ []) ∷
+    case "F" (says (Describe (0x00 ∷ [])) (Described (refused_with (2 ∷ 19 ∷ 1 ∷ []))) ∷ []) ∷
+    case "G" (says (Describe (0xFF ∷ 0x00 ∷ [])) (Described (refused_with (2 ∷ 14 ∷ 2 ∷ []))) ∷ []) ∷
     case "H"
     (says (Describe (0xFF ∷ [])) (Described (accepted [])) ∷
     says (Describe (0xFF ∷ 0xFF ∷ 0x02 ∷ 0x00 ∷ [])) (Described (accepted [])) ∷
     []) ∷
     case "I"
-    (says (Decode (0xC4 ∷ 0xD6 ∷ 0xD6 ∷ 0xD9 ∷ [])) (Decoded (textIs 0 4 2) door) ∷
-    says (Decode (0x40 ∷ 0x40 ∷ [])) (Decoded (textIs 0 2 1) (0x40 ∷ 0x40 ∷ [])) ∷
-    says (Decode (0x40 ∷ 0xC1 ∷ [])) (Decoded (textIs 1 1 2) (0x41 ∷ [])) ∷
+    (says (Decode (0xC4 ∷ 0xD6 ∷ 0xD6 ∷ 0xD9 ∷ [])) (Decoded (text_is 0 4 2) door) ∷
+    says (Decode (0x40 ∷ 0x40 ∷ [])) (Decoded (text_is 0 2 1) (0x40 ∷ 0x40 ∷ [])) ∷
+    says (Decode (0x40 ∷ 0xC1 ∷ [])) (Decoded (text_is 1 1 2) (0x41 ∷ [])) ∷
     []) ∷
     case "J"
     (says (Sqlcode (0x9C ∷ 0xFF ∷ 0xFF ∷ 0xFF ∷ [])) (Code minus100) ∷

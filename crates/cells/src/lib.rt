@@ -3,15 +3,15 @@
 #![tactic(auto)]
 
 ghost use Rattle.std.specs.Prelude.{◌++◌, ◌≡◌};
-ghost use Rattle.decimal.specs.Decimal.{decimalOf};
+ghost use Rattle.decimal.specs.Decimal.{decimal_of};
 ghost use Rattle.line.specs.Line.{Appended, padded};
-ghost use Rattle.cells.specs.Cells.{isSized, inBrackets, precisionText, valuesText, typeText, yesOrNo, numberCell, cells_of};
+ghost use Rattle.cells.specs.Cells.{is_sized, in_brackets, precision_text, values_text, type_text, yes_or_no, number_cell, cells_of};
 
 use types::{ColumnMetadata, Db2Type};
 
 // Whether types with this code have one value, a length or digits.
 fn is_sized(code: u8) -> bool
-    ensures { result ≡ isSized code }
+    ensures { result ≡ is_sized code }
 {
     (code == 0xBA)
         | ((code == 0x30)
@@ -22,7 +22,7 @@ fn is_sized(code: u8) -> bool
 
 // `(5,1)` of a value that holds precision and scale.
 fn append_precision(line: &mut [u8], used: usize, value: u64) -> usize
-    ensures { Appended line.old used (precisionText value) line.new result }
+    ensures { Appended line.old used (precision_text value) line.new result }
 {
     let next = line::append(line, used, b"(");
     let next = line::append_decimal(line, next, value / 256);
@@ -33,7 +33,7 @@ fn append_precision(line: &mut [u8], used: usize, value: u64) -> usize
 
 // `(10)`.
 fn append_size(line: &mut [u8], used: usize, value: u64) -> usize
-    ensures { Appended line.old used (inBrackets (decimalOf value)) line.new result }
+    ensures { Appended line.old used (in_brackets (decimal_of value)) line.new result }
 {
     let next = line::append(line, used, b"(");
     let next = line::append_decimal(line, next, value);
@@ -42,7 +42,7 @@ fn append_size(line: &mut [u8], used: usize, value: u64) -> usize
 
 // What a type with this code and value says besides its name.
 fn append_values(line: &mut [u8], used: usize, code: u8, value: u64) -> usize
-    ensures { Appended line.old used (valuesText code value) line.new result }
+    ensures { Appended line.old used (values_text code value) line.new result }
 {
     if code == 0x0C {
         return append_precision(line, used, value);
@@ -55,7 +55,7 @@ fn append_values(line: &mut [u8], used: usize, code: u8, value: u64) -> usize
 
 // A type's name, whose letters are given, with what it says besides.
 pub fn append_type(line: &mut [u8], used: usize, letters: &[u8], db2_type: Db2Type) -> usize
-    ensures { Appended line.old used (typeText letters.now db2_type) line.new result }
+    ensures { Appended line.old used (type_text letters.now db2_type) line.new result }
 {
     let code = sqlda::type_code(db2_type);
     let value = sqlda::type_value(db2_type);
@@ -70,7 +70,7 @@ fn append_type_cell(
     db2_type: Db2Type,
     width: usize,
 ) -> usize
-    ensures { Appended line.old used (padded width (typeText letters.now db2_type)) line.new result }
+    ensures { Appended line.old used (padded width (type_text letters.now db2_type)) line.new result }
 {
     let next = append_type(line, used, letters, db2_type);
     line::append_padded(line, next, used, width)
@@ -78,7 +78,7 @@ fn append_type_cell(
 
 // A number under a head of this width.
 fn append_number_cell(line: &mut [u8], used: usize, number: u16, width: usize) -> usize
-    ensures { Appended line.old used (padded width (decimalOf number)) line.new result }
+    ensures { Appended line.old used (padded width (decimal_of number)) line.new result }
 {
     let next = line::append_decimal(line, used, number as u64);
     line::append_padded(line, next, used, width)
@@ -86,13 +86,13 @@ fn append_number_cell(line: &mut [u8], used: usize, number: u16, width: usize) -
 
 // The number of a column, under its head.
 pub fn append_number(line: &mut [u8], used: usize, column: ColumnMetadata) -> usize
-    ensures { Appended line.old used (numberCell column) line.new result }
+    ensures { Appended line.old used (number_cell column) line.new result }
 {
     append_number_cell(line, used, column.number, 6)
 }
 
 fn append_yes_or_no(line: &mut [u8], used: usize, holds: bool) -> usize
-    ensures { Appended line.old used (yesOrNo holds) line.new result }
+    ensures { Appended line.old used (yes_or_no holds) line.new result }
 {
     if holds {
         return line::append(line, used, b"yes");
@@ -101,7 +101,7 @@ fn append_yes_or_no(line: &mut [u8], used: usize, holds: bool) -> usize
 }
 
 fn append_nullable_cell(line: &mut [u8], used: usize, nullable: bool) -> usize
-    ensures { Appended line.old used (padded 8 (yesOrNo nullable)) line.new result }
+    ensures { Appended line.old used (padded 8 (yes_or_no nullable)) line.new result }
 {
     let next = append_yes_or_no(line, used, nullable);
     line::append_padded(line, next, used, 8)

@@ -32,5 +32,5 @@ abbrev pub page037 : Page
 page037 = record { table = table037; alphabet = 2 }
 
 -- the character of a byte in a page (01, Parts 1: a byte becomes one character)
-abbrev pub charIn : Page → ℕ → ℕ
-charIn page b = get_or page.table b 0
+abbrev pub char_in : Page → ℕ → ℕ
+char_in page b = get_or page.table b 0

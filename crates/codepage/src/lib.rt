@@ -5,12 +5,12 @@ mod page037;
 
 ghost use Rattle.std.specs.Prelude.{◌≡◌, map, ◌≤◌, length, get_or};
 ghost use Rattle.search.specs.Search.{over};
-ghost use Rattle.codepage.specs.Page.{page037, charIn};
-ghost use Rattle.codepage.specs.Blank.{isBlankIn};
+ghost use Rattle.codepage.specs.Page.{page037, char_in};
+ghost use Rattle.codepage.specs.Blank.{is_blank_in};
 
 // The character of a byte.
 pub fn ebcdic037_to_unicode(byte: u8) -> u8
-    ensures { result ≡ charIn page037 byte }
+    ensures { result ≡ char_in page037 byte }
 {
     page037::EBCDIC_037_TO_UNICODE[byte as usize]
 }
@@ -33,7 +33,7 @@ pub fn char_by(table: &[u8], byte: u8) -> u8
 // Writes the bytes' characters over the buffer's front.
 pub fn write_chars(bytes: &[u8], buffer: &mut [u8])
     requires { length bytes.now ≤ length buffer.old }
-    ensures { buffer.new ≡ over (map (charIn page037) bytes.now) buffer.old }
+    ensures { buffer.new ≡ over (map (char_in page037) bytes.now) buffer.old }
 {
     let table = ebcdic037_table();
     let mut i = 0;
@@ -45,7 +45,7 @@ pub fn write_chars(bytes: &[u8], buffer: &mut [u8])
 
 // Whether trimming drops the byte's character. By the eight bytes themselves: naming the table would copy it at each call.
 pub fn is_blank_byte(byte: u8) -> bool
-    ensures { result ≡ isBlankIn page037 byte }
+    ensures { result ≡ is_blank_in page037 byte }
 {
     (byte >= 0x0B) & (byte <= 0x0D)
         | (byte == 0x05)

@@ -2,16 +2,16 @@
 use Rattle.std.specs.Prelude.{List, [], ◌∷◌, ◌≡◌, ℕ, ◌+◌, ◌-◌, ◌≤◌, eqb}
 use Rattle.search.specs.Search.{pick}
 use Rattle.text.specs.declared.Text.{Text}
-use Rattle.text.specs.Text.{textIs, bytes_of}
+use Rattle.text.specs.Text.{text_is, bytes_of}
 use Rattle.types.specs.declared.ColumnMetadata.{ColumnMetadata}
 
 -- a text that has bytes, moved as far as from a to b; one that has none stays (01, What each entry owes (e): places of texts that have bytes)
-unfoldable pub moveText : ℕ → ℕ → Text → Text
-moveText a b t = pick (eqb t.length 0) t (textIs (t.place - a + b) t.length t.alphabet)
+unfoldable pub move_text : ℕ → ℕ → Text → Text
+move_text a b t = pick (eqb t.length 0) t (text_is (t.place - a + b) t.length t.alphabet)
 
 -- a column whose texts are so moved, and nothing else of it (01, What each entry owes (e))
-unfoldable pub moveColumn : ℕ → ℕ → ColumnMetadata → ColumnMetadata
-moveColumn a b c = record {
+unfoldable pub move_column : ℕ → ℕ → ColumnMetadata → ColumnMetadata
+move_column a b c = record {
   number = c.number;
   db2_type = c.db2_type;
   drda_type = c.drda_type;
@@ -21,15 +21,15 @@ moveColumn a b c = record {
   scale = c.scale;
   ccsid = c.ccsid;
   byte_order = c.byte_order;
-  name = moveText a b c.name;
-  label = moveText a b c.label;
-  base_table_name = moveText a b c.base_table_name;
-  schema_name = moveText a b c.schema_name;
+  name = move_text a b c.name;
+  label = move_text a b c.label;
+  base_table_name = move_text a b c.base_table_name;
+  schema_name = move_text a b c.schema_name;
 }
 
 -- the bytes of a column's four texts (01, Answers: name, label, base table, schema)
-unfoldable pub columnBytes : List ℕ → ColumnMetadata → List (List ℕ)
-columnBytes s c =
+unfoldable pub column_bytes : List ℕ → ColumnMetadata → List (List ℕ)
+column_bytes s c =
     bytes_of s c.name ∷ bytes_of s c.label ∷ bytes_of s c.base_table_name ∷ bytes_of s c.schema_name ∷ []
 
 -- a text's bytes, if it has any, lie from p on and up to q (01, What each entry owes (e): texts that have bytes)

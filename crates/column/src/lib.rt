@@ -4,9 +4,9 @@
 ghost use Rattle.std.specs.Prelude.{◌≡◌, not, ◌++◌, ◌+◌, ◌<◌, ◌≤◌, length, get_or, drop};
 ghost use Rattle.search.specs.Search.{pick};
 ghost use Rattle.codepage.specs.Page.{page037};
-ghost use Rattle.text.specs.Generated.{isGeneratedText};
-ghost use Rattle.column.specs.Column.{stringText, nameText, StringsInside, blankColumn};
-ghost use Rattle.column.specs.Numbers.{orderNumber, order_of, textFrom, numbersOf, Fits, columnOf};
+ghost use Rattle.text.specs.Generated.{is_generated_text};
+ghost use Rattle.column.specs.Column.{string_text, name_text, StringsInside, blank_column};
+ghost use Rattle.column.specs.Numbers.{order_number, order_of, text_from, numbers_of, Fits, column_of};
 
 use field::ByteOrder;
 use strings::StringRead;
@@ -39,7 +39,7 @@ pub struct Run {
 // Whether a column has a name of its own: one that is there, and does not read like those that the reader itself gives.
 pub fn is_named(reply: &[u8], name: StringRead) -> bool
     requires { name.place + name.length ≤ length reply.now }
-    ensures { result ≡ not (isGeneratedText page037 reply.now (nameText page037 reply.now name)) }
+    ensures { result ≡ not (is_generated_text page037 reply.now (name_text page037 reply.now name)) }
 {
     if name.length == 0 {
         return false;
@@ -50,14 +50,14 @@ pub fn is_named(reply: &[u8], name: StringRead) -> bool
 // 1 for such a name, else 0: runs of descriptors count with it.
 pub fn one_if_named(reply: &[u8], name: StringRead) -> usize
     requires { name.place + name.length ≤ length reply.now }
-    ensures { (result ≡ pick (not (isGeneratedText page037 reply.now (nameText page037 reply.now name))) 1 0) × (result ≤ 1) }
+    ensures { (result ≡ pick (not (is_generated_text page037 reply.now (name_text page037 reply.now name))) 1 0) × (result ≤ 1) }
 {
     if is_named(reply, name) { 1 } else { 0 }
 }
 
 fn string_text(reply: &[u8], string: StringRead) -> Text
     requires { string.place + string.length ≤ length reply.now }
-    ensures { result ≡ stringText page037 reply.now string }
+    ensures { result ≡ string_text page037 reply.now string }
 {
     text::decode_text(reply, string.place, string.length)
 }
@@ -65,7 +65,7 @@ fn string_text(reply: &[u8], string: StringRead) -> Text
 // The text of a column's name; alphabet 0 says that it is generated from the column's number.
 fn name_text(reply: &[u8], name: StringRead) -> Text
     requires { name.place + name.length ≤ length reply.now }
-    ensures { result ≡ nameText page037 reply.now name }
+    ensures { result ≡ name_text page037 reply.now name }
 {
     if name.length == 0 {
         return Text {
@@ -78,7 +78,7 @@ fn name_text(reply: &[u8], name: StringRead) -> Text
 }
 
 pub fn order_number(order: ByteOrder) -> u64
-    ensures { result ≡ orderNumber order }
+    ensures { result ≡ order_number order }
 {
     match order {
         ByteOrder::BigEndian => 0,
@@ -112,7 +112,7 @@ pub fn put_values(values: &[u64], numbers: &mut [u64])
 pub fn put_column(reply: &[u8], number: u16, described: Described, numbers: &mut [u64])
     requires in_bounds { 19 ≤ length numbers.old }
     requires strings_inside { StringsInside reply.now described }
-    ensures numbers_after { numbers.new ≡ numbersOf page037 reply.now number described ++ drop 19 numbers.old }
+    ensures numbers_after { numbers.new ≡ numbers_of page037 reply.now number described ++ drop 19 numbers.old }
     ensures fits { Fits numbers.new }
 {
     let name = name_text(reply, described.name);
@@ -148,7 +148,7 @@ pub fn put_column(reply: &[u8], number: u16, described: Described, numbers: &mut
 pub fn text_from(numbers: &[u64], at: usize) -> Text
     requires at_in_bounds { at + 2 < length numbers.now }
     requires at_bound { get_or numbers.now (at + 2) 0 < 256 }
-    ensures { result ≡ textFrom numbers.now at (at + 1) (at + 2) }
+    ensures { result ≡ text_from numbers.now at (at + 1) (at + 2) }
 {
     Text {
         place: numbers[at] as usize,
@@ -161,7 +161,7 @@ pub fn text_from(numbers: &[u64], at: usize) -> Text
 pub fn column_of(numbers: &[u64]) -> ColumnMetadata
     requires in_bounds { 19 ≤ length numbers.now }
     requires fits { Fits numbers.now }
-    ensures { result ≡ columnOf numbers.now }
+    ensures { result ≡ column_of numbers.now }
 {
     let sql_type = numbers[1] as u16;
     let precision = numbers[3] as u8;
@@ -188,7 +188,7 @@ pub fn column_of(numbers: &[u64]) -> ColumnMetadata
 
 // What a lent list of columns holds before they are filled in.
 pub fn blank_column() -> ColumnMetadata
-    ensures { result ≡ blankColumn }
+    ensures { result ≡ blank_column }
 {
     let empty = Text {
         place: 0,

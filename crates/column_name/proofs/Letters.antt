@@ -7,16 +7,16 @@ use lib.ListN.{length, take, drop, set, length-set, length-drop}
 use lib.Seq.{take_all}
 use Rattle.decimal.specs.Decimal.{Spells}
 use Rattle.decimal.proofs.Counting.{stored}
-use Rattle.column_name.specs.Name.{generatedName}
+use Rattle.column_name.specs.Name.{generated_name}
 
 -- the characters cs with COL before start
-abbrev withCol : List ℕ → ℕ → List ℕ
-withCol cs start = set (set (set cs (start - 1) 0x4C) (start - 2) 0x4F) (start - 3) 0x43
+abbrev with_col : List ℕ → ℕ → List ℕ
+with_col cs start = set (set (set cs (start - 1) 0x4C) (start - 2) 0x4F) (start - 3) 0x43
 
 module _ (number : ℕ) {cs : List ℕ} {start : ℕ} (s : Spells (number + 1) cs start) where
-  pub col-before : drop (start - 3) (withCol cs start) ≡ generatedName number
-  unfolding generatedName
-  col-before =
+  pub col_before : drop (start - 3) (with_col cs start) ≡ generated_name number
+  unfolding generated_name
+  col_before =
       let l₁ = set cs (start - 1) 0x4C in
       let l₂ = set l₁ (start - 2) 0x4F in
       let n₁ : length l₁ ≡ 24 = simp length-set s.long in
@@ -26,6 +26,6 @@ module _ (number : ℕ) {cs : List ℕ} {start : ℕ} (s : Spells (number + 1) c
       (stored cs _ (start - 1) start 0x4C (omega (arith, s.free)) (omega (arith, s.some, s.long)) s.ends))
 
 -- the characters as the code lends them
-pub lent-name : (cs : List ℕ) (start number : ℕ) → length cs ≡ 24 → drop start cs ≡ generatedName number
-    → take (24 - start) (drop start cs) ≡ generatedName number
-lent-name cs start number h e = take_all (24 - start) (drop start cs) (omega (arith, length-drop start cs)) ∙ e
+pub lent_name : (cs : List ℕ) (start number : ℕ) → length cs ≡ 24 → drop start cs ≡ generated_name number
+    → take (24 - start) (drop start cs) ≡ generated_name number
+lent_name cs start number h e = take_all (24 - start) (drop start cs) (omega (arith, length-drop start cs)) ∙ e

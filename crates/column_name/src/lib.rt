@@ -3,11 +3,11 @@
 
 ghost use Rattle.std.specs.Prelude.{◌≡◌, false, [], ◌∷◌, ◌≤◌, length, drop};
 ghost use Rattle.codepage.specs.Page.{page037};
-ghost use Rattle.outcome.specs.Refusal.{refusalOf, is_refused};
+ghost use Rattle.outcome.specs.Refusal.{refusal_of, is_refused};
 ghost use Rattle.text.specs.Chars.{chars};
-ghost use Rattle.column_name.specs.Part.{partRefusal, ownBytes, part_of};
-ghost use Rattle.column_name.specs.Name.{generatedName, givenRefusal, givenLength, givenWritten, nameRefusal, nameLength, nameWritten};
-ghost use Rattle.outcome.specs.Room.{roomRefusal, roomLength, roomWritten};
+ghost use Rattle.column_name.specs.Part.{part_refusal, own_bytes, part_of};
+ghost use Rattle.column_name.specs.Name.{generated_name, given_refusal, given_length, given_written, name_refusal, name_length, name_written};
+ghost use Rattle.outcome.specs.Room.{room_refusal, room_length, room_written};
 
 use outcome::Outcome;
 use text::Text;
@@ -15,7 +15,7 @@ use types::ColumnMetadata;
 
 // Whether the name's bytes can be had of the reply, and why not. No sum is made of place and length: it might not fit.
 fn part_outcome(reply: &[u8], name: Text) -> Outcome
-    ensures { refusalOf result ≡ partRefusal reply.now name }
+    ensures { refusal_of result ≡ part_refusal reply.now name }
 {
     if reply.len() > 65536 {
         return Outcome::ReplyTooLong;
@@ -34,8 +34,8 @@ fn part_outcome(reply: &[u8], name: Text) -> Outcome
 
 // The bytes of a name that is not refused. A generated one has none, whatever its place and length.
 fn own_bytes<'a>(reply: &'a [u8], name: Text) -> &'a [u8]
-    requires { is_refused (partRefusal reply.now name) ≡ false }
-    ensures { result.now ≡ ownBytes reply.now name }
+    requires { is_refused (part_refusal reply.now name) ≡ false }
+    ensures { result.now ≡ own_bytes reply.now name }
 {
     if name.alphabet == 0 {
         return &reply[0..0];
@@ -48,7 +48,7 @@ fn own_bytes<'a>(reply: &'a [u8], name: Text) -> &'a [u8]
 
 // The entry name part. The number of the refusal goes to `refusal`: 0 where the part is given; the part is empty where it is not.
 pub fn name_part<'a>(reply: &'a [u8], column: ColumnMetadata, refusal: &mut u8) -> &'a [u8]
-    ensures refuses { refusal.new ∷ [] ≡ partRefusal reply.now column.name }
+    ensures refuses { refusal.new ∷ [] ≡ part_refusal reply.now column.name }
     ensures gives { result.now ≡ part_of reply.now column.name }
 {
     let name = column.name;
@@ -69,7 +69,7 @@ pub struct Generated {
 
 fn generated_name(number: u16) -> Generated
     ensures within { (result.start ≤ 24) × (length result.characters ≡ 24) }
-    ensures ends { drop result.start result.characters ≡ generatedName number }
+    ensures ends { drop result.start result.characters ≡ generated_name number }
 {
     let digits = decimal::digits_of(number as u64 + 1);
     let start = digits.start;
@@ -98,9 +98,9 @@ fn refused(outcome: Outcome) -> NameText
 
 // Writes the characters of a text over the buffer's front, where there is room for them.
 fn write_text(bytes: &[u8], alphabet: u8, buffer: &mut [u8]) -> NameText
-    ensures refuses { refusalOf result.outcome ≡ roomRefusal (chars page037 alphabet bytes.now) (length buffer.old) }
-    ensures gives { result.length ≡ roomLength (chars page037 alphabet bytes.now) (length buffer.old) }
-    ensures leaves { buffer.new ≡ roomWritten (chars page037 alphabet bytes.now) buffer.old }
+    ensures refuses { refusal_of result.outcome ≡ room_refusal (chars page037 alphabet bytes.now) (length buffer.old) }
+    ensures gives { result.length ≡ room_length (chars page037 alphabet bytes.now) (length buffer.old) }
+    ensures leaves { buffer.new ≡ room_written (chars page037 alphabet bytes.now) buffer.old }
 {
     let n = bytes.len();
     if buffer.len() < n {
@@ -119,9 +119,9 @@ fn write_text(bytes: &[u8], alphabet: u8, buffer: &mut [u8]) -> NameText
 
 // The text of a column of this number, for callers who have no record. Nothing is written where it refuses.
 pub fn given_text(reply: &[u8], number: u16, text: Text, buffer: &mut [u8]) -> NameText
-    ensures refuses { refusalOf result.outcome ≡ givenRefusal page037 reply.now number text (length buffer.old) }
-    ensures gives { result.length ≡ givenLength page037 reply.now number text (length buffer.old) }
-    ensures leaves { buffer.new ≡ givenWritten page037 reply.now number text buffer.old }
+    ensures refuses { refusal_of result.outcome ≡ given_refusal page037 reply.now number text (length buffer.old) }
+    ensures gives { result.length ≡ given_length page037 reply.now number text (length buffer.old) }
+    ensures leaves { buffer.new ≡ given_written page037 reply.now number text buffer.old }
 {
     let found = part_outcome(reply, text);
     if outcome::is_refused(found) {
@@ -138,9 +138,9 @@ pub fn given_text(reply: &[u8], number: u16, text: Text, buffer: &mut [u8]) -> N
 
 // The entry name text.
 pub fn name_text(reply: &[u8], column: ColumnMetadata, buffer: &mut [u8]) -> NameText
-    ensures refuses { refusalOf result.outcome ≡ nameRefusal page037 reply.now column (length buffer.old) }
-    ensures gives { result.length ≡ nameLength page037 reply.now column (length buffer.old) }
-    ensures leaves { buffer.new ≡ nameWritten page037 reply.now column buffer.old }
+    ensures refuses { refusal_of result.outcome ≡ name_refusal page037 reply.now column (length buffer.old) }
+    ensures gives { result.length ≡ name_length page037 reply.now column (length buffer.old) }
+    ensures leaves { buffer.new ≡ name_written page037 reply.now column buffer.old }
 {
     let name = column.name;
     given_text(reply, column.number, name, buffer)

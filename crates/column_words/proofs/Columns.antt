@@ -12,9 +12,9 @@ use Rattle.field.specs.declared.ByteOrder.{ByteOrder}
 use Rattle.text.specs.declared.Text.{Text}
 use Rattle.types.specs.declared.ColumnMetadata.{ColumnMetadata}
 use Rattle.types.specs.declared.Db2Type.{Db2Type}
-use Rattle.sqlda.specs.Codes.{typeWith, is_type}
-use Rattle.column.specs.Numbers.{order_of, textFrom}
-use Rattle.column_words.specs.Columns.{numbersFit, alphabetsFit, columnIn, isColumn, columnsFrom, areFrom, columnsIn, areColumns}
+use Rattle.sqlda.specs.Codes.{type_with, is_type}
+use Rattle.column.specs.Numbers.{order_of, text_from}
+use Rattle.column_words.specs.Columns.{numbers_fit, alphabets_fit, column_in, is_column, columns_from, are_from, columns_in, are_columns}
 
 -- the fields of a record that words from `at` on fit
 pub record FitsAt (w : List ℕ) (at : ℕ) : Type 0 where
@@ -32,10 +32,10 @@ pub record FitsAt (w : List ℕ) (at : ℕ) : Type 0 where
   pub base : get_or w (at + 18) 0 < 256
   pub schema : get_or w (at + 21) 0 < 256
 
-pub fits-at : (w : List ℕ) (at : ℕ) → isColumn w at ≡ true → FitsAt w at
-unfolding isColumn numbersFit alphabetsFit is_type
-fits-at w at e =
-    let parts = (and-eq-true_iff (numbersFit w at) (alphabetsFit w at)).0 e in
+pub fits_at : (w : List ℕ) (at : ℕ) → is_column w at ≡ true → FitsAt w at
+unfolding is_column numbers_fit alphabets_fit is_type
+fits_at w at e =
+    let parts = (and-eq-true_iff (numbers_fit w at) (alphabets_fit w at)).0 e in
     let number = (and-eq-true_iff _ _).0 parts.0 in
     let typed = (and-eq-true_iff _ _).0 number.1 in
     let value = (and-eq-true_iff _ _).0 typed.0 in
@@ -67,83 +67,83 @@ fits-at w at e =
 -- ---- the columns of words, by their places
 
 module _ (w : List ℕ) where
-  from-length : (k at : ℕ) → length (columnsFrom w k at) ≡ k
-  unfolding columnsFrom
-  from-length zero at = refl
-  from-length (suc k) at = ap suc (from-length k (at + 22))
+  from_length : (k at : ℕ) → length (columns_from w k at) ≡ k
+  unfolding columns_from
+  from_length zero at = refl
+  from_length (suc k) at = ap suc (from_length k (at + 22))
 
-  from_at : (k at i : ℕ) (d : ColumnMetadata) → i < k → get_or (columnsFrom w k at) i d ≡ columnIn w (at + i * 22)
-  unfolding columnsFrom
+  from_at : (k at i : ℕ) (d : ColumnMetadata) → i < k → get_or (columns_from w k at) i d ≡ column_in w (at + i * 22)
+  unfolding columns_from
   from_at zero at i d h = absurd (omega arith)
-  from_at (suc k) at zero d h = let e : at ≡ at + 0 * 22 = omega arith in ap (columnIn w) e
+  from_at (suc k) at zero d h = let e : at ≡ at + 0 * 22 = omega arith in ap (column_in w) e
   from_at (suc k) at (suc i) d h =
       let e : at + 22 + i * 22 ≡ at + suc i * 22 = omega arith in
-      from_at k (at + 22) i d (omega arith) ∙ ap (columnIn w) e
+      from_at k (at + 22) i d (omega arith) ∙ ap (column_in w) e
 
-  fits-from : (k at i : ℕ) → areFrom w k at ≡ true → i < k → isColumn w (at + i * 22) ≡ true
-  unfolding areFrom
-  fits-from zero at i t h = absurd (omega arith)
-  fits-from (suc k) at zero t h =
+  fits_from : (k at i : ℕ) → are_from w k at ≡ true → i < k → is_column w (at + i * 22) ≡ true
+  unfolding are_from
+  fits_from zero at i t h = absurd (omega arith)
+  fits_from (suc k) at zero t h =
       let e : at ≡ at + 0 * 22 = omega arith in
-      ap (isColumn w) (sym e) ∙ ((and-eq-true_iff (isColumn w at) (areFrom w k (at + 22))).0 t).0
-  fits-from (suc k) at (suc i) t h =
+      ap (is_column w) (sym e) ∙ ((and-eq-true_iff (is_column w at) (are_from w k (at + 22))).0 t).0
+  fits_from (suc k) at (suc i) t h =
       let e : at + suc i * 22 ≡ at + 22 + i * 22 = omega arith in
-      ap (isColumn w) e ∙ fits-from k (at + 22) i ((and-eq-true_iff (isColumn w at) (areFrom w k (at + 22))).0 t).1 (omega arith)
+      ap (is_column w) e ∙ fits_from k (at + 22) i ((and-eq-true_iff (is_column w at) (are_from w k (at + 22))).0 t).1 (omega arith)
 
-  pub columns-length : length (columnsIn w) ≡ length w / 22
-  unfolding columnsIn
-  columns-length = from-length (length w / 22) 0
+  pub columns_length : length (columns_in w) ≡ length w / 22
+  unfolding columns_in
+  columns_length = from_length (length w / 22) 0
 
   -- column i is the one whose words start at 22 times i
-  pub columns-at : (i : ℕ) (d : ColumnMetadata) → i < length w / 22 → get_or (columnsIn w) i d ≡ columnIn w (i * 22)
-  unfolding columnsIn
-  columns-at i d h = let e : 0 + i * 22 ≡ i * 22 = omega arith in from_at (length w / 22) 0 i d h ∙ ap (columnIn w) e
+  pub columns_at : (i : ℕ) (d : ColumnMetadata) → i < length w / 22 → get_or (columns_in w) i d ≡ column_in w (i * 22)
+  unfolding columns_in
+  columns_at i d h = let e : 0 + i * 22 ≡ i * 22 = omega arith in from_at (length w / 22) 0 i d h ∙ ap (column_in w) e
 
   -- and they fit, where all do
-  pub columns-fit : areColumns w ≡ true → (i : ℕ) → i < length w / 22 → isColumn w (i * 22) ≡ true
-  unfolding areColumns
-  columns-fit t i h =
+  pub columns_fit : are_columns w ≡ true → (i : ℕ) → i < length w / 22 → is_column w (i * 22) ≡ true
+  unfolding are_columns
+  columns_fit t i h =
       let e : i * 22 ≡ 0 + i * 22 = omega arith in
-      ap (isColumn w) e ∙ fits-from (length w / 22) 0 i ((and-eq-true_iff (eqb (length w % 22) 0) (areFrom w (length w / 22) 0)).0 t).1 h
+      ap (is_column w) e ∙ fits_from (length w / 22) 0 i ((and-eq-true_iff (eqb (length w % 22) 0) (are_from w (length w / 22) 0)).0 t).1 h
 
   -- ---- the loop that looks at one record after the other: i are seen, and the next starts at `at`
 
-  module _ (n i at : ℕ) (t : areFrom w n 0 ≡ areFrom w (n - i) at) where
-    turn : i < n → areFrom w n 0 ≡ (isColumn w at && areFrom w (n - (i + 1)) (at + 22))
-    unfolding areFrom
-    turn h = let k : n - i ≡ suc (n - (i + 1)) = omega arith in t ∙ ap (λ (j : ℕ). areFrom w j at) k
+  module _ (n i at : ℕ) (t : are_from w n 0 ≡ are_from w (n - i) at) where
+    turn : i < n → are_from w n 0 ≡ (is_column w at && are_from w (n - (i + 1)) (at + 22))
+    unfolding are_from
+    turn h = let k : n - i ≡ suc (n - (i + 1)) = omega arith in t ∙ ap (λ (j : ℕ). are_from w j at) k
 
-    pub are-more : i < n → isColumn w at ≡ true → areFrom w n 0 ≡ areFrom w (n - (i + 1)) (at + 22)
-    are-more h e = turn h ∙ rw e refl
+    pub are_more : i < n → is_column w at ≡ true → are_from w n 0 ≡ are_from w (n - (i + 1)) (at + 22)
+    are_more h e = turn h ∙ rw e refl
 
-    are-not : i < n → isColumn w at ≡ false → areFrom w n 0 ≡ false
-    are-not h e = turn h ∙ rw e refl
+    are_not : i < n → is_column w at ≡ false → are_from w n 0 ≡ false
+    are_not h e = turn h ∙ rw e refl
 
-    are_all : n ≤ i → areFrom w n 0 ≡ true
-    unfolding areFrom
-    are_all h = let k : n - i ≡ 0 = omega arith in t ∙ ap (λ (j : ℕ). areFrom w j at) k
+    are_all : n ≤ i → are_from w n 0 ≡ true
+    unfolding are_from
+    are_all h = let k : n - i ≡ 0 = omega arith in t ∙ ap (λ (j : ℕ). are_from w j at) k
 
-  module _ (i at : ℕ) (t : areFrom w (length w / 22) 0 ≡ areFrom w (length w / 22 - i) at) (h : length w % 22 ≡ 0) where
-    pub are-no : i < length w / 22 → isColumn w at ≡ false → false ≡ areColumns w
-    unfolding areColumns
-    are-no k e = rw (eq-eqb (length w % 22) 0 h, are-not (length w / 22) i at t k e) refl
+  module _ (i at : ℕ) (t : are_from w (length w / 22) 0 ≡ are_from w (length w / 22 - i) at) (h : length w % 22 ≡ 0) where
+    pub are_no : i < length w / 22 → is_column w at ≡ false → false ≡ are_columns w
+    unfolding are_columns
+    are_no k e = rw (eq-eqb (length w % 22) 0 h, are_not (length w / 22) i at t k e) refl
 
-    pub are-yes : length w / 22 ≤ i → true ≡ areColumns w
-    unfolding areColumns
-    are-yes k = rw (eq-eqb (length w % 22) 0 h, are_all (length w / 22) i at t k) refl
+    pub are_yes : length w / 22 ≤ i → true ≡ are_columns w
+    unfolding are_columns
+    are_yes k = rw (eq-eqb (length w % 22) 0 h, are_all (length w / 22) i at t k) refl
 
-  pub are-cut : (length w % 22 ≡ 0 → ⊥) → false ≡ areColumns w
-  unfolding areColumns
-  are-cut h = rw (ne_eqb (length w % 22) 0 h) refl
+  pub are_cut : (length w % 22 ≡ 0 → ⊥) → false ≡ are_columns w
+  unfolding are_columns
+  are_cut h = rw (ne_eqb (length w % 22) 0 h) refl
 
 -- ---- a record by its parts, as `column_at` has them
 
-text-on : (w : List ℕ) (at k : ℕ) (t : Text) → t ≡ textFrom w (at + k) (at + k + 1) (at + k + 2) → t ≡ textFrom w (at + k) (at + (k + 1)) (at + (k + 2))
-text-on w at k t e = e ∙ rw (add_assoc at k 1, add_assoc at k 2) refl
+text_from_regrouped : (w : List ℕ) (at k : ℕ) (t : Text) → t ≡ text_from w (at + k) (at + k + 1) (at + k + 2) → t ≡ text_from w (at + k) (at + (k + 1)) (at + (k + 2))
+text_from_regrouped w at k t e = e ∙ rw (add_assoc at k 1, add_assoc at k 2) refl
 
-pub column-is : (w : List ℕ) (at : ℕ) (t : Db2Type) (o : ByteOrder) (a b c d : Text) → t ≡ typeWith (get_or w (at + 1) 0) (get_or w (at + 2) 0)
-    → o ≡ order_of (get_or w (at + 9) 0) → a ≡ textFrom w (at + 10) (at + 10 + 1) (at + 10 + 2) → b ≡ textFrom w (at + 13) (at + 13 + 1) (at + 13 + 2)
-    → c ≡ textFrom w (at + 16) (at + 16 + 1) (at + 16 + 2) → d ≡ textFrom w (at + 19) (at + 19 + 1) (at + 19 + 2)
+pub column_is : (w : List ℕ) (at : ℕ) (t : Db2Type) (o : ByteOrder) (a b c d : Text) → t ≡ type_with (get_or w (at + 1) 0) (get_or w (at + 2) 0)
+    → o ≡ order_of (get_or w (at + 9) 0) → a ≡ text_from w (at + 10) (at + 10 + 1) (at + 10 + 2) → b ≡ text_from w (at + 13) (at + 13 + 1) (at + 13 + 2)
+    → c ≡ text_from w (at + 16) (at + 16 + 1) (at + 16 + 2) → d ≡ text_from w (at + 19) (at + 19 + 1) (at + 19 + 2)
     → ◌≡◌ {A = ColumnMetadata} (record {
       number = get_or w at 0;
       db2_type = t;
@@ -158,13 +158,13 @@ pub column-is : (w : List ℕ) (at : ℕ) (t : Db2Type) (o : ByteOrder) (a b c d
       label = b;
       base_table_name = c;
       schema_name = d;
-    }) (columnIn w at)
-unfolding columnIn
-column-is w at t o a b c d et eo ea eb ec ed =
-    let na = text-on w at 10 a ea in
-    let nb = text-on w at 13 b eb in
-    let nc = text-on w at 16 c ec in
-    let nd = text-on w at 19 d ed in
+    }) (column_in w at)
+unfolding column_in
+column_is w at t o a b c d et eo ea eb ec ed =
+    let na = text_from_regrouped w at 10 a ea in
+    let nb = text_from_regrouped w at 13 b eb in
+    let nc = text_from_regrouped w at 16 c ec in
+    let nd = text_from_regrouped w at 19 d ed in
     λ i. record {
       number = get_or w at 0;
       db2_type = et i;

@@ -5,19 +5,19 @@ use mathlib.Core.List.{List}
 use Prim.Native.Nat.{ℕ, ◌*◌, ◌/◌, ◌<◌, ◌≤◌}
 use lib.ListN.{length}
 use borrow.Author.Tests.{lt-ltb, le-ltb}
-use Rattle.column.specs.Column.{blankColumn}
-use Rattle.column_words.specs.Columns.{isColumn, columnIn}
-use Rattle.column_words.specs.Place.{columnAtPlace}
+use Rattle.column.specs.Column.{blank_column}
+use Rattle.column_words.specs.Columns.{is_column, column_in}
+use Rattle.column_words.specs.Place.{column_at_place}
 
 module _ (w : List ℕ) (i : ℕ) where
-  pub place-beyond : length w / 22 ≤ i → blankColumn ≡ columnAtPlace w i
-  unfolding columnAtPlace
-  place-beyond h = sym (rw (le-ltb i (length w / 22) h) refl)
+  pub place_beyond : length w / 22 ≤ i → blank_column ≡ column_at_place w i
+  unfolding column_at_place
+  place_beyond h = sym (rw (le-ltb i (length w / 22) h) refl)
 
-  pub place-of-none : i < length w / 22 → isColumn w (i * 22) ≡ false → blankColumn ≡ columnAtPlace w i
-  unfolding columnAtPlace
-  place-of-none h e = sym (rw (lt-ltb i (length w / 22) h, e) refl)
+  pub place_of_none : i < length w / 22 → is_column w (i * 22) ≡ false → blank_column ≡ column_at_place w i
+  unfolding column_at_place
+  place_of_none h e = sym (rw (lt-ltb i (length w / 22) h, e) refl)
 
-  pub place-of-one : i < length w / 22 → isColumn w (i * 22) ≡ true → columnIn w (i * 22) ≡ columnAtPlace w i
-  unfolding columnAtPlace
-  place-of-one h e = sym (rw (lt-ltb i (length w / 22) h, e) refl)
+  pub place_of_one : i < length w / 22 → is_column w (i * 22) ≡ true → column_in w (i * 22) ≡ column_at_place w i
+  unfolding column_at_place
+  place_of_one h e = sym (rw (lt-ltb i (length w / 22) h, e) refl)

@@ -6,29 +6,29 @@ use native.Mathlib.Omega.{arith}
 use lib.ListN.{length, take, drop, length-drop, drop_of_length-le}
 use lib.Seq.{drop-drop, take_all}
 use Rattle.search.specs.Search.{pick}
-use Rattle.search.proofs.Writing.{blocks-length}
+use Rattle.search.proofs.Writing.{blocks_length}
 use Rattle.types.specs.declared.ColumnMetadata.{ColumnMetadata}
 use Rattle.sqlda.specs.Types.{code_of}
 use Rattle.sqlda.specs.Codes.{value_of}
-use Rattle.column.specs.Numbers.{orderNumber, textNumbers}
-use Rattle.column_words.specs.Words.{words_of, allWords}
+use Rattle.column.specs.Numbers.{order_number, text_numbers}
+use Rattle.column_words.specs.Words.{words_of, all_words}
 
-pub words-length : (c : ColumnMetadata) → length (words_of c) ≡ 22
+pub words_length : (c : ColumnMetadata) → length (words_of c) ≡ 22
 unfolding words_of
-words-length c = refl
+words_length c = refl
 
-pub all-length : (l : List ColumnMetadata) → length (allWords l) ≡ length l * 22
-all-length l = blocks-length words_of 22 words-length l
+pub all_length : (l : List ColumnMetadata) → length (all_words l) ≡ length l * 22
+all_length l = blocks_length words_of 22 words_length l
 
 -- by what the callees give, where `part` is the rest of l from `at` on: the words there are the column's, and those around them stay
-pub words-put : (c : ColumnMetadata) (code value one order : ℕ) (l part : List ℕ) (at : ℕ) → at ≤ length l
-    → code ≡ code_of c.db2_type → value ≡ value_of c.db2_type → one ≡ pick c.nullable 1 0 → order ≡ orderNumber c.byte_order
+pub words_put : (c : ColumnMetadata) (code value one order : ℕ) (l part : List ℕ) (at : ℕ) → at ≤ length l
+    → code ≡ code_of c.db2_type → value ≡ value_of c.db2_type → one ≡ pick c.nullable 1 0 → order ≡ order_number c.byte_order
     → part ≡ (c.number ∷ code ∷ value ∷ c.drda_type ∷ c.length ∷ one ∷ c.precision ∷ c.scale ∷ c.ccsid ∷ order ∷
-    textNumbers c.name (textNumbers c.label (textNumbers c.base_table_name (textNumbers c.schema_name []))))
+    text_numbers c.name (text_numbers c.label (text_numbers c.base_table_name (text_numbers c.schema_name []))))
     ++ drop 22 (take (length l - at) (drop at l))
     → take at l ++ (part ++ drop (length l - at) (drop at l)) ≡ take at l ++ (words_of c ++ drop (at + 22) l)
 unfolding words_of
-words-put c code value one order l part at h ec ev eo er e =
+words_put c code value one order l part at h ec ev eo er e =
     let k = length-drop at l in
     let whole : take (length l - at) (drop at l) ≡ drop at l = take_all (length l - at) (drop at l) (omega arith) in
     let none : drop (length l - at) (drop at l) ≡ [] = drop_of_length-le (drop at l) {i = length l - at} (omega arith) in

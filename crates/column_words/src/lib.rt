@@ -3,10 +3,10 @@
 
 ghost use Rattle.std.specs.Prelude.{◌≡◌, true, ◌++◌, ◌+◌, ◌<◌, ◌≤◌, length, get_or, take, drop};
 ghost use Rattle.search.specs.Search.{pick};
-ghost use Rattle.sqlda.specs.Codes.{typeWith};
+ghost use Rattle.sqlda.specs.Codes.{type_with};
 ghost use Rattle.column_words.specs.Words.{words_of};
-ghost use Rattle.column_words.specs.Place.{columnAtPlace};
-ghost use Rattle.column_words.specs.Columns.{numbersFit, alphabetsFit, isColumn, columnIn, areColumns};
+ghost use Rattle.column_words.specs.Place.{column_at_place};
+ghost use Rattle.column_words.specs.Columns.{numbers_fit, alphabets_fit, is_column, column_in, are_columns};
 
 use types::{ColumnMetadata, Db2Type};
 
@@ -57,7 +57,7 @@ pub fn put_column_words(column: ColumnMetadata, words: &mut [u64], at: usize)
 
 fn numbers_fit(words: &[u64], at: usize) -> bool
     requires { at + 22 ≤ length words.now }
-    ensures { result ≡ numbersFit words.now at }
+    ensures { result ≡ numbers_fit words.now at }
 {
     let has_type = sqlda::is_type(words[at + 1], words[at + 2]);
     (words[at] < 65536)
@@ -72,7 +72,7 @@ fn numbers_fit(words: &[u64], at: usize) -> bool
 
 fn alphabets_fit(words: &[u64], at: usize) -> bool
     requires { at + 22 ≤ length words.now }
-    ensures { result ≡ alphabetsFit words.now at }
+    ensures { result ≡ alphabets_fit words.now at }
 {
     (words[at + 12] < 256)
         & ((words[at + 15] < 256) & ((words[at + 18] < 256) & (words[at + 21] < 256)))
@@ -81,14 +81,14 @@ fn alphabets_fit(words: &[u64], at: usize) -> bool
 // Whether the words from `at` on are those of a column.
 pub fn is_column(words: &[u64], at: usize) -> bool
     requires { at + 22 ≤ length words.now }
-    ensures { result ≡ isColumn words.now at }
+    ensures { result ≡ is_column words.now at }
 {
     numbers_fit(words, at) & alphabets_fit(words, at)
 }
 
 // Whether words are those of columns and nothing else.
 pub fn are_columns(words: &[u64]) -> bool
-    ensures { result ≡ areColumns words.now }
+    ensures { result ≡ are_columns words.now }
 {
     if words.len() % 22 != 0 {
         return false;
@@ -108,8 +108,8 @@ pub fn are_columns(words: &[u64]) -> bool
 
 fn type_at(words: &[u64], at: usize) -> Db2Type
     requires at_in_bounds { at + 22 ≤ length words.now }
-    requires at_value { isColumn words.now at ≡ true }
-    ensures { result ≡ typeWith (get_or words.now (at + 1) 0) (get_or words.now (at + 2) 0) }
+    requires at_value { is_column words.now at ≡ true }
+    ensures { result ≡ type_with (get_or words.now (at + 1) 0) (get_or words.now (at + 2) 0) }
 {
     sqlda::type_with(words[at + 1], words[at + 2] as u16)
 }
@@ -117,8 +117,8 @@ fn type_at(words: &[u64], at: usize) -> Db2Type
 // The column whose words start at `at`.
 pub fn column_at(words: &[u64], at: usize) -> ColumnMetadata
     requires at_in_bounds { at + 22 ≤ length words.now }
-    requires at_value { isColumn words.now at ≡ true }
-    ensures { result ≡ columnIn words.now at }
+    requires at_value { is_column words.now at ≡ true }
+    ensures { result ≡ column_in words.now at }
 {
     let db2_type = type_at(words, at);
     ColumnMetadata {
@@ -140,7 +140,7 @@ pub fn column_at(words: &[u64], at: usize) -> ColumnMetadata
 
 // The column at place `i`, by value; a blank one where the words have none there.
 pub fn column_in(words: &[u64], i: usize) -> ColumnMetadata
-    ensures { result ≡ columnAtPlace words.now i }
+    ensures { result ≡ column_at_place words.now i }
 {
     if i >= words.len() / 22 {
         return column::blank_column();

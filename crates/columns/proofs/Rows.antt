@@ -6,15 +6,15 @@ use mathlib.Core.List.{List, [], ◌∷◌}
 use Prim.Native.Nat.{ℕ, suc, ◌+◌, ◌*◌, ◌%◌}
 use native.Mathlib.Omega.{arith}
 use Rattle.search.specs.Search.{pick, alike}
-use Rattle.search.proofs.Alike.{alike-length}
+use Rattle.search.proofs.Alike.{alike_length}
 use Rattle.types.specs.declared.ColumnMetadata.{ColumnMetadata}
 use Rattle.types.specs.declared.Db2Type.{Db2Type}
 use Rattle.sqlda.specs.Types.{code_of}
-use Rattle.widths.specs.Width.{isLarge, isGraphic, valueWidth, columnWidth}
-use Rattle.columns.specs.Cut.{coarseColumn, sameCut}
-use Rattle.columns.specs.Finer.{coarseCut}
-use Rattle.columns.specs.Row.{rowWidth, largeRefusal, rowRefusal, rowAnswer}
-use Rattle.columns.specs.Graphic.{plainWidth, graphicLengths, hasNoGraphic, Grown}
+use Rattle.widths.specs.Width.{is_large, is_graphic, value_width, column_width}
+use Rattle.columns.specs.Cut.{coarse_column, same_cut}
+use Rattle.columns.specs.Finer.{coarse_cut}
+use Rattle.columns.specs.Row.{row_width, large_refusal, row_refusal, row_answer}
+use Rattle.columns.specs.Graphic.{plain_width, graphic_lengths, has_no_graphic, Grown}
 use Rattle.columns.specs.Consistent.{ConsistentColumn, ConsistentFrom, Consistent}
 use Rattle.columns.proofs.Same.{Same, same_parts}
 use Rattle.columns.proofs.Finer.{finer}
@@ -60,42 +60,42 @@ module _ (i : ℕ) (c d : ColumnMetadata) (p : ConsistentColumn i c) (q : Consis
       (sym p.coded ∙ s.code ∙ q.coded)
 
   -- a test of types goes by their code alone
-  large-too : isLarge c.db2_type ≡ isLarge d.db2_type
-  large-too = rw codes.0 refl
+  large_too : is_large c.db2_type ≡ is_large d.db2_type
+  large_too = rw codes.0 refl
 
-  width-too : columnWidth c ≡ columnWidth d
-  unfolding columnWidth valueWidth
-  width-too = rw (s.size, codes.1, codes.0) refl
+  width_too : column_width c ≡ column_width d
+  unfolding column_width value_width
+  width_too = rw (s.size, codes.1, codes.0) refl
 
 -- ---- the lists
 
-rows-too : (i : ℕ) (a b : List ColumnMetadata) → ConsistentFrom i a → ConsistentFrom i b → alike coarseColumn a b ≡ true
-    → (largeRefusal a ≡ largeRefusal b) × (rowWidth a ≡ rowWidth b)
-unfolding ConsistentFrom largeRefusal rowWidth
-rows-too i [] [] p q e = (refl, refl)
-rows-too i [] (d ∷ m) p q e = absurd (false≢true e)
-rows-too i (c ∷ l) [] p q e = absurd (false≢true e)
-rows-too i (c ∷ l) (d ∷ m) p q e =
-    let both = (and-eq-true_iff (coarseColumn c d) (alike coarseColumn l m)).0 e in
+rows_too : (i : ℕ) (a b : List ColumnMetadata) → ConsistentFrom i a → ConsistentFrom i b → alike coarse_column a b ≡ true
+    → (large_refusal a ≡ large_refusal b) × (row_width a ≡ row_width b)
+unfolding ConsistentFrom large_refusal row_width
+rows_too i [] [] p q e = (refl, refl)
+rows_too i [] (d ∷ m) p q e = absurd (false≢true e)
+rows_too i (c ∷ l) [] p q e = absurd (false≢true e)
+rows_too i (c ∷ l) (d ∷ m) p q e =
+    let both = (and-eq-true_iff (coarse_column c d) (alike coarse_column l m)).0 e in
     let s = same_parts c d both.0 in
-    let r = rows-too (suc i) l m p.1 q.1 both.1 in (
-      rw (large-too i c d p.0 q.0 s, r.0, p.0.numbered, q.0.numbered) refl,
-      rw (width-too i c d p.0 q.0 s, r.1) refl,
+    let r = rows_too (suc i) l m p.1 q.1 both.1 in (
+      rw (large_too i c d p.0 q.0 s, r.0, p.0.numbered, q.0.numbered) refl,
+      rw (width_too i c d p.0 q.0 s, r.1) refl,
     )
 
 -- widest row refuses both with the same number and values, or answers the same of both: by the rule before T-05
-pub coarse-cut-rows : (a b : List ColumnMetadata) → Consistent a → Consistent b → coarseCut a b ≡ true
-    → (rowRefusal a ≡ rowRefusal b) × (rowAnswer a ≡ rowAnswer b)
-unfolding coarseCut rowRefusal rowAnswer
-coarse-cut-rows a b p q e =
-    let r = rows-too 0 a b p q e in
-    let n = alike-length coarseColumn a b e in
+pub coarse_cut_rows : (a b : List ColumnMetadata) → Consistent a → Consistent b → coarse_cut a b ≡ true
+    → (row_refusal a ≡ row_refusal b) × (row_answer a ≡ row_answer b)
+unfolding coarse_cut row_refusal row_answer
+coarse_cut_rows a b p q e =
+    let r = rows_too 0 a b p q e in
+    let n = alike_length coarse_column a b e in
     (rw (n, r.0) refl, rw (n, r.0, r.1) refl)
 
 -- and so by same cut, which implies it
-pub same-cut-rows : (a b : List ColumnMetadata) → Consistent a → Consistent b → sameCut a b ≡ true
-    → (rowRefusal a ≡ rowRefusal b) × (rowAnswer a ≡ rowAnswer b)
-same-cut-rows a b p q e = coarse-cut-rows a b p q ((finer a b).implies e)
+pub same_cut_rows : (a b : List ColumnMetadata) → Consistent a → Consistent b → same_cut a b ≡ true
+    → (row_refusal a ≡ row_refusal b) × (row_answer a ≡ row_answer b)
+same_cut_rows a b p q e = coarse_cut_rows a b p q ((finer a b).implies e)
 
 -- ---- the sum before T-02
 
@@ -103,31 +103,31 @@ twice : (b : Bool) (n : ℕ) → pick b (2 * n) n ≡ n + pick b n 0
 twice true n = omega arith
 twice false n = omega arith
 
-grows : (l : List ColumnMetadata) → rowWidth l ≡ plainWidth l + graphicLengths l
-unfolding rowWidth columnWidth valueWidth plainWidth graphicLengths
+grows : (l : List ColumnMetadata) → row_width l ≡ plain_width l + graphic_lengths l
+unfolding row_width column_width value_width plain_width graphic_lengths
 grows [] = refl
-grows (c ∷ l) = omega (arith, grows l, twice (isGraphic c.db2_type) c.length)
+grows (c ∷ l) = omega (arith, grows l, twice (is_graphic c.db2_type) c.length)
 
-none-once : (b : Bool) (n : ℕ) → not b ≡ true → pick b n 0 ≡ 0
-none-once true n e = absurd (false≢true e)
-none-once false n e = refl
+none_once : (b : Bool) (n : ℕ) → not b ≡ true → pick b n 0 ≡ 0
+none_once true n e = absurd (false≢true e)
+none_once false n e = refl
 
-none-graphic : (l : List ColumnMetadata) → hasNoGraphic l ≡ true → graphicLengths l ≡ 0
-unfolding graphicLengths
-none-graphic [] e = refl
-none-graphic (c ∷ l) e =
-    let both = (and-eq-true_iff (not (isGraphic c.db2_type)) (hasNoGraphic l)).0 e in
-    omega (arith, none-once (isGraphic c.db2_type) c.length both.0, none-graphic l both.1)
+none_graphic : (l : List ColumnMetadata) → has_no_graphic l ≡ true → graphic_lengths l ≡ 0
+unfolding graphic_lengths
+none_graphic [] e = refl
+none_graphic (c ∷ l) e =
+    let both = (and-eq-true_iff (not (is_graphic c.db2_type)) (has_no_graphic l)).0 e in
+    omega (arith, none_once (is_graphic c.db2_type) c.length both.0, none_graphic l both.1)
 
-answered : (l : List ColumnMetadata) → rowRefusal l ≡ 0 ∷ [] → rowAnswer l ≡ rowWidth l
-unfolding rowAnswer
+answered : (l : List ColumnMetadata) → row_refusal l ≡ 0 ∷ [] → row_answer l ≡ row_width l
+unfolding row_answer
 answered l e = rw e refl
 
 -- the old sum and the lengths of Graphic and VarGraphic columns
-pub graphic-grows : (l : List ColumnMetadata) → Grown l
-graphic-grows l =
+pub graphic_grows : (l : List ColumnMetadata) → Grown l
+graphic_grows l =
     record {
       sum = grows l;
-      kept = λ e. omega (arith, grows l, none-graphic l e);
+      kept = λ e. omega (arith, grows l, none_graphic l e);
       answer = λ e. answered l e ∙ grows l;
     }

@@ -6,12 +6,12 @@ use Prim.Native.Nat.{ℕ, ◌≤◌}
 use lib.Dec.{eqb, ltb}
 use lib.ListN.{length}
 use borrow.Author.Tests.{eqb-true, eqb-false, eq-eqb, ne_eqb, ltb-false, le-ltb}
-use Rattle.search.proofs.Alike.{alike_refl, alike-sym, alike-trans}
+use Rattle.search.proofs.Alike.{alike_refl, alike_sym, alike_trans}
 use Rattle.types.specs.declared.ColumnMetadata.{ColumnMetadata}
-use Rattle.column.specs.Numbers.{orderNumber}
-use Rattle.columns.specs.Cut.{mostColumns, coarseColumn, sameCcsid, sameColumn, sameCut, cutRefusal, cutAnswer}
-use Rattle.columns.specs.Finer.{coarseCut, Equivalence}
-use Rattle.columns.proofs.Cutting.{cut-accepted, cut-refused}
+use Rattle.column.specs.Numbers.{order_number}
+use Rattle.columns.specs.Cut.{most_columns, coarse_column, same_ccsid, same_column, same_cut, cut_refusal, cut_answer}
+use Rattle.columns.specs.Finer.{coarse_cut, Equivalence}
+use Rattle.columns.proofs.Cutting.{cut_accepted, cut_refused}
 
 -- ---- two columns, by the rule so far
 
@@ -21,10 +21,10 @@ pub record Same (c d : ColumnMetadata) : Type 0 where
   pub size : c.length ≡ d.length
   pub precise : c.precision ≡ d.precision
   pub scaled : c.scale ≡ d.scale
-  pub order : orderNumber c.byte_order ≡ orderNumber d.byte_order
+  pub order : order_number c.byte_order ≡ order_number d.byte_order
 
-pub same_parts : (c d : ColumnMetadata) → coarseColumn c d ≡ true → Same c d
-unfolding coarseColumn
+pub same_parts : (c d : ColumnMetadata) → coarse_column c d ≡ true → Same c d
+unfolding coarse_column
 same_parts c d e =
     let p = (and-eq-true_iff _ _).0 e in
     let q = (and-eq-true_iff _ _).0 p.1 in
@@ -38,34 +38,34 @@ same_parts c d e =
       order = eqb-true _ _ s.1;
     }
 
-pub same_whole : (c d : ColumnMetadata) → Same c d → coarseColumn c d ≡ true
-unfolding coarseColumn
+pub same_whole : (c d : ColumnMetadata) → Same c d → coarse_column c d ≡ true
+unfolding coarse_column
 same_whole c d s =
     rw (eq-eqb _ _ s.code, eq-eqb _ _ s.size, eq-eqb _ _ s.precise, eq-eqb _ _ s.scaled) (eq-eqb _ _ s.order)
 
-pub coarse-refl : (c : ColumnMetadata) → coarseColumn c c ≡ true
-coarse-refl c = same_whole c c (record { code = refl; size = refl; precise = refl; scaled = refl; order = refl })
+pub coarse_refl : (c : ColumnMetadata) → coarse_column c c ≡ true
+coarse_refl c = same_whole c c (record { code = refl; size = refl; precise = refl; scaled = refl; order = refl })
 
-eqb-sym : (a b : ℕ) → eqb a b ≡ eqb b a
-eqb-sym a b = go (eqb a b) refl
+eqb_sym : (a b : ℕ) → eqb a b ≡ eqb b a
+eqb_sym a b = go (eqb a b) refl
   where
     go : (t : Bool) → eqb a b ≡ t → eqb a b ≡ eqb b a
     go true e = e ∙ sym (eq-eqb b a (sym (eqb-true a b e)))
     go false e = e ∙ sym (ne_eqb b a (λ x. eqb-false a b e (sym x)))
 
-coarse-sym : (c d : ColumnMetadata) → coarseColumn c d ≡ coarseColumn d c
-unfolding coarseColumn
-coarse-sym c d =
+coarse_sym : (c d : ColumnMetadata) → coarse_column c d ≡ coarse_column d c
+unfolding coarse_column
+coarse_sym c d =
     rw (
-      eqb-sym c.drda_type d.drda_type,
-      eqb-sym c.length d.length,
-      eqb-sym c.precision d.precision,
-      eqb-sym c.scale d.scale,
-      eqb-sym (orderNumber c.byte_order) (orderNumber d.byte_order),
+      eqb_sym c.drda_type d.drda_type,
+      eqb_sym c.length d.length,
+      eqb_sym c.precision d.precision,
+      eqb_sym c.scale d.scale,
+      eqb_sym (order_number c.byte_order) (order_number d.byte_order),
     ) refl
 
-coarse-trans : (c d e : ColumnMetadata) → coarseColumn c d ≡ true → coarseColumn d e ≡ true → coarseColumn c e ≡ true
-coarse-trans c d e p q =
+coarse_trans : (c d e : ColumnMetadata) → coarse_column c d ≡ true → coarse_column d e ≡ true → coarse_column c e ≡ true
+coarse_trans c d e p q =
     let s = same_parts c d p in
     let t = same_parts d e q in
     same_whole c e (record {
@@ -78,82 +78,82 @@ coarse-trans c d e p q =
 
 -- ---- two columns, with their CCSIDs
 
-pub ccsid-refl : (c : ColumnMetadata) → sameCcsid c c ≡ true
-ccsid-refl c = eq-eqb c.ccsid c.ccsid refl
+pub ccsid_refl : (c : ColumnMetadata) → same_ccsid c c ≡ true
+ccsid_refl c = eq-eqb c.ccsid c.ccsid refl
 
-column-refl : (c : ColumnMetadata) → sameColumn c c ≡ true
-unfolding sameColumn
-column-refl c = rw (coarse-refl c) (ccsid-refl c)
+column_refl : (c : ColumnMetadata) → same_column c c ≡ true
+unfolding same_column
+column_refl c = rw (coarse_refl c) (ccsid_refl c)
 
-column-sym : (c d : ColumnMetadata) → sameColumn c d ≡ sameColumn d c
-unfolding sameColumn
-column-sym c d = rw (coarse-sym c d, eqb-sym c.ccsid d.ccsid) refl
+column_sym : (c d : ColumnMetadata) → same_column c d ≡ same_column d c
+unfolding same_column
+column_sym c d = rw (coarse_sym c d, eqb_sym c.ccsid d.ccsid) refl
 
-column-trans : (c d e : ColumnMetadata) → sameColumn c d ≡ true → sameColumn d e ≡ true → sameColumn c e ≡ true
-unfolding sameColumn
-column-trans c d e p q =
-    let u = (and-eq-true_iff (coarseColumn c d) (sameCcsid c d)).0 p in
-    let v = (and-eq-true_iff (coarseColumn d e) (sameCcsid d e)).0 q in
-    rw (coarse-trans c d e u.0 v.0) (eq-eqb c.ccsid e.ccsid (eqb-true c.ccsid d.ccsid u.1 ∙ eqb-true d.ccsid e.ccsid v.1))
+column_trans : (c d e : ColumnMetadata) → same_column c d ≡ true → same_column d e ≡ true → same_column c e ≡ true
+unfolding same_column
+column_trans c d e p q =
+    let u = (and-eq-true_iff (coarse_column c d) (same_ccsid c d)).0 p in
+    let v = (and-eq-true_iff (coarse_column d e) (same_ccsid d e)).0 q in
+    rw (coarse_trans c d e u.0 v.0) (eq-eqb c.ccsid e.ccsid (eqb-true c.ccsid d.ccsid u.1 ∙ eqb-true d.ccsid e.ccsid v.1))
 
 -- ---- lists
 
-pub same-cut-refl : (a : List ColumnMetadata) → sameCut a a ≡ true
-unfolding sameCut
-same-cut-refl a = alike_refl sameColumn column-refl a
+pub same_cut_refl : (a : List ColumnMetadata) → same_cut a a ≡ true
+unfolding same_cut
+same_cut_refl a = alike_refl same_column column_refl a
 
-pub same-cut-sym : (a b : List ColumnMetadata) → sameCut a b ≡ sameCut b a
-unfolding sameCut
-same-cut-sym a b = alike-sym sameColumn column-sym a b
+pub same_cut_sym : (a b : List ColumnMetadata) → same_cut a b ≡ same_cut b a
+unfolding same_cut
+same_cut_sym a b = alike_sym same_column column_sym a b
 
-pub same-cut-trans : (a b c : List ColumnMetadata) → sameCut a b ≡ true → sameCut b c ≡ true → sameCut a c ≡ true
-unfolding sameCut
-same-cut-trans a b c p q = alike-trans sameColumn column-trans a b c p q
+pub same_cut_trans : (a b c : List ColumnMetadata) → same_cut a b ≡ true → same_cut b c ≡ true → same_cut a c ≡ true
+unfolding same_cut
+same_cut_trans a b c p q = alike_trans same_column column_trans a b c p q
 
-pub cut-equivalence : Equivalence sameCut
-cut-equivalence = record { reflexive = same-cut-refl; symmetric = same-cut-sym; transitive = same-cut-trans }
+pub cut_equivalence : Equivalence same_cut
+cut_equivalence = record { reflexive = same_cut_refl; symmetric = same_cut_sym; transitive = same_cut_trans }
 
-pub coarse-equivalence : Equivalence coarseCut
-unfolding coarseCut
-coarse-equivalence =
+pub coarse_equivalence : Equivalence coarse_cut
+unfolding coarse_cut
+coarse_equivalence =
     record {
-      reflexive = alike_refl coarseColumn coarse-refl;
-      symmetric = alike-sym coarseColumn coarse-sym;
-      transitive = alike-trans coarseColumn coarse-trans;
+      reflexive = alike_refl coarse_column coarse_refl;
+      symmetric = alike_sym coarse_column coarse_sym;
+      transitive = alike_trans coarse_column coarse_trans;
     }
 
 -- ---- the entry's answer
 
 -- lists of at most 4,095 records are not refused, and the answer is whether they make the same cut
-pub cut-answered : (a b : List ColumnMetadata) → length a ≤ mostColumns → length b ≤ mostColumns
-    → (cutRefusal a b ≡ 0 ∷ []) × (cutAnswer a b ≡ sameCut a b)
-cut-answered a b h k =
-    let t = cut-accepted a b (rw (le-ltb mostColumns (length a) h) (le-ltb mostColumns (length b) k)) (sameCut a b) refl in
+pub cut_answered : (a b : List ColumnMetadata) → length a ≤ most_columns → length b ≤ most_columns
+    → (cut_refusal a b ≡ 0 ∷ []) × (cut_answer a b ≡ same_cut a b)
+cut_answered a b h k =
+    let t = cut_accepted a b (rw (le-ltb most_columns (length a) h) (le-ltb most_columns (length b) k)) (same_cut a b) refl in
     (sym t.0, sym t.1)
 
 -- a yes says that neither list is too long, and that they make the same cut
-pub cut-yes : (a b : List ColumnMetadata) → cutAnswer a b ≡ true → (length a ≤ mostColumns) × ((length b ≤ mostColumns) × (sameCut a b ≡ true))
-cut-yes a b e = go (ltb mostColumns (length a)) refl (ltb mostColumns (length b)) refl
+pub cut_yes : (a b : List ColumnMetadata) → cut_answer a b ≡ true → (length a ≤ most_columns) × ((length b ≤ most_columns) × (same_cut a b ≡ true))
+cut_yes a b e = go (ltb most_columns (length a)) refl (ltb most_columns (length b)) refl
   where
-    go : (s : Bool) → ltb mostColumns (length a) ≡ s → (t : Bool) → ltb mostColumns (length b) ≡ t
-        → (length a ≤ mostColumns) × ((length b ≤ mostColumns) × (sameCut a b ≡ true))
-    go true p t q = absurd (false≢true ((cut-refused a b (rw p refl)).1 ∙ e))
-    go false p true q = absurd (false≢true ((cut-refused a b (rw (p, q) refl)).1 ∙ e))
+    go : (s : Bool) → ltb most_columns (length a) ≡ s → (t : Bool) → ltb most_columns (length b) ≡ t
+        → (length a ≤ most_columns) × ((length b ≤ most_columns) × (same_cut a b ≡ true))
+    go true p t q = absurd (false≢true ((cut_refused a b (rw p refl)).1 ∙ e))
+    go false p true q = absurd (false≢true ((cut_refused a b (rw (p, q) refl)).1 ∙ e))
     go false p false q =
-        let h = ltb-false mostColumns (length a) p in
-        let k = ltb-false mostColumns (length b) q in
-        (h, (k, sym (cut-answered a b h k).1 ∙ e))
+        let h = ltb-false most_columns (length a) p in
+        let k = ltb-false most_columns (length b) q in
+        (h, (k, sym (cut_answered a b h k).1 ∙ e))
 
-pub cut-refl : (a : List ColumnMetadata) → length a ≤ mostColumns → cutAnswer a a ≡ true
-cut-refl a h = (cut-answered a a h h).1 ∙ same-cut-refl a
+pub cut_refl : (a : List ColumnMetadata) → length a ≤ most_columns → cut_answer a a ≡ true
+cut_refl a h = (cut_answered a a h h).1 ∙ same_cut_refl a
 
-pub cut-sym : (a b : List ColumnMetadata) → cutAnswer a b ≡ true → cutAnswer b a ≡ true
-cut-sym a b e =
-    let t = cut-yes a b e in
-    (cut-answered b a t.1.0 t.0).1 ∙ same-cut-sym b a ∙ t.1.1
+pub cut_sym : (a b : List ColumnMetadata) → cut_answer a b ≡ true → cut_answer b a ≡ true
+cut_sym a b e =
+    let t = cut_yes a b e in
+    (cut_answered b a t.1.0 t.0).1 ∙ same_cut_sym b a ∙ t.1.1
 
-pub cut-trans : (a b c : List ColumnMetadata) → cutAnswer a b ≡ true → cutAnswer b c ≡ true → cutAnswer a c ≡ true
-cut-trans a b c d e =
-    let t = cut-yes a b d in
-    let u = cut-yes b c e in
-    (cut-answered a c t.0 u.1.0).1 ∙ same-cut-trans a b c t.1.1 u.1.1
+pub cut_trans : (a b c : List ColumnMetadata) → cut_answer a b ≡ true → cut_answer b c ≡ true → cut_answer a c ≡ true
+cut_trans a b c d e =
+    let t = cut_yes a b d in
+    let u = cut_yes b c e in
+    (cut_answered a c t.0 u.1.0).1 ∙ same_cut_trans a b c t.1.1 u.1.1

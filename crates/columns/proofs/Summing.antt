@@ -7,64 +7,64 @@ use native.Mathlib.Omega.{arith}
 use lib.Dec.{ltb}
 use lib.ListN.{length, get_or, drop, drop_of_length-le}
 use Rattle.search.specs.Search.{pick}
-use Rattle.search.proofs.Each.{drop-next}
+use Rattle.search.proofs.Each.{drop_next}
 use Rattle.outcome.specs.Refusal.{is_refused}
 use Rattle.types.specs.declared.ColumnMetadata.{ColumnMetadata}
-use Rattle.columns.specs.Cut.{mostColumns}
-use Rattle.widths.specs.Width.{isLarge, columnWidth}
-use Rattle.widths.specs.Inside.{mostWidth}
-use Rattle.columns.specs.Row.{rowWidth, largeRefusal, rowRefusal, rowAnswer}
+use Rattle.columns.specs.Cut.{most_columns}
+use Rattle.widths.specs.Width.{is_large, column_width}
+use Rattle.widths.specs.Inside.{most_width}
+use Rattle.columns.specs.Row.{row_width, large_refusal, row_refusal, row_answer}
 
 -- what the loop holds: no column before i is large, and their widths add up to w
 pub record Summing (l : List ColumnMetadata) (w i : ℕ) : Type 0 where
-  pub refusal : largeRefusal l ≡ largeRefusal (drop i l)
-  pub width : rowWidth l ≡ w + rowWidth (drop i l)
-  pub small : w ≤ i * mostWidth
+  pub refusal : large_refusal l ≡ large_refusal (drop i l)
+  pub width : row_width l ≡ w + row_width (drop i l)
+  pub small : w ≤ i * most_width
 
 module _ (l : List ColumnMetadata) where
   module _ (w i : ℕ) (t : Summing l w i) (d : ColumnMetadata) where
-    pub summing-more : i < length l → false ≡ isLarge (get_or l i d).db2_type → (k : ℕ) → k ≡ columnWidth (get_or l i d) → k ≤ mostWidth
+    pub summing_more : i < length l → false ≡ is_large (get_or l i d).db2_type → (k : ℕ) → k ≡ column_width (get_or l i d) → k ≤ most_width
         → Summing l (w + k) (i + 1)
-    unfolding largeRefusal rowWidth
-    summing-more h g k e b =
-        let turn = drop-next l i d h in
-        let sum = t.width ∙ ap (λ (r : List ColumnMetadata). w + rowWidth r) turn in
+    unfolding large_refusal row_width
+    summing_more h g k e b =
+        let turn = drop_next l i d h in
+        let sum = t.width ∙ ap (λ (r : List ColumnMetadata). w + row_width r) turn in
         record {
-          refusal = t.refusal ∙ ap largeRefusal turn ∙ rw (← g) refl;
+          refusal = t.refusal ∙ ap large_refusal turn ∙ rw (← g) refl;
           width = omega (arith, sum, e);
           small = omega (arith, t.small, b);
         }
 
-    large : i < length l → true ≡ isLarge (get_or l i d).db2_type → 8 ∷ (get_or l i d).number ∷ [] ≡ largeRefusal l
-    unfolding largeRefusal
-    large h g = sym (t.refusal ∙ ap largeRefusal (drop-next l i d h) ∙ rw (← g) refl)
+    large : i < length l → true ≡ is_large (get_or l i d).db2_type → 8 ∷ (get_or l i d).number ∷ [] ≡ large_refusal l
+    unfolding large_refusal
+    large h g = sym (t.refusal ∙ ap large_refusal (drop_next l i d h) ∙ rw (← g) refl)
 
-  module _ (e : ltb mostColumns (length l) ≡ false) where
-    refusal_is : (r : List ℕ) → r ≡ largeRefusal l → r ≡ rowRefusal l
-    unfolding rowRefusal
+  module _ (e : ltb most_columns (length l) ≡ false) where
+    refusal_is : (r : List ℕ) → r ≡ large_refusal l → r ≡ row_refusal l
+    unfolding row_refusal
     refusal_is r g = rw e g
 
-    answer-is : (r : List ℕ) → r ≡ largeRefusal l → pick (is_refused r) 0 (rowWidth l) ≡ rowAnswer l
-    unfolding rowAnswer
-    answer-is r g = ap (λ (q : List ℕ). pick (is_refused q) 0 (rowWidth l)) (refusal_is r g)
+    answer_is : (r : List ℕ) → r ≡ large_refusal l → pick (is_refused r) 0 (row_width l) ≡ row_answer l
+    unfolding row_answer
+    answer_is r g = ap (λ (q : List ℕ). pick (is_refused q) 0 (row_width l)) (refusal_is r g)
 
     -- at a large column: refused with its number
-    pub row-large : (w i : ℕ) → Summing l w i → (d : ColumnMetadata) → i < length l → true ≡ isLarge (get_or l i d).db2_type
-        → (n : ℕ) → n ≡ (get_or l i d).number → (8 ∷ n ∷ [] ≡ rowRefusal l) × (0 ≡ rowAnswer l)
-    row-large w i t d h g n k =
-        let r : 8 ∷ n ∷ [] ≡ largeRefusal l = ap (λ (m : ℕ). 8 ∷ m ∷ []) k ∙ large w i t d h g in
-        (refusal_is (8 ∷ n ∷ []) r, answer-is (8 ∷ n ∷ []) r)
+    pub row_large : (w i : ℕ) → Summing l w i → (d : ColumnMetadata) → i < length l → true ≡ is_large (get_or l i d).db2_type
+        → (n : ℕ) → n ≡ (get_or l i d).number → (8 ∷ n ∷ [] ≡ row_refusal l) × (0 ≡ row_answer l)
+    row_large w i t d h g n k =
+        let r : 8 ∷ n ∷ [] ≡ large_refusal l = ap (λ (m : ℕ). 8 ∷ m ∷ []) k ∙ large w i t d h g in
+        (refusal_is (8 ∷ n ∷ []) r, answer_is (8 ∷ n ∷ []) r)
 
     -- past the last column: the sum
-    pub row_done : (w i : ℕ) → Summing l w i → length l ≤ i → (0 ∷ [] ≡ rowRefusal l) × (w ≡ rowAnswer l)
-    unfolding largeRefusal rowWidth
+    pub row_done : (w i : ℕ) → Summing l w i → length l ≤ i → (0 ∷ [] ≡ row_refusal l) × (w ≡ row_answer l)
+    unfolding large_refusal row_width
     row_done w i t h =
         let z = drop_of_length-le l h in
-        let r : 0 ∷ [] ≡ largeRefusal l = sym (t.refusal ∙ ap largeRefusal z) in
-        let s : rowWidth l ≡ w + 0 = t.width ∙ ap (λ (q : List ColumnMetadata). w + rowWidth q) z in
-        (refusal_is (0 ∷ []) r, omega (arith, s) ∙ answer-is (0 ∷ []) r)
+        let r : 0 ∷ [] ≡ large_refusal l = sym (t.refusal ∙ ap large_refusal z) in
+        let s : row_width l ≡ w + 0 = t.width ∙ ap (λ (q : List ColumnMetadata). w + row_width q) z in
+        (refusal_is (0 ∷ []) r, omega (arith, s) ∙ answer_is (0 ∷ []) r)
 
   -- a list that is too long: refused, and 0
-  pub row-refused : ltb mostColumns (length l) ≡ true → (5 ∷ [] ≡ rowRefusal l) × (0 ≡ rowAnswer l)
-  unfolding rowRefusal rowAnswer
-  row-refused e = (rw e refl, rw e refl)
+  pub row_refused : ltb most_columns (length l) ≡ true → (5 ∷ [] ≡ row_refusal l) × (0 ≡ row_answer l)
+  unfolding row_refusal row_answer
+  row_refused e = (rw e refl, rw e refl)

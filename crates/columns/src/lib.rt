@@ -2,9 +2,9 @@
 #![tactic(auto)]
 
 ghost use Rattle.std.specs.Prelude.{◌≡◌};
-ghost use Rattle.outcome.specs.Refusal.{refusalOf};
-ghost use Rattle.columns.specs.Cut.{coarseColumn, sameColumn, cutRefusal, cutAnswer};
-ghost use Rattle.columns.specs.Row.{rowRefusal, rowAnswer};
+ghost use Rattle.outcome.specs.Refusal.{refusal_of};
+ghost use Rattle.columns.specs.Cut.{coarse_column, same_column, cut_refusal, cut_answer};
+ghost use Rattle.columns.specs.Row.{row_refusal, row_answer};
 
 use outcome::Outcome;
 use types::ColumnMetadata;
@@ -25,7 +25,7 @@ pub struct RowAnswer {
 
 // Whether two columns are cut from a row alike, whatever their CCSIDs.
 fn coarse_column(c: ColumnMetadata, d: ColumnMetadata) -> bool
-    ensures { result ≡ coarseColumn c d }
+    ensures { result ≡ coarse_column c d }
 {
     let order = c.byte_order;
     let other = d.byte_order;
@@ -38,7 +38,7 @@ fn coarse_column(c: ColumnMetadata, d: ColumnMetadata) -> bool
 
 // Whether two columns are cut from a row alike, and have equal CCSIDs.
 pub fn same_column(c: ColumnMetadata, d: ColumnMetadata) -> bool
-    ensures { result ≡ sameColumn c d }
+    ensures { result ≡ same_column c d }
 {
     coarse_column(c, d) & (c.ccsid == d.ccsid)
 }
@@ -51,8 +51,8 @@ fn number_of(column: ColumnMetadata) -> u16
 
 // The entry same cut.
 pub fn same_cut(a: &[ColumnMetadata], b: &[ColumnMetadata]) -> CutAnswer
-    ensures refuses { refusalOf result.outcome ≡ cutRefusal a.now b.now }
-    ensures gives { result.same ≡ cutAnswer a.now b.now }
+    ensures refuses { refusal_of result.outcome ≡ cut_refusal a.now b.now }
+    ensures gives { result.same ≡ cut_answer a.now b.now }
 {
     if (4095 < a.len()) | (4095 < b.len()) {
         return CutAnswer {
@@ -86,8 +86,8 @@ pub fn same_cut(a: &[ColumnMetadata], b: &[ColumnMetadata]) -> CutAnswer
 
 // The entry widest row.
 pub fn widest_row(columns: &[ColumnMetadata]) -> RowAnswer
-    ensures refuses { refusalOf result.outcome ≡ rowRefusal columns.now }
-    ensures gives { result.width ≡ rowAnswer columns.now }
+    ensures refuses { refusal_of result.outcome ≡ row_refusal columns.now }
+    ensures gives { result.width ≡ row_answer columns.now }
 {
     if 4095 < columns.len() {
         return RowAnswer {

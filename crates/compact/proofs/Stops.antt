@@ -9,12 +9,12 @@ use lib.ListN.{length, get_or, take, drop}
 use borrow.Author.Tests.{eqb-true, eqb-false, le-leb, lt-leb, leb-true, leb-false, not-true, not-false}
 use Rattle.search.specs.Search.{each}
 use Rattle.search.specs.Walks.{first}
-use Rattle.search.proofs.Each.{drop-next}
-use Rattle.search.proofs.Index.{Found, first-is, first_more, first_found}
-use Rattle.text.specs.Chars.{isNameChar}
-use Rattle.compact_table.specs.Table.{inEight}
-use Rattle.compact_table.proofs.Skips.{skip, skip-eight}
-use Rattle.compact.specs.Compact.{nameHere, isOther, stop_at, Stops}
+use Rattle.search.proofs.Each.{drop_next}
+use Rattle.search.proofs.Index.{Found, first_is, first_more, first_found}
+use Rattle.text.specs.Chars.{is_name_char}
+use Rattle.compact_table.specs.Table.{in_eight}
+use Rattle.compact_table.proofs.Skips.{skip, skip_eight}
+use Rattle.compact.specs.Compact.{name_here, is_other, stop_at, Stops}
 
 -- ---- a name character: the tests in any order
 
@@ -22,17 +22,17 @@ use Rattle.compact.specs.Compact.{nameHere, isOther, stop_at, Stops}
 
 module _ (f : ℕ → Bool) (s : List ℕ) where
   turn : (k q : ℕ) → q < length s → each f (take (suc k) (drop q s)) ≡ (f (get_or s q 0) && each f (take k (drop (q + 1) s)))
-  turn k q h = ap (λ (l : List ℕ). each f (take (suc k) l)) (drop-next s q 0 h)
+  turn k q h = ap (λ (l : List ℕ). each f (take (suc k) l)) (drop_next s q 0 h)
 
   all_pass : (k q : ℕ) → q + k ≤ length s → ((j : ℕ) → q ≤ j → j < q + k → f (get_or s j 0) ≡ true) → each f (take k (drop q s)) ≡ true
   all_pass zero q h g = refl
   all_pass (suc k) q h g =
       turn k q (omega arith) ∙ rw (g q (omega arith) (omega arith)) (all_pass k (q + 1) (omega arith) (λ j a b. g j (omega arith) (omega arith)))
 
-  one-fails : (k q j : ℕ) → q + k ≤ length s → q ≤ j → j < q + k → f (get_or s j 0) ≡ false → each f (take k (drop q s)) ≡ false
-  one-fails zero q j h a b g = absurd (omega arith)
-  one-fails (suc k) q j h a b g =
-      turn k q (omega arith) ∙ at (eqb q j) refl (λ n. one-fails k (q + 1) j (omega arith) (omega arith) (omega arith) g)
+  one_fails : (k q j : ℕ) → q + k ≤ length s → q ≤ j → j < q + k → f (get_or s j 0) ≡ false → each f (take k (drop q s)) ≡ false
+  one_fails zero q j h a b g = absurd (omega arith)
+  one_fails (suc k) q j h a b g =
+      turn k q (omega arith) ∙ at (eqb q j) refl (λ n. one_fails k (q + 1) j (omega arith) (omega arith) (omega arith) g)
     where
       at : (x : Bool) → eqb q j ≡ x → (q + 1 ≤ j → each f (take k (drop (q + 1) s)) ≡ false) → (f (get_or s q 0) && each f (take k (drop (q + 1) s))) ≡ false
       at true e r = rw (eqb-true q j e, g) refl
@@ -42,7 +42,7 @@ module _ (f : ℕ → Bool) (s : List ℕ) where
 
   -- by where the first that fails stands, of m or more
   by_first : (k q m t : ℕ) → q + k ≤ m → m ≤ length s → t ≡ first (λ j. not (f (get_or s j 0))) q m → leb (q + k) t ≡ each f (take k (drop q s))
-  by_first k q m t h l e = go (leb (q + k) t) refl (first-is (λ j. not (f (get_or s j 0))) q m (omega arith))
+  by_first k q m t h l e = go (leb (q + k) t) refl (first_is (λ j. not (f (get_or s j 0))) q m (omega arith))
     where
       go : (b : Bool) → leb (q + k) t ≡ b → Found (λ j. not (f (get_or s j 0))) q m (first (λ j. not (f (get_or s j 0))) q m) → b ≡ each f (take k (drop q s))
       go true u r =
@@ -51,29 +51,29 @@ module _ (f : ℕ → Bool) (s : List ℕ) where
       go false u r =
           let z = leb-false (q + k) t u in
           let y = rw (← e) at (r.passes (omega arith)) in
-          sym (one-fails k q t (omega arith) (rw e r.from) (omega arith) (not-true (f (get_or s t 0)) y))
+          sym (one_fails k q t (omega arith) (rw e r.from) (omega arith) (not-true (f (get_or s t 0)) y))
 
 -- ---- where name characters stop
 
-pub stop-eight : (s : List ℕ) (i e t : ℕ) → i + 8 ≤ e → inEight (isOther s) i ≡ false → t ≡ stop_at s i e → t ≡ stop_at s (i + 8) e
+pub stop_eight : (s : List ℕ) (i e t : ℕ) → i + 8 ≤ e → in_eight (is_other s) i ≡ false → t ≡ stop_at s i e → t ≡ stop_at s (i + 8) e
 unfolding stop_at
-stop-eight s i e t h g u = skip-eight (isOther s) e t i h g u
+stop_eight s i e t h g u = skip_eight (is_other s) e t i h g u
 
 pub stops_first : (s : List ℕ) (e q : ℕ) → Stops s e q q
 stops_first s e q h = absurd (omega arith)
 
-pub stops-later : (s : List ℕ) (e q r : ℕ) → q < e → Stops s e q r → Stops s e (q + 1) r
+pub stops_later : (s : List ℕ) (e q r : ℕ) → q < e → Stops s e q r → Stops s e (q + 1) r
 unfolding stop_at
-stops-later s e q r l st h =
+stops_later s e q r l st h =
     let u = st (omega arith) in
-    let is = first-is (isOther s) (q + 1) e (omega arith) in
+    let is = first_is (is_other s) (q + 1) e (omega arith) in
     let to : r ≤ e = rw u (is.to (omega arith)) in
-    first_more (isOther s) e (q + 1) r u (omega arith) (is.before (q + 1) (omega arith) (rw (← u) h))
+    first_more (is_other s) e (q + 1) r u (omega arith) (is.before (q + 1) (omega arith) (rw (← u) h))
 
 -- the first that passes below n is the first below any larger m
 wider : (f : ℕ → Bool) (i n m t : ℕ) → i ≤ n → n ≤ m → t ≡ first f i n → t < n → t ≡ first f i m
 wider f i n m t h g e l =
-    let is = first-is f i n h in
+    let is = first_is f i n h in
     let from : i ≤ t = rw e is.from in
     let found : f t ≡ true = rw e (is.passes (rw (← e) l)) in
     first_found f m t (first f i m) (skip f m (first f i m) (t - i) i t (omega arith) (omega arith) (λ q a b. is.before q a (rw (← e) b)) refl) (omega arith) found
@@ -81,25 +81,25 @@ wider f i n m t h g e l =
 -- ---- the name at q
 
 module _ (s : List ℕ) (e q : ℕ) (l : e ≤ length s) (size : (leb 1 (get_or s q 0) && leb (get_or s q 0) 64) ≡ true) (fits : q + 1 + get_or s q 0 ≤ e) where
-  by-each : (b : Bool) → b ≡ each isNameChar (take (get_or s q 0) (drop (q + 1) s)) → b ≡ nameHere s e q
-  unfolding nameHere
-  by-each b f = rw (size, le-leb (q + 1 + get_or s q 0) e fits) f
+  by_each : (b : Bool) → b ≡ each is_name_char (take (get_or s q 0) (drop (q + 1) s)) → b ≡ name_here s e q
+  unfolding name_here
+  by_each b f = rw (size, le-leb (q + 1 + get_or s q 0) e fits) f
 
-  pub name-known : (r : ℕ) → q < r → Stops s e q r → leb (q + 1 + get_or s q 0) r ≡ nameHere s e q
+  pub name_known : (r : ℕ) → q < r → Stops s e q r → leb (q + 1 + get_or s q 0) r ≡ name_here s e q
   unfolding stop_at
-  name-known r h st = by-each (leb (q + 1 + get_or s q 0) r) (by_first isNameChar s (get_or s q 0) (q + 1) e r fits l (st h))
+  name_known r h st = by_each (leb (q + 1 + get_or s q 0) r) (by_first is_name_char s (get_or s q 0) (q + 1) e r fits l (st h))
 
   module _ (r : ℕ) (u : r ≡ stop_at s (q + 1) (q + 1 + get_or s q 0)) where
-    known : leb (q + 1 + get_or s q 0) r ≡ nameHere s e q
+    known : leb (q + 1 + get_or s q 0) r ≡ name_here s e q
     unfolding stop_at
-    known = by-each (leb (q + 1 + get_or s q 0) r) (by_first isNameChar s (get_or s q 0) (q + 1) (q + 1 + get_or s q 0) r (omega arith) (omega arith) u)
+    known = by_each (leb (q + 1 + get_or s q 0) r) (by_first is_name_char s (get_or s q 0) (q + 1) (q + 1 + get_or s q 0) r (omega arith) (omega arith) u)
 
-    pub name-whole : r ≡ q + 1 + get_or s q 0 → true ≡ nameHere s e q
-    name-whole f = sym (le-leb (q + 1 + get_or s q 0) r (omega arith)) ∙ known
+    pub name_whole : r ≡ q + 1 + get_or s q 0 → true ≡ name_here s e q
+    name_whole f = sym (le-leb (q + 1 + get_or s q 0) r (omega arith)) ∙ known
 
-    pub name-broken : r < q + 1 + get_or s q 0 → (false ≡ nameHere s e q) × Stops s e (q + 1) r
+    pub name_broken : r < q + 1 + get_or s q 0 → (false ≡ name_here s e q) × Stops s e (q + 1) r
     unfolding stop_at
-    name-broken h = (
+    name_broken h = (
       sym (lt-leb (q + 1 + get_or s q 0) r h) ∙ known,
-      stops-later s e q r (omega arith) (λ k. wider (isOther s) (q + 1) (q + 1 + get_or s q 0) e r (omega arith) fits u h),
+      stops_later s e q r (omega arith) (λ k. wider (is_other s) (q + 1) (q + 1 + get_or s q 0) e r (omega arith) fits u h),
     )

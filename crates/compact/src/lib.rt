@@ -6,10 +6,10 @@ ghost use lib.ListN.{length};
 ghost use Rattle.codepage.specs.Page.{page037};
 ghost use Rattle.field.specs.declared.ByteOrder.TheVariants.{BigEndian, LittleEndian};
 ghost use Rattle.field.specs.Numbers.{number};
-ghost use Rattle.text.specs.Chars.{isNameChar};
+ghost use Rattle.text.specs.Chars.{is_name_char};
 ghost use Rattle.column.specs.Column.{StringsInside};
-ghost use Rattle.compact_table.specs.Table.{inEight};
-ghost use Rattle.compact.specs.Compact.{ccsidOf, nameHere, isOther, stop_at, Stops, compactName, compactAt, compactEnd, ffsHere, last_end, endBy, compactRun};
+ghost use Rattle.compact_table.specs.Table.{in_eight};
+ghost use Rattle.compact.specs.Compact.{ccsid_of, name_here, is_other, stop_at, Stops, compact_name, compact_at, compact_end, ffs_here, last_end, end_by, compact_run};
 
 use column::{Described, Run};
 use field::ByteOrder;
@@ -25,7 +25,7 @@ pub enum Ends {
 // Big-endian, unless only the little-endian number is at most 10,000. The Rust's test for 0 changes nothing: both are 0 or neither is.
 fn decode_ccsid(reply: &[u8], offset: usize) -> u16
     requires { offset + 2 ≤ length reply.now }
-    ensures { result ≡ ccsidOf (number BigEndian 2 reply.now offset) (number LittleEndian 2 reply.now offset) }
+    ensures { result ≡ ccsid_of (number BigEndian 2 reply.now offset) (number LittleEndian 2 reply.now offset) }
 {
     let be = field::u16_at(reply, offset, ByteOrder::BigEndian);
     let le = field::u16_at(reply, offset, ByteOrder::LittleEndian);
@@ -37,7 +37,7 @@ fn decode_ccsid(reply: &[u8], offset: usize) -> u16
 
 // As text's own test of ASCII characters. The compiler tests letters first, which stand last here: most characters of names are letters.
 fn is_name_char(character: u8) -> bool
-    ensures { result ≡ isNameChar character }
+    ensures { result ≡ is_name_char character }
 {
     (character == 0x40)
         | (character == 0x23)
@@ -51,7 +51,7 @@ fn is_name_char(character: u8) -> bool
 // Eight bytes are read at once, as in the search for an FF.
 fn other_in_eight(reply: &[u8], offset: usize) -> bool
     requires { offset + 8 ≤ length reply.now }
-    ensures { result ≡ inEight (isOther reply.now) offset }
+    ensures { result ≡ in_eight (is_other reply.now) offset }
 {
     !is_name_char(reply[offset])
         | !is_name_char(reply[offset + 1])
@@ -103,7 +103,7 @@ struct NameTest {
 fn name_here(reply: &[u8], end: usize, offset: usize, stop: usize) -> NameTest
     requires offset_lt_end { (offset < end) × (end ≤ lib.ListN.length reply.now) }
     requires stops { Stops reply.now end offset stop }
-    ensures finds { result.found ≡ nameHere reply.now end offset }
+    ensures finds { result.found ≡ name_here reply.now end offset }
     ensures ends { Stops reply.now end (offset + 1) result.stop }
 {
     let length = reply[offset] as usize;
@@ -132,7 +132,7 @@ fn name_here(reply: &[u8], end: usize, offset: usize, stop: usize) -> NameTest
 
 fn extract_column_name(reply: &[u8], offset: usize, end: usize) -> StringRead
     requires { (offset + 16 ≤ end) × (end ≤ lib.ListN.length reply.now) }
-    ensures { result ≡ compactName reply.now offset end }
+    ensures { result ≡ compact_name reply.now offset end }
 {
     let mut stop = offset + 16;
     let mut i = offset + 16;
@@ -155,7 +155,7 @@ fn extract_column_name(reply: &[u8], offset: usize, end: usize) -> StringRead
 // The descriptor from `offset` to `end`. Its strings lie in the reply, as those who decode them ask.
 pub fn read_compact(reply: &[u8], offset: usize, end: usize) -> Described
     requires { (offset + 16 ≤ end) × (end ≤ length reply.now) }
-    ensures value { result ≡ compactAt reply.now offset end }
+    ensures value { result ≡ compact_at reply.now offset end }
     ensures strings_inside { StringsInside reply.now result }
 {
     let sql_type = field::u16_at(reply, offset + 12, ByteOrder::LittleEndian);
@@ -182,7 +182,7 @@ pub fn read_compact(reply: &[u8], offset: usize, end: usize) -> Described
 
 fn compact_descriptor_end(left: usize, reply: &[u8], offset: usize) -> usize
     requires { offset + 16 ≤ length reply.now }
-    ensures { (result ≡ compactEnd left reply.now offset) × (result ≤ length reply.now) }
+    ensures { (result ≡ compact_end left reply.now offset) × (result ≤ length reply.now) }
 {
     if left == 0 {
         return reply.len();
@@ -196,7 +196,7 @@ fn compact_descriptor_end(left: usize, reply: &[u8], offset: usize) -> usize
 
 fn ffs_here(reply: &[u8], offset: usize) -> bool
     requires { offset + 3 ≤ length reply.now }
-    ensures { result ≡ ffsHere reply.now offset }
+    ensures { result ≡ ffs_here reply.now offset }
 {
     (reply[offset] == 0xFF) & ((reply[offset + 1] == 0xFF) & (reply[offset + 2] == 0xFF))
 }
@@ -219,7 +219,7 @@ fn last_descriptor_end(reply: &[u8], offset: usize) -> usize
 // Where the descriptor at a position ends, if `left` more are to come.
 pub fn compact_end(ends: Ends, left: usize, reply: &[u8], offset: usize) -> usize
     requires { offset + 16 ≤ length reply.now }
-    ensures value { result ≡ endBy ends left reply.now offset }
+    ensures value { result ≡ end_by ends left reply.now offset }
     ensures upper_bound { result ≤ length reply.now }
 {
     match ends {
@@ -231,7 +231,7 @@ pub fn compact_end(ends: Ends, left: usize, reply: &[u8], offset: usize) -> usiz
 // At most `count` descriptors from a position on: how many there are, and how many have names.
 pub fn compact_run(ends: Ends, reply: &[u8], count: usize, offset: usize) -> Run
     requires { offset ≤ length reply.now }
-    ensures value { result ≡ compactRun page037 ends reply.now count offset }
+    ensures value { result ≡ compact_run page037 ends reply.now count offset }
     ensures named_le_count { (result.named ≤ result.count) × (result.count ≤ count) }
 {
     let mut start = offset;

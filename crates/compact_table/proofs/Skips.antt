@@ -5,8 +5,8 @@ use mathlib.Core.Path.{◌≡◌, refl, sym}
 use mathlib.Core.List.{List}
 use mathlib.Core.Bool.{Bool, true, false, ◌||◌, false≢true}
 use Rattle.search.specs.Walks.{first}
-use Rattle.search.proofs.Index.{first-is, first_more}
-use Rattle.compact_table.specs.Table.{isFF, ffAt, inEight, nextHere}
+use Rattle.search.proofs.Index.{first_is, first_more}
+use Rattle.compact_table.specs.Table.{is_ff, ff_at, in_eight, next_here}
 
 module _ (f : ℕ → Bool) (n t : ℕ) where
   -- j is the next index: in whatever form it is written
@@ -19,9 +19,9 @@ module _ (f : ℕ → Bool) (n t : ℕ) where
       skip k (i + 1) j (omega arith) h (λ q a b. g q (omega arith) b) (step i (i + 1) (omega arith) (g i (omega arith) (omega arith)) refl u)
 
 -- what f passes is all that g can pass
-pub skip-to : (f g : ℕ → Bool) (i n t r : ℕ) → ((q : ℕ) → f q ≡ false → g q ≡ false) → i ≤ n → r ≡ first f i n → t ≡ first g i n → t ≡ first g r n
-skip-to f g i n t r w h e u =
-    let is = first-is f i n h in
+pub skip_to : (f g : ℕ → Bool) (i n t r : ℕ) → ((q : ℕ) → f q ≡ false → g q ≡ false) → i ≤ n → r ≡ first f i n → t ≡ first g i n → t ≡ first g r n
+skip_to f g i n t r w h e u =
+    let is = first_is f i n h in
     let a : i ≤ r = rw e is.from in
     let b : r ≤ n = rw e (is.to h) in
     skip g n t (r - i) i r (omega arith) b (λ q x y. w q (is.before q x (rw (← e) y))) u
@@ -31,8 +31,8 @@ neither true b e = absurd (false≢true (sym e))
 neither false b e = (refl, e)
 
 -- eight positions that fail
-pub skip-eight : (f : ℕ → Bool) (n t i : ℕ) → i + 8 ≤ n → inEight f i ≡ false → t ≡ first f i n → t ≡ first f (i + 8) n
-skip-eight f n t i h g u =
+pub skip_eight : (f : ℕ → Bool) (n t i : ℕ) → i + 8 ≤ n → in_eight f i ≡ false → t ≡ first f i n → t ≡ first f (i + 8) n
+skip_eight f n t i h g u =
     let b1 = f i || f (i + 1) in
     let b2 = b1 || f (i + 2) in
     let b3 = b2 || f (i + 3) in
@@ -55,19 +55,19 @@ skip-eight f n t i h g u =
     let u7 = step f n t (i + 6) (i + 7) (omega arith) g6.1 (omega arith) u6 in
     step f n t (i + 7) (i + 8) (omega arith) g7.1 (omega arith) u7
 
-pub ff-eight : (s : List ℕ) (i e t : ℕ) → i + 8 ≤ e → inEight (isFF s) i ≡ false → t ≡ ffAt s i e → t ≡ ffAt s (i + 8) e
-unfolding ffAt
-ff-eight s i e t h g u = skip-eight (isFF s) e t i h g u
+pub ff_eight : (s : List ℕ) (i e t : ℕ) → i + 8 ≤ e → in_eight (is_ff s) i ≡ false → t ≡ ff_at s i e → t ≡ ff_at s (i + 8) e
+unfolding ff_at
+ff_eight s i e t h g u = skip_eight (is_ff s) e t i h g u
 
 -- where there is no FF, there is no next
-pub no-next : (s : List ℕ) (q : ℕ) → isFF s q ≡ false → nextHere s q ≡ false
-unfolding nextHere
-no-next s q h = rw h refl
+pub no_next : (s : List ℕ) (q : ℕ) → is_ff s q ≡ false → next_here s q ≡ false
+unfolding next_here
+no_next s q h = rw h refl
 
-pub next-later : (s : List ℕ) (i n t r : ℕ) → i ≤ n → r ≡ ffAt s i n → t ≡ first (nextHere s) i n → t ≡ first (nextHere s) r n
-unfolding ffAt
-next-later s i n t r h e u = skip-to (isFF s) (nextHere s) i n t r (no-next s) h e u
+pub next_later : (s : List ℕ) (i n t r : ℕ) → i ≤ n → r ≡ ff_at s i n → t ≡ first (next_here s) i n → t ≡ first (next_here s) r n
+unfolding ff_at
+next_later s i n t r h e u = skip_to (is_ff s) (next_here s) i n t r (no_next s) h e u
 
-pub ff-after : (s : List ℕ) (q e r : ℕ) → q ≤ e → r ≡ ffAt s q e → q ≤ r
-unfolding ffAt
-ff-after s q e r h u = rw u (first-is (isFF s) q e h).from
+pub ff_after : (s : List ℕ) (q e r : ℕ) → q ≤ e → r ≡ ff_at s q e → q ≤ r
+unfolding ff_at
+ff_after s q e r h u = rw u (first_is (is_ff s) q e h).from

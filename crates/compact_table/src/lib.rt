@@ -2,7 +2,7 @@
 #![tactic(auto)]
 
 ghost use Rattle.std.specs.Prelude.{◌≡◌, ◌+◌, ◌<◌, ◌≤◌, length};
-ghost use Rattle.compact_table.specs.Table.{inBounds, isFF, ffAt, inEight, looksCompact, nextHere, nextCompact, isCount, tableHere, table_of, Ended};
+ghost use Rattle.compact_table.specs.Table.{in_bounds, is_ff, ff_at, in_eight, looks_compact, next_here, next_compact, is_count, table_here, table_of, Ended};
 
 use field::ByteOrder;
 
@@ -14,7 +14,7 @@ pub struct Table {
 }
 
 fn in_bounds(sql_type: u16, precision: u16, scale: u16, raw_length: u64) -> bool
-    ensures { result ≡ inBounds sql_type precision scale raw_length }
+    ensures { result ≡ in_bounds sql_type precision scale raw_length }
 {
     let base = sql_type - sql_type % 2;
     let lob = (base == 404) | (base == 408) | (base == 412) | (base == 988);
@@ -24,7 +24,7 @@ fn in_bounds(sql_type: u16, precision: u16, scale: u16, raw_length: u64) -> bool
 
 // The tests that most positions fail come first; the search for the type comes last.
 pub fn looks_like_compact_descriptor_start(reply: &[u8], offset: usize) -> bool
-    ensures { result ≡ looksCompact reply.now offset }
+    ensures { result ≡ looks_compact reply.now offset }
 {
     if reply.len() < offset {
         return false;
@@ -48,7 +48,7 @@ pub fn looks_like_compact_descriptor_start(reply: &[u8], offset: usize) -> bool
 // Eight bytes are read at once: one loop turn passes over them where none is FF.
 fn ff_in_eight(reply: &[u8], offset: usize) -> bool
     requires { offset + 8 ≤ length reply.now }
-    ensures { result ≡ inEight (isFF reply.now) offset }
+    ensures { result ≡ in_eight (is_ff reply.now) offset }
 {
     (reply[offset] == 0xFF)
         | (reply[offset + 1] == 0xFF)
@@ -62,7 +62,7 @@ fn ff_in_eight(reply: &[u8], offset: usize) -> bool
 
 fn skip_eights(reply: &[u8], offset: usize, end: usize) -> usize
     requires { (offset ≤ end) × (end ≤ length reply.now) }
-    ensures { (result ≤ end) × (ffAt reply.now offset end ≡ ffAt reply.now result end) }
+    ensures { (result ≤ end) × (ff_at reply.now offset end ≡ ff_at reply.now result end) }
 {
     let mut i = offset;
     while 8 <= end - i {
@@ -77,7 +77,7 @@ fn skip_eights(reply: &[u8], offset: usize, end: usize) -> usize
 // The first FF from a position on and before `end`, which is the answer where there is none.
 pub fn next_ff(reply: &[u8], offset: usize, end: usize) -> usize
     requires { (offset ≤ end) × (end ≤ length reply.now) }
-    ensures { (result ≡ ffAt reply.now offset end) × (result ≤ end) }
+    ensures { (result ≡ ff_at reply.now offset end) × (result ≤ end) }
 {
     let mut i = skip_eights(reply, offset, end);
     while i < end {
@@ -91,7 +91,7 @@ pub fn next_ff(reply: &[u8], offset: usize, end: usize) -> usize
 
 fn next_here(reply: &[u8], offset: usize) -> bool
     requires { offset < length reply.now }
-    ensures { result ≡ nextHere reply.now offset }
+    ensures { result ≡ next_here reply.now offset }
 {
     if reply[offset] == 0xFF {
         return looks_like_compact_descriptor_start(reply, offset + 1);
@@ -102,7 +102,7 @@ fn next_here(reply: &[u8], offset: usize) -> bool
 // Past the reply's end where the descriptor has no next.
 pub fn next_compact_descriptor_offset(reply: &[u8], offset: usize) -> usize
     requires { offset + 16 ≤ length reply.now }
-    ensures { result ≡ nextCompact reply.now offset }
+    ensures { result ≡ next_compact reply.now offset }
 {
     let mut i = offset + 16;
     while i < reply.len() {
@@ -115,7 +115,7 @@ pub fn next_compact_descriptor_offset(reply: &[u8], offset: usize) -> usize
 }
 
 fn is_count(count: u16) -> bool
-    ensures { result ≡ isCount count }
+    ensures { result ≡ is_count count }
 {
     (1 <= count) & (count <= 512)
 }
@@ -131,7 +131,7 @@ struct TableTest {
 fn table_here(reply: &[u8], offset: usize, more: bool) -> TableTest
     requires offset_in_bounds { offset + 18 ≤ length reply.now }
     requires ended { Ended reply.now (offset + 2) more }
-    ensures finds { result.found ≡ tableHere reply.now offset }
+    ensures finds { result.found ≡ table_here reply.now offset }
     ensures ends { Ended reply.now (offset + 2) result.more }
 {
     let count = field::u16_at(reply, offset, ByteOrder::LittleEndian);

@@ -1,25 +1,25 @@
 -- Numbers in decimal by computation: one digit, two, and the largest of 16 and of 64 bits.
 use mathlib.Core.Path.{◌≡◌, refl}
 use mathlib.Core.List.{[], ◌∷◌}
-use Rattle.decimal.specs.Decimal.{digitsOf, decimalOf}
+use Rattle.decimal.specs.Decimal.{digits_of, decimal_of}
 
-pub case-0 : decimalOf 0 ≡ 0x30 ∷ []
-unfolding digitsOf decimalOf
-case-0 = refl
+pub case_0 : decimal_of 0 ≡ 0x30 ∷ []
+unfolding digits_of decimal_of
+case_0 = refl
 
-pub case-9 : decimalOf 9 ≡ 0x39 ∷ []
-unfolding digitsOf decimalOf
-case-9 = refl
+pub case_9 : decimal_of 9 ≡ 0x39 ∷ []
+unfolding digits_of decimal_of
+case_9 = refl
 
-pub case-10 : decimalOf 10 ≡ 0x31 ∷ 0x30 ∷ []
-unfolding digitsOf decimalOf
-case-10 = refl
+pub case_10 : decimal_of 10 ≡ 0x31 ∷ 0x30 ∷ []
+unfolding digits_of decimal_of
+case_10 = refl
 
-pub case-65535 : decimalOf 65535 ≡ 0x36 ∷ 0x35 ∷ 0x35 ∷ 0x33 ∷ 0x35 ∷ []
-unfolding digitsOf decimalOf
-case-65535 = refl
+pub case_65535 : decimal_of 65535 ≡ 0x36 ∷ 0x35 ∷ 0x35 ∷ 0x33 ∷ 0x35 ∷ []
+unfolding digits_of decimal_of
+case_65535 = refl
 
-pub case-18446744073709551615 : decimalOf 18446744073709551615 ≡
+pub case_18446744073709551615 : decimal_of 18446744073709551615 ≡
     0x31 ∷ 0x38 ∷ 0x34 ∷ 0x34 ∷ 0x36 ∷ 0x37 ∷ 0x34 ∷ 0x34 ∷ 0x30 ∷ 0x37 ∷ 0x33 ∷ 0x37 ∷ 0x30 ∷ 0x39 ∷ 0x35 ∷ 0x35 ∷ 0x31 ∷ 0x36 ∷ 0x31 ∷ 0x35 ∷ []
-unfolding digitsOf decimalOf
-case-18446744073709551615 = refl
+unfolding digits_of decimal_of
+case_18446744073709551615 = refl

@@ -7,9 +7,9 @@ use native.Mathlib.Omega.{arith}
 use lib.ListN.{length, get_or, take, drop, set, length-set, length-drop, drop_of_length-le}
 use lib.Seq.{drop-cons, drop-set-lt, get_or-set_same, take_all}
 use borrow.Author.Tests.{lt-ltb, le-ltb}
-use Rattle.outcome.specs.Room.{roomLength, roomWritten}
+use Rattle.outcome.specs.Room.{room_length, room_written}
 use Rattle.outcome.proofs.Room.{no_room, has_room}
-use Rattle.decimal.specs.Decimal.{digitOf, digitsOf, decimalOf, Spells}
+use Rattle.decimal.specs.Decimal.{digit_of, digits_of, decimal_of, Spells}
 
 -- a number of at most k digits is below this
 abbrev tens : ℕ → ℕ
@@ -30,11 +30,11 @@ pub record Counting (n : ℕ) (cs : List ℕ) (rest at : ℕ) : Type 0 where
   pub within : at ≤ 23
   pub small : rest < 10 * tens k
   pub long : length cs ≡ 24
-  pub goes_on : decimalOf n ≡ digitsOf (suc k) rest ++ drop (at + 1) cs
+  pub goes_on : decimal_of n ≡ digits_of (suc k) rest ++ drop (at + 1) cs
 
-pub counting-none : (n : ℕ) (cs : List ℕ) → n < 100000000000000000000 → length cs ≡ 24 → Counting n cs n 23
-unfolding decimalOf
-counting-none n cs h l =
+pub counting_none : (n : ℕ) (cs : List ℕ) → n < 100000000000000000000 → length cs ≡ 24 → Counting n cs n 23
+unfolding decimal_of
+counting_none n cs h l =
     let z : length cs ≤ 24 = omega arith in
     record {
       k = 19;
@@ -42,15 +42,15 @@ counting-none n cs h l =
       within = omega arith;
       small = h;
       long = l;
-      goes_on = rw (drop_of_length-le cs z) (sym (append-nil (digitsOf 20 n)));
+      goes_on = rw (drop_of_length-le cs z) (sym (append-nil (digits_of 20 n)));
     }
 
-module _ (n : ℕ) (cs : List ℕ) (rest at : ℕ) (c : Counting n cs rest at) (d : ℕ) (e : d ≡ digitOf rest) where
+module _ (n : ℕ) (cs : List ℕ) (rest at : ℕ) (c : Counting n cs rest at) (d : ℕ) (e : d ≡ digit_of rest) where
   pub counting_more : 10 ≤ rest → Counting n (set cs at d) (rest / 10) (at - 1)
-  unfolding digitsOf
+  unfolding digits_of
   counting_more h = go c.k c.stands c.small c.goes_on
     where
-      go : (k : ℕ) → at ≡ k + 4 → rest < 10 * tens k → decimalOf n ≡ digitsOf (suc k) rest ++ drop (at + 1) cs
+      go : (k : ℕ) → at ≡ k + 4 → rest < 10 * tens k → decimal_of n ≡ digits_of (suc k) rest ++ drop (at + 1) cs
           → Counting n (set cs at d) (rest / 10) (at - 1)
       go zero a s g = absurd (omega arith)
       go (suc k) a s g =
@@ -64,7 +64,7 @@ module _ (n : ℕ) (cs : List ℕ) (rest at : ℕ) (c : Counting n cs rest at) (
             goes_on = g
                 ∙ rw (
                   le-ltb rest 10 h,
-                  append_assoc (digitsOf (suc k) (rest / 10)) (digitOf rest ∷ []) (drop (at + 1) cs),
+                  append_assoc (digits_of (suc k) (rest / 10)) (digit_of rest ∷ []) (drop (at + 1) cs),
                   z,
                   stored cs (drop (at + 1) cs) at (at + 1) d refl (omega (arith, c.long, c.within)) refl,
                   e,
@@ -72,9 +72,9 @@ module _ (n : ℕ) (cs : List ℕ) (rest at : ℕ) (c : Counting n cs rest at) (
           }
 
   -- the first digit
-  pub counting-done : rest < 10 → Spells n (set cs at d) at
-  unfolding digitsOf
-  counting-done h = record {
+  pub counting_done : rest < 10 → Spells n (set cs at d) at
+  unfolding digits_of
+  counting_done h = record {
     free = omega (arith, c.stands);
     some = c.within;
     long = length-set cs at d ∙ c.long;
@@ -86,21 +86,21 @@ abbrev pub lent : List ℕ → ℕ → List ℕ
 lent cs start = take (24 - start) (drop start cs)
 
 module _ {n : ℕ} {cs : List ℕ} {start : ℕ} (s : Spells n cs start) where
-  pub lent-digits : lent cs start ≡ decimalOf n
-  lent-digits = take_all (24 - start) (drop start cs) (omega (arith, length-drop start cs, s.long)) ∙ s.ends
+  pub lent_digits : lent cs start ≡ decimal_of n
+  lent_digits = take_all (24 - start) (drop start cs) (omega (arith, length-drop start cs, s.long)) ∙ s.ends
 
-  pub digits-length : length (decimalOf n) ≡ 24 - start
-  digits-length = ap length (sym s.ends) ∙ omega (arith, length-drop start cs, s.long)
+  pub digits_length : length (decimal_of n) ≡ 24 - start
+  digits_length = ap length (sym s.ends) ∙ omega (arith, length-drop start cs, s.long)
 
   module _ (buffer : List ℕ) where
-    pub write-none : length buffer < 24 - start → (0 ≡ roomLength (decimalOf n) (length buffer)) × (buffer ≡ roomWritten (decimalOf n) buffer)
-    write-none h =
-        let a = no_room (decimalOf n) buffer (omega (arith, digits-length)) in
+    pub write_none : length buffer < 24 - start → (0 ≡ room_length (decimal_of n) (length buffer)) × (buffer ≡ room_written (decimal_of n) buffer)
+    write_none h =
+        let a = no_room (decimal_of n) buffer (omega (arith, digits_length)) in
         (sym a.gives, sym a.leaves)
 
     -- what is lent is copied over the front: m stands there
-    pub write-all : 24 - start ≤ length buffer → {m : List ℕ} → m ≡ lent cs start
-        → (24 - start ≡ roomLength (decimalOf n) (length buffer)) × (m ++ drop (24 - start) buffer ≡ roomWritten (decimalOf n) buffer)
-    write-all h e =
-        let a = has_room (decimalOf n) buffer (omega (arith, digits-length)) in
-        (sym digits-length ∙ sym a.gives, rw (e, lent-digits, ← digits-length) (sym a.leaves))
+    pub write_all : 24 - start ≤ length buffer → {m : List ℕ} → m ≡ lent cs start
+        → (24 - start ≡ room_length (decimal_of n) (length buffer)) × (m ++ drop (24 - start) buffer ≡ room_written (decimal_of n) buffer)
+    write_all h e =
+        let a = has_room (decimal_of n) buffer (omega (arith, digits_length)) in
+        (sym digits_length ∙ sym a.gives, rw (e, lent_digits, ← digits_length) (sym a.leaves))

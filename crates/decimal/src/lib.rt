@@ -2,11 +2,11 @@
 #![tactic(auto)]
 
 ghost use Rattle.std.specs.Prelude.{◌≡◌, length};
-ghost use Rattle.outcome.specs.Room.{roomLength, roomWritten};
-ghost use Rattle.decimal.specs.Decimal.{digitOf, decimalOf, Spells};
+ghost use Rattle.outcome.specs.Room.{room_length, room_written};
+ghost use Rattle.decimal.specs.Decimal.{digit_of, decimal_of, Spells};
 
 fn digit(number: u64) -> u8
-    ensures { result ≡ digitOf number }
+    ensures { result ≡ digit_of number }
 {
     (0x30 + number % 10) as u8
 }
@@ -36,8 +36,8 @@ pub fn digits_of(number: u64) -> Digits
 
 // Writes the digits over the buffer's front and says how many they are; 0, and the buffer as it was, where there is no room for them.
 pub fn write_decimal(number: u64, buffer: &mut [u8]) -> usize
-    ensures gives { result ≡ roomLength (decimalOf number) (length buffer.old) }
-    ensures leaves { buffer.new ≡ roomWritten (decimalOf number) buffer.old }
+    ensures gives { result ≡ room_length (decimal_of number) (length buffer.old) }
+    ensures leaves { buffer.new ≡ room_written (decimal_of number) buffer.old }
 {
     let digits = digits_of(number);
     let characters = digits.characters;

@@ -24,7 +24,7 @@ pub(crate) fn put_first(out: &mut impl Write, characters: &[u8], count: usize) -
     Ok(())
 }
 
-// All that is written of a reply. It has at most 4,095 columns (`reading-few`), so the list is never too short.
+// All that is written of a reply. It has at most 4,095 columns (`reading_few`), so the list is never too short.
 fn put_description(out: &mut impl Write, reply: &[u8], words: &mut [u64]) -> io::Result<()> {
     let answer = sqldard_words::parse_sqldard_data(reply, words);
     let refusal = answer.refusal;

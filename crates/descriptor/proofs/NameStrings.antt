@@ -7,9 +7,9 @@ use lib.ListN.{length}
 use Rattle.field.specs.declared.ByteOrder.TheVariants.{BigEndian}
 use Rattle.strings.specs.declared.StringRead.{StringRead}
 use Rattle.field.specs.Numbers.{number}
-use Rattle.strings.specs.Strings.{stringEnd, stringsEnd, stringAt, chosen, pair_at}
-use Rattle.strings.proofs.Strings.{chosen-first, chosen-second, pair_is}
-use Rattle.strings.proofs.Empty.{empty_at, empty-end, empty-string}
+use Rattle.strings.specs.Strings.{string_end, strings_end, string_at, chosen, pair_at}
+use Rattle.strings.proofs.Strings.{chosen_first, chosen_second, pair_is}
+use Rattle.strings.proofs.Empty.{empty_at, empty_end, empty_string}
 use Rattle.descriptor.specs.declared.Label.{Label}
 use Rattle.descriptor.specs.declared.Names.{Names}
 use Rattle.descriptor.specs.Groups.{AllEmpty, LabelAt, NamesAt}
@@ -17,71 +17,71 @@ use Rattle.descriptor.specs.Groups.{AllEmpty, LabelAt, NamesAt}
 -- ---- empty strings in a row
 
 -- they lie in the reply
-pub empty-room : (n : ℕ) (s : List ℕ) (p : ℕ) → AllEmpty n s p → p + n + n ≤ length s
-empty-room zero s p z = omega (arith, z)
-empty-room (suc n) s p z = omega (arith, empty-room n s (p + 2) z.1)
+pub empty_room : (n : ℕ) (s : List ℕ) (p : ℕ) → AllEmpty n s p → p + n + n ≤ length s
+empty_room zero s p z = omega (arith, z)
+empty_room (suc n) s p z = omega (arith, empty_room n s (p + 2) z.1)
 
 -- one more in front of those that are left
-pub empty-more : (left : ℕ) (s : List ℕ) (p : ℕ) → 0 < left → number BigEndian 2 s p ≡ 0 → AllEmpty (left - 1) s (p + 2) → AllEmpty left s p
-empty-more left s p h e z =
+pub empty_more : (left : ℕ) (s : List ℕ) (p : ℕ) → 0 < left → number BigEndian 2 s p ≡ 0 → AllEmpty (left - 1) s (p + 2) → AllEmpty left s p
+empty_more left s p h e z =
     let k : left ≡ suc (left - 1) = omega arith in rw k (e, z)
 
 -- none are left
-pub empty-none : (left : ℕ) (s : List ℕ) (p : ℕ) → left ≤ 0 → p ≤ length s → AllEmpty left s p
-empty-none zero s p h k = k
-empty-none (suc n) s p h k = absurd (omega arith)
+pub empty_none : (left : ℕ) (s : List ℕ) (p : ℕ) → left ≤ 0 → p ≤ length s → AllEmpty left s p
+empty_none zero s p h k = k
+empty_none (suc n) s p h k = absurd (omega arith)
 
 module _ (s : List ℕ) (p : ℕ) (z : AllEmpty 2 s p) where
   room : p + 4 ≤ length s
-  room = omega (arith, empty-room 2 s p z)
+  room = omega (arith, empty_room 2 s p z)
 
-  pair-empty : empty_at (p + 2) ≡ pair_at s p
-  pair-empty =
-      chosen-second (empty_at p) (empty_at (p + 2)) refl
-      ∙ pair_is s p (empty_at p) (empty_at (p + 2)) (empty-string s p (omega (arith, room)) z.0) (empty-string s (p + 2) (omega (arith, room)) z.1.0)
+  pair_empty : empty_at (p + 2) ≡ pair_at s p
+  pair_empty =
+      chosen_second (empty_at p) (empty_at (p + 2)) refl
+      ∙ pair_is s p (empty_at p) (empty_at (p + 2)) (empty_string s p (omega (arith, room)) z.0) (empty_string s (p + 2) (omega (arith, room)) z.1.0)
 
-  two-empty : stringsEnd 2 s p ≡ p + 2 + 2
-  unfolding stringsEnd
-  two-empty = ap (stringEnd s) (empty-end s p (omega (arith, room)) z.0) ∙ empty-end s (p + 2) (omega (arith, room)) z.1.0
+  two_empty : strings_end 2 s p ≡ p + 2 + 2
+  unfolding strings_end
+  two_empty = ap (string_end s) (empty_end s p (omega (arith, room)) z.0) ∙ empty_end s (p + 2) (omega (arith, room)) z.1.0
 
 -- ---- m has bytes, and those behind it have none; or all are read one after the other
 
-module _ (s : List ℕ) (p : ℕ) (m : StringRead) (e : m ≡ stringAt s p) where
-  m-alone : (m.length ≡ 0 → ⊥) → m.next + 2 ≤ length s → number BigEndian 2 s m.next ≡ 0
+module _ (s : List ℕ) (p : ℕ) (m : StringRead) (e : m ≡ string_at s p) where
+  m_alone : (m.length ≡ 0 → ⊥) → m.next + 2 ≤ length s → number BigEndian 2 s m.next ≡ 0
       → record { place = m.place; length = m.length; next = m.next + 2 } ≡ pair_at s p
-  m-alone h k z = chosen-first m (empty_at m.next) h ∙ pair_is s p m (empty_at m.next) e (empty-string s m.next k z)
+  m_alone h k z = chosen_first m (empty_at m.next) h ∙ pair_is s p m (empty_at m.next) e (empty_string s m.next k z)
 
-  pub label-alone : (m.length ≡ 0 → ⊥) → AllEmpty 3 s m.next
+  pub label_alone : (m.length ≡ 0 → ⊥) → AllEmpty 3 s m.next
       → LabelAt s p (record { label = record { place = m.place; length = m.length; next = m.next + 2 }; next = m.next + 6 })
-  label-alone h z =
-      let k = empty-room 3 s m.next z in
+  label_alone h z =
+      let k = empty_room 3 s m.next z in
       let w : m.next + 2 + 2 + 2 ≡ m.next + 6 = omega arith in
-      let k' = empty-room 2 s (m.next + 2) z.1 in
-      record { label = m-alone h (omega arith) z.0; next = sym (rw w at (two-empty s (m.next + 2) (z.1.0, (z.1.1.0, omega arith)))) }
+      let k' = empty_room 2 s (m.next + 2) z.1 in
+      record { label = m_alone h (omega arith) z.0; next = sym (rw w at (two_empty s (m.next + 2) (z.1.0, (z.1.1.0, omega arith)))) }
 
-  pub label-read : (b l : StringRead) (n : ℕ) → b ≡ stringAt s m.next → l ≡ chosen m b → n ≡ stringsEnd 2 s l.next
+  pub label_read : (b l : StringRead) (n : ℕ) → b ≡ string_at s m.next → l ≡ chosen m b → n ≡ strings_end 2 s l.next
       → LabelAt s p (record { label = l; next = n })
-  label-read b l n f g x = record { label = g ∙ pair_is s p m b e f; next = x }
+  label_read b l n f g x = record { label = g ∙ pair_is s p m b e f; next = x }
 
-  pub names-alone : (m.length ≡ 0 → ⊥) → AllEmpty 5 s m.next
+  pub names_alone : (m.length ≡ 0 → ⊥) → AllEmpty 5 s m.next
       → NamesAt s p (record {
         name = record { place = m.place; length = m.length; next = m.next + 2 };
         label = record { place = m.next + 6; length = 0; next = m.next + 6 };
         next = m.next + 10;
       })
-  names-alone h z =
+  names_alone h z =
       let q = m.next in
-      let k = empty-room 5 s q z in
+      let k = empty_room 5 s q z in
       let x : q + 2 + 2 + 2 ≡ q + 6 = omega arith in
       let w : q + 6 + 2 + 2 ≡ q + 10 = omega arith in
       let behind : AllEmpty 2 s (q + 6) = rw (← x) z.1.1.1 in
       record {
-        name = m-alone h (omega arith) z.0;
-        label = rw x at (pair-empty s (q + 2) (z.1.0, (z.1.1.0, omega arith)));
-        next = sym (rw w at (two-empty s (q + 6) behind));
+        name = m_alone h (omega arith) z.0;
+        label = rw x at (pair_empty s (q + 2) (z.1.0, (z.1.1.0, omega arith)));
+        next = sym (rw w at (two_empty s (q + 6) behind));
       }
 
-  pub names-read : (b n : StringRead) (r : Label) (t : Names) → b ≡ stringAt s m.next → n ≡ chosen m b → LabelAt s n.next r
+  pub names_read : (b n : StringRead) (r : Label) (t : Names) → b ≡ string_at s m.next → n ≡ chosen m b → LabelAt s n.next r
       → t.name ≡ n → t.label ≡ r.label → t.next ≡ r.next → NamesAt s p t
-  names-read b n r t f g x u v y =
+  names_read b n r t f g x u v y =
       record { name = u ∙ g ∙ pair_is s p m b e f; label = v ∙ rw (← u) at x.label; next = y ∙ rw (← v) at x.next }

@@ -10,113 +10,113 @@ use borrow.Author.Tests.{lt-ltb, le-ltb, lt-leb, le-leb}
 use Rattle.search.specs.Search.{pick}
 use Rattle.field.specs.declared.ByteOrder.{ByteOrder}
 use Rattle.field.specs.Numbers.{number}
-use Rattle.strings.specs.Strings.{noString}
-use Rattle.sqlda.specs.Types.{isKnown}
+use Rattle.strings.specs.Strings.{no_string}
+use Rattle.sqlda.specs.Types.{is_known}
 use Rattle.column.specs.declared.Described.{Described}
 use Rattle.column.specs.Column.{StringsInside}
 use Rattle.descriptor.specs.declared.Sqldagrp.{Sqldagrp}
 use Rattle.descriptor.specs.declared.Sqldoptgrp.{Sqldoptgrp}
 use Rattle.descriptor.specs.declared.Step.{Step}
-use Rattle.descriptor.specs.Nullable.{Flags, lenient, nullableEnd, inNullable}
-use Rattle.descriptor.specs.Descriptor.{optEnd, descriptorEnd, optName, describedAt}
-use Rattle.descriptor.specs.Groups.{sqldagrpAt, sqldoptgrpAt, noStep, sqldoptgrpStepAt, stepAt}
-use Rattle.descriptor.proofs.Groups.{Inside, name-inside, label_inside, optPair-inside}
-use Rattle.descriptor.proofs.Ends.{descriptorEnd-grows}
+use Rattle.descriptor.specs.Nullable.{Flags, lenient, nullable_end, in_nullable}
+use Rattle.descriptor.specs.Descriptor.{opt_end, descriptor_end, opt_name, described_at}
+use Rattle.descriptor.specs.Groups.{sqldagrp_at, sqldoptgrp_at, no_step, sqldoptgrp_step_at, step_at}
+use Rattle.descriptor.proofs.Groups.{Inside, name_inside, label_inside, opt_pair_inside}
+use Rattle.descriptor.proofs.Ends.{descriptor_end_grows}
 
 -- ---- what is past a descriptor
 
 module _ (flags : Flags) (order : ByteOrder) (s : List ℕ) (p : ℕ) where
-  pub descriptorEnd-short : length s < p + 16 → descriptorEnd flags order s p ≡ p + 16
-  unfolding descriptorEnd
-  descriptorEnd-short h = rw (lt-ltb (length s) (p + 16) h) refl
+  pub descriptor_end_short : length s < p + 16 → descriptor_end flags order s p ≡ p + 16
+  unfolding descriptor_end
+  descriptor_end_short h = rw (lt-ltb (length s) (p + 16) h) refl
 
-  pub descriptorEnd-unknown : p + 16 ≤ length s → isKnown (number order 2 s (p + 12)) ≡ false → descriptorEnd flags order s p ≡ suc (length s)
-  unfolding descriptorEnd
-  descriptorEnd-unknown h e = rw (le-ltb (length s) (p + 16) h, e) refl
+  pub descriptor_end_unknown : p + 16 ≤ length s → is_known (number order 2 s (p + 12)) ≡ false → descriptor_end flags order s p ≡ suc (length s)
+  unfolding descriptor_end
+  descriptor_end_unknown h e = rw (le-ltb (length s) (p + 16) h, e) refl
 
-  pub descriptorEnd-known : p + 16 ≤ length s → isKnown (number order 2 s (p + 12)) ≡ true
-      → descriptorEnd flags order s p ≡ nullableEnd flags (optEnd flags) s (p + 16)
-  unfolding descriptorEnd
-  descriptorEnd-known h e = rw (le-ltb (length s) (p + 16) h, e) refl
+  pub descriptor_end_known : p + 16 ≤ length s → is_known (number order 2 s (p + 12)) ≡ true
+      → descriptor_end flags order s p ≡ nullable_end flags (opt_end flags) s (p + 16)
+  unfolding descriptor_end
+  descriptor_end_known h e = rw (le-ltb (length s) (p + 16) h, e) refl
 
   -- a descriptor that can be read has its 16 bytes, and a known type
-  module _ (h : descriptorEnd flags order s p ≤ length s) where
-    pub descriptor-room : p + 16 ≤ length s
-    descriptor-room = omega (arith, descriptorEnd-grows flags order s p)
+  module _ (h : descriptor_end flags order s p ≤ length s) where
+    pub descriptor_room : p + 16 ≤ length s
+    descriptor_room = omega (arith, descriptor_end_grows flags order s p)
 
-    pub descriptor-type : isKnown (number order 2 s (p + 12)) ≡ true
-    descriptor-type = go (isKnown (number order 2 s (p + 12))) refl
+    pub descriptor_type : is_known (number order 2 s (p + 12)) ≡ true
+    descriptor_type = go (is_known (number order 2 s (p + 12))) refl
       where
-        go : (b : Bool) → isKnown (number order 2 s (p + 12)) ≡ b → b ≡ true
+        go : (b : Bool) → is_known (number order 2 s (p + 12)) ≡ b → b ≡ true
         go true e = refl
-        go false e = absurd (omega (arith, descriptorEnd-unknown descriptor-room e))
+        go false e = absurd (omega (arith, descriptor_end_unknown descriptor_room e))
 
-    pub descriptorEnd-inside : descriptorEnd flags order s p ≡ nullableEnd flags (optEnd flags) s (p + 16)
-    descriptorEnd-inside = descriptorEnd-known descriptor-room descriptor-type
+    pub descriptor_end_inside : descriptor_end flags order s p ≡ nullable_end flags (opt_end flags) s (p + 16)
+    descriptor_end_inside = descriptor_end_known descriptor_room descriptor_type
 
 -- ---- for counting
 
 -- what descriptor_step promises
 abbrev pub Stepped : ByteOrder → List ℕ → ℕ → Step → Type 0
-Stepped order s p r = (r ≡ stepAt order s p) × ((p + 16 ≤ r.next) × Inside s r.name)
+Stepped order s p r = (r ≡ step_at order s p) × ((p + 16 ≤ r.next) × Inside s r.name)
 
 module _ (order : ByteOrder) (s : List ℕ) (p : ℕ) where
-  abbrev stepBy : Bool → Step
-  stepBy b =
-      pick b (record { name = (describedAt order s p).name; next = descriptorEnd lenient order s p }) (noStep (descriptorEnd lenient order s p))
+  abbrev step_by : Bool → Step
+  step_by b =
+      pick b (record { name = (described_at order s p).name; next = descriptor_end lenient order s p }) (no_step (descriptor_end lenient order s p))
 
   -- a step of none, where the end lies past the reply
-  none-stepped : (n : ℕ) (r : Step) → r ≡ noStep n → n ≡ descriptorEnd lenient order s p → length s < n → Stepped order s p r
-  unfolding stepAt
-  none-stepped n r e f h =
+  none_stepped : (n : ℕ) (r : Step) → r ≡ no_step n → n ≡ descriptor_end lenient order s p → length s < n → Stepped order s p r
+  unfolding step_at
+  none_stepped n r e f h =
       let k : r.next ≡ n = ap (λ (x : Step). x.next) e in
-      let z : r.name ≡ noString 0 = ap (λ (x : Step). x.name) e in
-      let u : leb (descriptorEnd lenient order s p) (length s) ≡ false = lt-leb (descriptorEnd lenient order s p) (length s) (omega arith) in
-      (e ∙ ap noStep f ∙ sym (ap stepBy u), (omega (arith, descriptorEnd-grows lenient order s p), rw z (omega arith)))
+      let z : r.name ≡ no_string 0 = ap (λ (x : Step). x.name) e in
+      let u : leb (descriptor_end lenient order s p) (length s) ≡ false = lt-leb (descriptor_end lenient order s p) (length s) (omega arith) in
+      (e ∙ ap no_step f ∙ sym (ap step_by u), (omega (arith, descriptor_end_grows lenient order s p), rw z (omega arith)))
 
-  pub step-short : (r : Step) → r ≡ noStep (p + 16) → length s < p + 16 → Stepped order s p r
-  step-short r e h = none-stepped (p + 16) r e (sym (descriptorEnd-short lenient order s p h)) h
+  pub step_short : (r : Step) → r ≡ no_step (p + 16) → length s < p + 16 → Stepped order s p r
+  step_short r e h = none_stepped (p + 16) r e (sym (descriptor_end_short lenient order s p h)) h
 
-  module _ (h : p + 16 ≤ length s) (t : ℕ) (e : t ≡ number order 2 s (p + 12)) (k : Bool) (f : k ≡ isKnown t) where
-    known_is : isKnown (number order 2 s (p + 12)) ≡ k
-    known_is = sym (f ∙ ap isKnown e)
+  module _ (h : p + 16 ≤ length s) (t : ℕ) (e : t ≡ number order 2 s (p + 12)) (k : Bool) (f : k ≡ is_known t) where
+    known_is : is_known (number order 2 s (p + 12)) ≡ k
+    known_is = sym (f ∙ ap is_known e)
 
-    pub step-unknown : (r : Step) → k ≡ false → r ≡ noStep (length s + 1) → Stepped order s p r
-    step-unknown r g x =
-        none-stepped (length s + 1) r x (sym (descriptorEnd-unknown lenient order s p h (known_is ∙ g) ∙ omega arith)) (omega arith)
+    pub step_unknown : (r : Step) → k ≡ false → r ≡ no_step (length s + 1) → Stepped order s p r
+    step_unknown r g x =
+        none_stepped (length s + 1) r x (sym (descriptor_end_unknown lenient order s p h (known_is ∙ g) ∙ omega arith)) (omega arith)
 
-    module _ (g : k ≡ true) (o : Step) (x : o ≡ sqldoptgrpStepAt s (p + 16)) where
-      past-group : o.next ≡ descriptorEnd lenient order s p
-      past-group = ap (λ (o : Step). o.next) x ∙ sym (descriptorEnd-known lenient order s p h (known_is ∙ g))
+    module _ (g : k ≡ true) (o : Step) (x : o ≡ sqldoptgrp_step_at s (p + 16)) where
+      past_group : o.next ≡ descriptor_end lenient order s p
+      past_group = ap (λ (o : Step). o.next) x ∙ sym (descriptor_end_known lenient order s p h (known_is ∙ g))
 
-      pub step_cut : (r : Step) → r ≡ noStep o.next → length s < o.next → Stepped order s p r
-      step_cut r y l = none-stepped o.next r y past-group l
+      pub step_cut : (r : Step) → r ≡ no_step o.next → length s < o.next → Stepped order s p r
+      step_cut r y l = none_stepped o.next r y past_group l
 
-      pub step-read : o.next ≤ length s → Stepped order s p o
-      unfolding stepAt describedAt
-      step-read l =
-          let n : o.name ≡ inNullable (noString 0) optName s (p + 16) = ap (λ (o : Step). o.name) x in
-          let u : leb (descriptorEnd lenient order s p) (length s) ≡ true = le-leb (descriptorEnd lenient order s p) (length s) (omega (arith, past-group)) in (
-            (λ i. record { name = n i; next = past-group i }) ∙ sym (ap stepBy u),
-            (omega (arith, descriptorEnd-grows lenient order s p, past-group), rw n (name-inside s (p + 16))),
+      pub step_read : o.next ≤ length s → Stepped order s p o
+      unfolding step_at described_at
+      step_read l =
+          let n : o.name ≡ in_nullable (no_string 0) opt_name s (p + 16) = ap (λ (o : Step). o.name) x in
+          let u : leb (descriptor_end lenient order s p) (length s) ≡ true = le-leb (descriptor_end lenient order s p) (length s) (omega (arith, past_group)) in (
+            (λ i. record { name = n i; next = past_group i }) ∙ sym (ap step_by u),
+            (omega (arith, descriptor_end_grows lenient order s p, past_group), rw n (name_inside s (p + 16))),
           )
 
 -- ---- in full
 
 module _ (order : ByteOrder) (s : List ℕ) (p : ℕ) where
-  pub described-inside : StringsInside s (describedAt order s p)
-  unfolding describedAt
-  described-inside =
+  pub described_inside : StringsInside s (described_at order s p)
+  unfolding described_at
+  described_inside =
       record {
-        name = name-inside s (p + 16);
+        name = name_inside s (p + 16);
         label = label_inside s (p + 16);
-        base = optPair-inside s 3 (p + 16);
-        schema = optPair-inside s 5 (p + 16);
+        base = opt_pair_inside s 3 (p + 16);
+        schema = opt_pair_inside s 5 (p + 16);
       }
 
   -- two groups and what is past them as one descriptor
-  abbrev pub describedBy : Sqldagrp → Sqldoptgrp → ℕ → Described
-  describedBy g o next = record {
+  abbrev pub described_by : Sqldagrp → Sqldoptgrp → ℕ → Described
+  described_by g o next = record {
     sql_type = g.sql_type;
     raw_length = g.raw_length;
     precision = g.precision;
@@ -130,10 +130,10 @@ module _ (order : ByteOrder) (s : List ℕ) (p : ℕ) where
     next = next;
   }
 
-  pub described-read : (g : Sqldagrp) (o : Sqldoptgrp) → descriptorEnd lenient order s p ≤ length s → g ≡ sqldagrpAt order s p → o ≡ sqldoptgrpAt s (p + 16)
-      → (describedBy g o o.next ≡ describedAt order s p) × StringsInside s (describedBy g o o.next)
-  unfolding describedAt
-  described-read g o h e f =
-      let next : o.next ≡ descriptorEnd lenient order s p = ap (λ (o : Sqldoptgrp). o.next) f ∙ sym (descriptorEnd-inside lenient order s p h) in
-      let read : describedBy g o o.next ≡ describedAt order s p = λ i. describedBy (e i) (f i) (next i) in
-      (read, subst (StringsInside s) (sym read) described-inside)
+  pub described_read : (g : Sqldagrp) (o : Sqldoptgrp) → descriptor_end lenient order s p ≤ length s → g ≡ sqldagrp_at order s p → o ≡ sqldoptgrp_at s (p + 16)
+      → (described_by g o o.next ≡ described_at order s p) × StringsInside s (described_by g o o.next)
+  unfolding described_at
+  described_read g o h e f =
+      let next : o.next ≡ descriptor_end lenient order s p = ap (λ (o : Sqldoptgrp). o.next) f ∙ sym (descriptor_end_inside lenient order s p h) in
+      let read : described_by g o o.next ≡ described_at order s p = λ i. described_by (e i) (f i) (next i) in
+      (read, subst (StringsInside s) (sym read) described_inside)

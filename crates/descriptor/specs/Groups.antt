@@ -4,19 +4,19 @@ use Rattle.search.specs.Search.{pick}
 use Rattle.field.specs.declared.ByteOrder.{ByteOrder}
 use Rattle.field.specs.declared.ByteOrder.TheVariants.{BigEndian}
 use Rattle.field.specs.Numbers.{number}
-use Rattle.strings.specs.Strings.{stringsEnd, noString, pair_at}
+use Rattle.strings.specs.Strings.{strings_end, no_string, pair_at}
 use Rattle.descriptor.specs.declared.Sqldagrp.{Sqldagrp}
 use Rattle.descriptor.specs.declared.Sqldxgrp.{Sqldxgrp}
 use Rattle.descriptor.specs.declared.Label.{Label}
 use Rattle.descriptor.specs.declared.Names.{Names}
 use Rattle.descriptor.specs.declared.Sqldoptgrp.{Sqldoptgrp}
 use Rattle.descriptor.specs.declared.Step.{Step}
-use Rattle.descriptor.specs.Nullable.{lenient, nullableEnd, inNullable}
-use Rattle.descriptor.specs.Descriptor.{dxEnd, optEnd, descriptorEnd, dxPair, optName, optLabel, optPair, describedAt}
+use Rattle.descriptor.specs.Nullable.{lenient, nullable_end, in_nullable}
+use Rattle.descriptor.specs.Descriptor.{dx_end, opt_end, descriptor_end, dx_pair, opt_name, opt_label, opt_pair, described_at}
 
 -- the numbers of the SQLDAGRP at p (DRDA V1: SQLDAGRP; 01, Layouts: precision 2, scale 2, length 8, SQLTYPE 2, CCSID 2; 01, Types: low 8 bits)
-abbrev pub sqldagrpAt : ByteOrder → List ℕ → ℕ → Sqldagrp
-sqldagrpAt order s p = record {
+abbrev pub sqldagrp_at : ByteOrder → List ℕ → ℕ → Sqldagrp
+sqldagrp_at order s p = record {
   precision = number order 2 s p % 256;
   scale = number order 2 s (p + 2) % 256;
   raw_length = number order 8 s (p + 4);
@@ -32,62 +32,62 @@ AllEmpty (suc n) s p = (number BigEndian 2 s p ≡ 0) × AllEmpty n s (p + 2)
 -- a label's pair at p, and what is past SQLCOMMENTS behind it (DRDA V1: SQLDOPTGRP; 01, Layouts: label m and s, comment m and s)
 pub record LabelAt (s : List ℕ) (p : ℕ) (r : Label) : Type 0 where
   pub label : r.label ≡ pair_at s p
-  pub next : r.next ≡ stringsEnd 2 s r.label.next
+  pub next : r.next ≡ strings_end 2 s r.label.next
 
 -- the six strings of names at p: SQLNAME, SQLLABEL, and what is past SQLCOMMENTS (DRDA V1: SQLDOPTGRP; 01, Layouts: name m and s, label m and s, comment m and s)
 pub record NamesAt (s : List ℕ) (p : ℕ) (r : Names) : Type 0 where
   pub name : r.name ≡ pair_at s p
   pub label : r.label ≡ pair_at s r.name.next
-  pub next : r.next ≡ stringsEnd 2 s r.label.next
+  pub next : r.next ≡ strings_end 2 s r.label.next
 
 -- a SQLDXGRP that is null or missing (DRDA V1; 01, Layouts: unless FF)
-abbrev pub noSqldxgrp : ℕ → Sqldxgrp
-noSqldxgrp next = record { base_table_name = noString 0; schema_name = noString 0; name = noString 0; next = next }
+abbrev pub no_sqldxgrp : ℕ → Sqldxgrp
+no_sqldxgrp next = record { base_table_name = no_string 0; schema_name = no_string 0; name = no_string 0; next = next }
 
 -- the SQLDXGRP whose flag is due at p (DRDA V1: SQLDXGRP; 01, Layouts: extension)
-abbrev pub sqldxgrpAt : List ℕ → ℕ → Sqldxgrp
-sqldxgrpAt s p = record {
-  base_table_name = dxPair 3 s p;
-  schema_name = dxPair 5 s p;
-  name = dxPair 7 s p;
-  next = nullableEnd lenient dxEnd s p;
+abbrev pub sqldxgrp_at : List ℕ → ℕ → Sqldxgrp
+sqldxgrp_at s p = record {
+  base_table_name = dx_pair 3 s p;
+  schema_name = dx_pair 5 s p;
+  name = dx_pair 7 s p;
+  next = nullable_end lenient dx_end s p;
 }
 
 -- a SQLDOPTGRP that is null or missing (DRDA V1; 01, Layouts: unless FF)
-abbrev pub noSqldoptgrp : ℕ → Sqldoptgrp
-noSqldoptgrp next = record {
-  name = noString 0;
-  label = noString 0;
-  base_table_name = noString 0;
-  schema_name = noString 0;
+abbrev pub no_sqldoptgrp : ℕ → Sqldoptgrp
+no_sqldoptgrp next = record {
+  name = no_string 0;
+  label = no_string 0;
+  base_table_name = no_string 0;
+  schema_name = no_string 0;
   next = next;
 }
 
 -- the SQLDOPTGRP whose flag is due at p (DRDA V1: SQLDOPTGRP; 01, Layouts: option flag)
-abbrev pub sqldoptgrpAt : List ℕ → ℕ → Sqldoptgrp
-sqldoptgrpAt s p = record {
-  name = inNullable (noString 0) optName s p;
-  label = inNullable (noString 0) optLabel s p;
-  base_table_name = inNullable (noString 0) (optPair 3) s p;
-  schema_name = inNullable (noString 0) (optPair 5) s p;
-  next = nullableEnd lenient (optEnd lenient) s p;
+abbrev pub sqldoptgrp_at : List ℕ → ℕ → Sqldoptgrp
+sqldoptgrp_at s p = record {
+  name = in_nullable (no_string 0) opt_name s p;
+  label = in_nullable (no_string 0) opt_label s p;
+  base_table_name = in_nullable (no_string 0) (opt_pair 3) s p;
+  schema_name = in_nullable (no_string 0) (opt_pair 5) s p;
+  next = nullable_end lenient (opt_end lenient) s p;
 }
 
 -- a descriptor that cannot be read, for counting (01, Choice: columns)
-abbrev pub noStep : ℕ → Step
-noStep next = record { name = noString 0; next = next }
+abbrev pub no_step : ℕ → Step
+no_step next = record { name = no_string 0; next = next }
 
 -- what counting asks of the SQLDXGRP whose flag is due at p: its name, and what is past it (DRDA V1: SQLXNAME; 01, Layouts: extension)
-abbrev pub sqldxgrpStepAt : List ℕ → ℕ → Step
-sqldxgrpStepAt s p = record { name = dxPair 7 s p; next = nullableEnd lenient dxEnd s p }
+abbrev pub sqldxgrp_step_at : List ℕ → ℕ → Step
+sqldxgrp_step_at s p = record { name = dx_pair 7 s p; next = nullable_end lenient dx_end s p }
 
 -- and of the SQLDOPTGRP whose flag is due at p (DRDA V1: SQLNAME, SQLXNAME; 01, Layouts: option flag)
-abbrev pub sqldoptgrpStepAt : List ℕ → ℕ → Step
-sqldoptgrpStepAt s p = record { name = inNullable (noString 0) optName s p; next = nullableEnd lenient (optEnd lenient) s p }
+abbrev pub sqldoptgrp_step_at : List ℕ → ℕ → Step
+sqldoptgrp_step_at s p = record { name = in_nullable (no_string 0) opt_name s p; next = nullable_end lenient (opt_end lenient) s p }
 
 -- what counting a run asks of the descriptor at p: its name, none where it cannot be read, and what is past it (01, Choice: columns, generated)
-unfoldable pub stepAt : ByteOrder → List ℕ → ℕ → Step
-stepAt order s p =
-    pick (leb (descriptorEnd lenient order s p) (length s))
-    (record { name = (describedAt order s p).name; next = descriptorEnd lenient order s p })
-    (noStep (descriptorEnd lenient order s p))
+unfoldable pub step_at : ByteOrder → List ℕ → ℕ → Step
+step_at order s p =
+    pick (leb (descriptor_end lenient order s p) (length s))
+    (record { name = (described_at order s p).name; next = descriptor_end lenient order s p })
+    (no_step (descriptor_end lenient order s p))

@@ -12,9 +12,9 @@ missing lenient p = p
 missing strict p = suc p
 
 -- past a nullable group whose flag is due at p: nothing follows the flag FF (DRDA V1; 01, Layouts: unless FF)
-unfoldable pub nullableEnd : Flags → (List ℕ → ℕ → ℕ) → List ℕ → ℕ → ℕ
-nullableEnd flags f s p = pick (leb (length s) p) (missing flags p) (pick (eqb (get_or s p 0) 0xFF) (p + 1) (f s (p + 1)))
+unfoldable pub nullable_end : Flags → (List ℕ → ℕ → ℕ) → List ℕ → ℕ → ℕ
+nullable_end flags f s p = pick (leb (length s) p) (missing flags p) (pick (eqb (get_or s p 0) 0xFF) (p + 1) (f s (p + 1)))
 
 -- what such a group holds, none where it is null or missing (DRDA V1; 01, Layouts: unless FF)
-unfoldable pub inNullable : {A : Type 0} → A → (List ℕ → ℕ → A) → List ℕ → ℕ → A
-inNullable none v s p = pick (leb (length s) p) none (pick (eqb (get_or s p 0) 0xFF) none (v s (p + 1)))
+unfoldable pub in_nullable : {A : Type 0} → A → (List ℕ → ℕ → A) → List ℕ → ℕ → A
+in_nullable none v s p = pick (leb (length s) p) none (pick (eqb (get_or s p 0) 0xFF) none (v s (p + 1)))

@@ -6,11 +6,11 @@
 ghost use Rattle.std.specs.Prelude.{◌≡◌, true, ◌+◌, ◌≤◌, length};
 ghost use Rattle.codepage.specs.Page.{page037};
 ghost use Rattle.column.specs.Column.{StringsInside};
-ghost use Rattle.descriptor.specs.Nullable.{lenient, nullableEnd};
-ghost use Rattle.descriptor.specs.Descriptor.{udtEnd, descriptorEnd, describedAt};
-ghost use Rattle.descriptor.specs.Groups.{sqldagrpAt, noSqldxgrp, sqldxgrpAt, noSqldoptgrp, sqldoptgrpAt, noStep, sqldxgrpStepAt, sqldoptgrpStepAt, stepAt, AllEmpty, LabelAt, NamesAt};
-ghost use Rattle.descriptor.specs.Reading.{countAt};
-ghost use Rattle.descriptor.specs.Run.{standardRun};
+ghost use Rattle.descriptor.specs.Nullable.{lenient, nullable_end};
+ghost use Rattle.descriptor.specs.Descriptor.{udt_end, descriptor_end, described_at};
+ghost use Rattle.descriptor.specs.Groups.{sqldagrp_at, no_sqldxgrp, sqldxgrp_at, no_sqldoptgrp, sqldoptgrp_at, no_step, sqldxgrp_step_at, sqldoptgrp_step_at, step_at, AllEmpty, LabelAt, NamesAt};
+ghost use Rattle.descriptor.specs.Reading.{count_at};
+ghost use Rattle.descriptor.specs.Run.{standard_run};
 
 use column::{Described, Run};
 use field::ByteOrder;
@@ -18,7 +18,7 @@ use strings::StringRead;
 
 // Past SQLUDTGRP: nothing of it is kept.
 pub fn skip_sqludtgrp(reply: &[u8], offset: usize) -> usize
-    ensures { result ≡ nullableEnd lenient udtEnd reply.now offset }
+    ensures { result ≡ nullable_end lenient udt_end reply.now offset }
 {
     if reply.len() <= offset {
         return offset;
@@ -40,7 +40,7 @@ pub struct Sqldxgrp {
 }
 
 fn no_sqldxgrp(next: usize) -> Sqldxgrp
-    ensures { result ≡ noSqldxgrp next }
+    ensures { result ≡ no_sqldxgrp next }
 {
     let none = strings::no_string(0);
     Sqldxgrp {
@@ -52,7 +52,7 @@ fn no_sqldxgrp(next: usize) -> Sqldxgrp
 }
 
 pub fn read_sqldxgrp(reply: &[u8], offset: usize) -> Sqldxgrp
-    ensures { result ≡ sqldxgrpAt reply.now offset }
+    ensures { result ≡ sqldxgrp_at reply.now offset }
 {
     if reply.len() <= offset {
         return no_sqldxgrp(offset);
@@ -84,7 +84,7 @@ pub struct Sqldoptgrp {
 }
 
 fn no_sqldoptgrp(next: usize) -> Sqldoptgrp
-    ensures { result ≡ noSqldoptgrp next }
+    ensures { result ≡ no_sqldoptgrp next }
 {
     let none = strings::no_string(0);
     Sqldoptgrp {
@@ -201,7 +201,7 @@ fn read_names(reply: &[u8], offset: usize) -> Names
 }
 
 fn read_sqldoptgrp(reply: &[u8], offset: usize) -> Sqldoptgrp
-    ensures { result ≡ sqldoptgrpAt reply.now offset }
+    ensures { result ≡ sqldoptgrp_at reply.now offset }
 {
     if reply.len() <= offset {
         return no_sqldoptgrp(offset);
@@ -235,7 +235,7 @@ pub struct Step {
 }
 
 fn no_step(next: usize) -> Step
-    ensures { result ≡ noStep next }
+    ensures { result ≡ no_step next }
 {
     let name = strings::no_string(0);
     Step { name, next }
@@ -243,7 +243,7 @@ fn no_step(next: usize) -> Step
 
 // Of SQLDXGRP only the name. Who counts needs no more, and gets it without the other strings' places.
 pub fn sqldxgrp_step(reply: &[u8], offset: usize) -> Step
-    ensures { result ≡ sqldxgrpStepAt reply.now offset }
+    ensures { result ≡ sqldxgrp_step_at reply.now offset }
 {
     if reply.len() <= offset {
         return no_step(offset);
@@ -261,7 +261,7 @@ pub fn sqldxgrp_step(reply: &[u8], offset: usize) -> Step
 
 // Of SQLDOPTGRP only the name.
 fn sqldoptgrp_step(reply: &[u8], offset: usize) -> Step
-    ensures { result ≡ sqldoptgrpStepAt reply.now offset }
+    ensures { result ≡ sqldoptgrp_step_at reply.now offset }
 {
     if reply.len() <= offset {
         return no_step(offset);
@@ -282,7 +282,7 @@ fn sqldoptgrp_step(reply: &[u8], offset: usize) -> Step
 // A scan asks at every byte of a reply: room and SQLTYPE are tested before any string is walked over.
 pub fn descriptor_step(reply: &[u8], offset: usize, order: ByteOrder) -> Step
     requires { offset ≤ length reply.now }
-    ensures { (result ≡ stepAt order reply.now offset)
+    ensures { (result ≡ step_at order reply.now offset)
         × ((offset + 16 ≤ result.next) × (result.name.place + result.name.length ≤ length reply.now)) }
 {
     let end = reply.len();
@@ -311,7 +311,7 @@ pub struct Sqldagrp {
 
 fn read_sqldagrp(reply: &[u8], offset: usize, order: ByteOrder) -> Sqldagrp
     requires { offset + 16 ≤ length reply.now }
-    ensures { result ≡ sqldagrpAt order reply.now offset }
+    ensures { result ≡ sqldagrp_at order reply.now offset }
 {
     let precision = field::u16_at(reply, offset, order);
     let scale = field::u16_at(reply, offset + 2, order);
@@ -326,8 +326,8 @@ fn read_sqldagrp(reply: &[u8], offset: usize, order: ByteOrder) -> Sqldagrp
 
 // A descriptor that can be read: past it lies within the reply, as descriptor_step tells.
 pub fn read_descriptor(reply: &[u8], offset: usize, order: ByteOrder) -> Described
-    requires { descriptorEnd lenient order reply.now offset ≤ length reply.now }
-    ensures { (result ≡ describedAt order reply.now offset) × StringsInside reply.now result }
+    requires { descriptor_end lenient order reply.now offset ≤ length reply.now }
+    ensures { (result ≡ described_at order reply.now offset) × StringsInside reply.now result }
 {
     let numbers = read_sqldagrp(reply, offset, order);
     let options = read_sqldoptgrp(reply, offset + 16);
@@ -353,7 +353,7 @@ pub fn read_descriptor(reply: &[u8], offset: usize, order: ByteOrder) -> Describ
 // Where the count of columns is due: past the SQLCA group and SQLDHGRP. Past the reply's end, it is how many bytes were expected.
 pub fn count_offset(reply: &[u8]) -> usize
     requires { length reply.now ≤ 65536 }
-    ensures { result ≡ countAt reply.now }
+    ensures { result ≡ count_at reply.now }
 {
     let flag = sqlcard::sqlca_end(reply);
     if reply.len() <= flag {
@@ -365,7 +365,7 @@ pub fn count_offset(reply: &[u8]) -> usize
 // At most `limit` descriptors from `start` on, as many as can be read, by their places alone.
 pub fn standard_run(reply: &[u8], order: ByteOrder, limit: usize, start: usize) -> Run
     requires { start ≤ length reply.now }
-    ensures { (result ≡ standardRun page037 order reply.now limit start) × ((result.named ≤ result.count) × (result.count ≤ limit)) }
+    ensures { (result ≡ standard_run page037 order reply.now limit start) × ((result.named ≤ result.count) × (result.count ≤ limit)) }
 {
     let mut offset = start;
     let mut count = 0;

@@ -9,11 +9,11 @@ use lib.ListN.{take, drop}
 use borrow.Author.Tests.{eq-eqb, ne_eqb}
 use Rattle.search.specs.Search.{pick}
 use Rattle.outcome.specs.declared.Refusal.{Refusal}
-use Rattle.outcome.specs.Refusal.{is_refused, inNumbers}
+use Rattle.outcome.specs.Refusal.{is_refused, in_numbers}
 use Rattle.text.specs.declared.Text.{Text}
 use Rattle.text.specs.Text.{bytes_of}
-use Rattle.column_name.specs.Part.{partRefusal, part_of}
-use Rattle.entries.specs.Part.{partPlace, partLength}
+use Rattle.column_name.specs.Part.{part_refusal, part_of}
+use Rattle.entries.specs.Part.{part_place, part_length}
 
 -- as many as there are at the front are those at the front
 take_counted : (n : ℕ) (l : List ℕ) → take (lib.ListN.length (take n l)) l ≡ take n l
@@ -25,41 +25,41 @@ module _ (s : List ℕ) (t : Text) where
   -- a part with bytes is the text's own
   own : (lib.ListN.length (part_of s t) ≡ 0 → ⊥) → part_of s t ≡ bytes_of s t
   unfolding part_of
-  own h = go (is_refused (partRefusal s t)) (eqb t.alphabet 0) h
+  own h = go (is_refused (part_refusal s t)) (eqb t.alphabet 0) h
     where
       go : (a b : Bool) → (lib.ListN.length (pick a [] (pick b [] (bytes_of s t))) ≡ 0 → ⊥) → pick a [] (pick b [] (bytes_of s t)) ≡ bytes_of s t
       go true b k = absurd (k refl)
       go false true k = absurd (k refl)
       go false false k = refl
 
-  module _ (number : ℕ) (bytes : List ℕ) (e : number ∷ [] ≡ partRefusal s t) (f : bytes ≡ part_of s t) (r : Refusal) (g : r ≡ inNumbers (number ∷ [])) where
-    refuses : r ≡ inNumbers (partRefusal s t)
-    refuses = g ∙ ap inNumbers e
+  module _ (number : ℕ) (bytes : List ℕ) (e : number ∷ [] ≡ part_refusal s t) (f : bytes ≡ part_of s t) (r : Refusal) (g : r ≡ in_numbers (number ∷ [])) where
+    refuses : r ≡ in_numbers (part_refusal s t)
+    refuses = g ∙ ap in_numbers e
 
-    counts : lib.ListN.length bytes ≡ partLength s t
-    unfolding partLength
+    counts : lib.ListN.length bytes ≡ part_length s t
+    unfolding part_length
     counts = ap lib.ListN.length f
 
-    pub part-empty : lib.ListN.length bytes ≡ 0
-        → (r ≡ inNumbers (partRefusal s t))
-        × ((0 ≡ partPlace s t) × ((lib.ListN.length bytes ≡ partLength s t) × (take (lib.ListN.length bytes) (drop 0 s) ≡ part_of s t)))
-    unfolding partPlace
-    part-empty h =
-        let z : partLength s t ≡ 0 = sym counts ∙ h in (
+    pub part_empty : lib.ListN.length bytes ≡ 0
+        → (r ≡ in_numbers (part_refusal s t))
+        × ((0 ≡ part_place s t) × ((lib.ListN.length bytes ≡ part_length s t) × (take (lib.ListN.length bytes) (drop 0 s) ≡ part_of s t)))
+    unfolding part_place
+    part_empty h =
+        let z : part_length s t ≡ 0 = sym counts ∙ h in (
           refuses,
-          (sym (rw (eq-eqb (partLength s t) 0 z) refl), (counts, rw h (none bytes h ∙ f))),
+          (sym (rw (eq-eqb (part_length s t) 0 z) refl), (counts, rw h (none bytes h ∙ f))),
         )
       where
         none : (l : List ℕ) → lib.ListN.length l ≡ 0 → [] ≡ l
         none [] k = refl
         none (x ∷ l) k = absurd (omega arith)
 
-    pub part-there : (lib.ListN.length bytes ≡ 0 → ⊥)
-        → (r ≡ inNumbers (partRefusal s t))
-        × ((t.place ≡ partPlace s t) × ((lib.ListN.length bytes ≡ partLength s t) × (take (lib.ListN.length bytes) (drop t.place s) ≡ part_of s t)))
-    unfolding partPlace
-    part-there h =
+    pub part_there : (lib.ListN.length bytes ≡ 0 → ⊥)
+        → (r ≡ in_numbers (part_refusal s t))
+        × ((t.place ≡ part_place s t) × ((lib.ListN.length bytes ≡ part_length s t) × (take (lib.ListN.length bytes) (drop t.place s) ≡ part_of s t)))
+    unfolding part_place
+    part_there h =
         let o : part_of s t ≡ bytes_of s t = own (λ z. h (ap lib.ListN.length f ∙ z)) in (
           refuses,
-          (sym (rw (ne_eqb (partLength s t) 0 (λ z. h (counts ∙ z))) refl), (counts, rw (f, o) (take_counted t.length (drop t.place s)))),
+          (sym (rw (ne_eqb (part_length s t) 0 (λ z. h (counts ∙ z))) refl), (counts, rw (f, o) (take_counted t.length (drop t.place s)))),
         )

@@ -9,7 +9,7 @@ pub mod status;
 pub mod texts;
 
 ghost use Rattle.std.specs.Prelude.{[], ◌∷◌, ◌≡◌};
-ghost use Rattle.outcome.specs.Refusal.{inNumbers};
+ghost use Rattle.outcome.specs.Refusal.{in_numbers};
 
 use outcome::Refusal;
 use sqlcard::SqlCard;
@@ -58,7 +58,7 @@ pub struct PartResult {
 
 // A refusal that comes without values.
 fn refusal_alone(number: u8) -> Refusal
-    ensures { result ≡ inNumbers (number ∷ []) }
+    ensures { result ≡ in_numbers (number ∷ []) }
 {
     Refusal {
         number,

@@ -1,7 +1,7 @@
 // Same cut and widest row, of lists of columns in words.
 ghost use Rattle.std.specs.Prelude.{◌≡◌};
-ghost use Rattle.outcome.specs.Refusal.{inNumbers};
-ghost use Rattle.entries.specs.Lists.{wordsCutRefusal, wordsCutAnswer, wordsRowRefusal, wordsRowAnswer};
+ghost use Rattle.outcome.specs.Refusal.{in_numbers};
+ghost use Rattle.entries.specs.Lists.{words_cut_refusal, words_cut_answer, words_row_refusal, words_row_answer};
 
 use crate::{CountResult, CutResult};
 
@@ -12,8 +12,8 @@ const NO_COLUMNS: u8 = 255;
 
 // The entry same cut: `first` and `second` are lists of columns, 22 words each.
 pub fn same_cut(first: &[u64], second: &[u64]) -> CutResult
-    ensures refuses { result.refusal ≡ inNumbers (wordsCutRefusal first.now second.now) }
-    ensures gives { result.same ≡ wordsCutAnswer first.now second.now }
+    ensures refuses { result.refusal ≡ in_numbers (words_cut_refusal first.now second.now) }
+    ensures gives { result.same ≡ words_cut_answer first.now second.now }
 {
     if (4095 < first.len() / 22) | (4095 < second.len() / 22) {
         return CutResult {
@@ -35,8 +35,8 @@ pub fn same_cut(first: &[u64], second: &[u64]) -> CutResult
 
 // The entry widest row: `columns` is a list of columns, 22 words each.
 pub fn widest_row(columns: &[u64]) -> CountResult
-    ensures refuses { result.refusal ≡ inNumbers (wordsRowRefusal columns.now) }
-    ensures gives { result.count ≡ wordsRowAnswer columns.now }
+    ensures refuses { result.refusal ≡ in_numbers (words_row_refusal columns.now) }
+    ensures gives { result.count ≡ words_row_answer columns.now }
 {
     if 4095 < columns.len() / 22 {
         return CountResult {

@@ -1,16 +1,16 @@
 // The status record, read alone or as the group at the reply's start.
 ghost use Rattle.std.specs.Prelude.{◌≡◌};
 ghost use Rattle.codepage.specs.Page.{page037};
-ghost use Rattle.outcome.specs.Refusal.{inNumbers};
-ghost use Rattle.sqlcard.specs.Alone.{aloneRefusal, aloneCard};
-ghost use Rattle.sqlcard.specs.Group.{groupRefusal, groupCard, groupLength};
+ghost use Rattle.outcome.specs.Refusal.{in_numbers};
+ghost use Rattle.sqlcard.specs.Alone.{alone_refusal, alone_card};
+ghost use Rattle.sqlcard.specs.Group.{group_refusal, group_card, group_length};
 
 use crate::{GroupResult, SqlcardResult};
 
 // The entry status alone.
 pub fn parse_sqlcard_data(reply: &[u8]) -> SqlcardResult
-    ensures refuses { result.refusal ≡ inNumbers (aloneRefusal reply.now) }
-    ensures gives { result.card ≡ aloneCard page037 reply.now }
+    ensures refuses { result.refusal ≡ in_numbers (alone_refusal reply.now) }
+    ensures gives { result.card ≡ alone_card page037 reply.now }
 {
     let alone = sqlcard::parse_sqlcard_data(reply);
     let outcome = alone.outcome;
@@ -23,9 +23,9 @@ pub fn parse_sqlcard_data(reply: &[u8]) -> SqlcardResult
 
 // The entry SQLCA group.
 pub fn consume_sqlca_group(reply: &[u8]) -> GroupResult
-    ensures refuses { result.refusal ≡ inNumbers (groupRefusal reply.now) }
-    ensures gives { result.card ≡ groupCard page037 reply.now }
-    ensures takes { result.length ≡ groupLength reply.now }
+    ensures refuses { result.refusal ≡ in_numbers (group_refusal reply.now) }
+    ensures gives { result.card ≡ group_card page037 reply.now }
+    ensures takes { result.length ≡ group_length reply.now }
 {
     let group = sqlcard::consume_sqlca_group(reply);
     let outcome = group.outcome;

@@ -2,13 +2,13 @@
 ghost use Rattle.std.specs.Prelude.{◌≡◌};
 ghost use lib.ListN.{take, drop};
 ghost use Rattle.codepage.specs.Page.{page037};
-ghost use Rattle.outcome.specs.Refusal.{inNumbers};
-ghost use Rattle.text.specs.Text.{textIs};
-ghost use Rattle.message_text.specs.Answer.{messageRefusal, messageLength, messageWritten};
-ghost use Rattle.column_name.specs.Part.{partRefusal, part_of};
-ghost use Rattle.column_name.specs.Name.{nameRefusal, nameLength, nameWritten};
-ghost use Rattle.entries.specs.Named.{namedColumn};
-ghost use Rattle.entries.specs.Part.{partPlace, partLength};
+ghost use Rattle.outcome.specs.Refusal.{in_numbers};
+ghost use Rattle.text.specs.Text.{text_is};
+ghost use Rattle.message_text.specs.Answer.{message_refusal, message_length, message_written};
+ghost use Rattle.column_name.specs.Part.{part_refusal, part_of};
+ghost use Rattle.column_name.specs.Name.{name_refusal, name_length, name_written};
+ghost use Rattle.entries.specs.Named.{named_column};
+ghost use Rattle.entries.specs.Part.{part_place, part_length};
 
 use crate::{CountResult, PartResult};
 use text::Text;
@@ -16,7 +16,7 @@ use types::ColumnMetadata;
 
 // The entries take a column, and ask for its number and its name alone.
 fn named_column(number: u16, place: usize, length: usize, alphabet: u8) -> ColumnMetadata
-    ensures { result ≡ namedColumn number place length alphabet }
+    ensures { result ≡ named_column number place length alphabet }
 {
     let name = Text {
         place,
@@ -31,10 +31,10 @@ fn named_column(number: u16, place: usize, length: usize, alphabet: u8) -> Colum
 
 // The entry name part: where the part lies in the reply. A part without bytes lies at 0.
 pub fn name_part(reply: &[u8], place: usize, length: usize, alphabet: u8) -> PartResult
-    ensures refuses { result.refusal ≡ inNumbers (partRefusal reply.now (textIs place length alphabet)) }
-    ensures places { result.place ≡ partPlace reply.now (textIs place length alphabet) }
-    ensures counts { result.length ≡ partLength reply.now (textIs place length alphabet) }
-    ensures gives { take result.length (drop result.place reply.now) ≡ part_of reply.now (textIs place length alphabet) }
+    ensures refuses { result.refusal ≡ in_numbers (part_refusal reply.now (text_is place length alphabet)) }
+    ensures places { result.place ≡ part_place reply.now (text_is place length alphabet) }
+    ensures counts { result.length ≡ part_length reply.now (text_is place length alphabet) }
+    ensures gives { take result.length (drop result.place reply.now) ≡ part_of reply.now (text_is place length alphabet) }
 {
     let column = named_column(0, place, length, alphabet);
     let mut number = 0;
@@ -56,9 +56,9 @@ pub fn name_text(
     alphabet: u8,
     buffer: &mut [u8],
 ) -> CountResult
-    ensures refuses { result.refusal ≡ inNumbers (nameRefusal page037 reply.now (namedColumn number place length alphabet) (lib.ListN.length buffer.old)) }
-    ensures counts { result.count ≡ nameLength page037 reply.now (namedColumn number place length alphabet) (lib.ListN.length buffer.old) }
-    ensures leaves { buffer.new ≡ nameWritten page037 reply.now (namedColumn number place length alphabet) buffer.old }
+    ensures refuses { result.refusal ≡ in_numbers (name_refusal page037 reply.now (named_column number place length alphabet) (lib.ListN.length buffer.old)) }
+    ensures counts { result.count ≡ name_length page037 reply.now (named_column number place length alphabet) (lib.ListN.length buffer.old) }
+    ensures leaves { buffer.new ≡ name_written page037 reply.now (named_column number place length alphabet) buffer.old }
 {
     let column = named_column(number, place, length, alphabet);
     let text = column_name::name_text(reply, column, buffer);
@@ -71,9 +71,9 @@ pub fn name_text(
 
 // The entry message text.
 pub fn message_text(reply: &[u8], place: usize, length: usize, buffer: &mut [u8]) -> CountResult
-    ensures refuses { result.refusal ≡ inNumbers (messageRefusal page037 reply.now place length (lib.ListN.length buffer.old)) }
-    ensures counts { result.count ≡ messageLength page037 reply.now place length (lib.ListN.length buffer.old) }
-    ensures leaves { buffer.new ≡ messageWritten page037 reply.now place length buffer.old }
+    ensures refuses { result.refusal ≡ in_numbers (message_refusal page037 reply.now place length (lib.ListN.length buffer.old)) }
+    ensures counts { result.count ≡ message_length page037 reply.now place length (lib.ListN.length buffer.old) }
+    ensures leaves { buffer.new ≡ message_written page037 reply.now place length buffer.old }
 {
     let message = message_text::message_text(reply, place, length, buffer);
     let outcome = message.outcome;

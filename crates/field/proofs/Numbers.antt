@@ -20,45 +20,45 @@ use Rattle.field.specs.Numbers.{number, signed}
 
 -- ---- halves
 
-number-big : (v w : ℕ) (s : List ℕ) (p : ℕ) → number BigEndian (v + w) s p ≡ number BigEndian v s p * 256 ^ w + number BigEndian w s (p + v)
+number_big : (v w : ℕ) (s : List ℕ) (p : ℕ) → number BigEndian (v + w) s p ≡ number BigEndian v s p * 256 ^ w + number BigEndian w s (p + v)
 unfolding number
-number-big zero w s p =
+number_big zero w s p =
     let e : 0 + w ≡ w = omega arith in
     let f : p + 0 ≡ p = omega arith in
     rw (e, f) (omega arith)
-number-big (suc v) w s p =
+number_big (suc v) w s p =
     let e : suc v + w ≡ suc (v + w) = omega arith in
     let f : p + suc v ≡ suc p + v = omega arith in
     rw
-    (e, f, pow-add 256 v w, number-big v w s (suc p), add-mul (get_or s p 0 * 256 ^ v) (number BigEndian v s (suc p)) (256 ^ w), mul_assoc (get_or s p 0) (256 ^ v) (256 ^ w))
+    (e, f, pow-add 256 v w, number_big v w s (suc p), add-mul (get_or s p 0 * 256 ^ v) (number BigEndian v s (suc p)) (256 ^ w), mul_assoc (get_or s p 0) (256 ^ v) (256 ^ w))
     (omega arith)
 
-number-little : (v w : ℕ) (s : List ℕ) (p : ℕ)
+number_little : (v w : ℕ) (s : List ℕ) (p : ℕ)
     → number LittleEndian (v + w) s p ≡ number LittleEndian v s p + 256 ^ v * number LittleEndian w s (p + v)
 unfolding number
-number-little zero w s p =
+number_little zero w s p =
     let e : 0 + w ≡ w = omega arith in
     let f : p + 0 ≡ p = omega arith in
     rw (e, f) (omega arith)
-number-little (suc v) w s p =
+number_little (suc v) w s p =
     let e : suc v + w ≡ suc (v + w) = omega arith in
     let f : p + suc v ≡ suc p + v = omega arith in
-    rw (e, f, number-little v w s (suc p), pow-succ' 256 v, mul_assoc 256 (256 ^ v) (number LittleEndian w s (suc p + v))) (omega arith)
+    rw (e, f, number_little v w s (suc p), pow-succ' 256 v, mul_assoc 256 (256 ^ v) (number LittleEndian w s (suc p + v))) (omega arith)
 
 -- one byte is its own number
-pub number-one : (o : ByteOrder) (s : List ℕ) (p : ℕ) → get_or s p 0 ≡ number o 1 s p
+pub number_one : (o : ByteOrder) (s : List ℕ) (p : ℕ) → get_or s p 0 ≡ number o 1 s p
 unfolding number
-number-one BigEndian s p = omega arith
-number-one LittleEndian s p = omega arith
+number_one BigEndian s p = omega arith
+number_one LittleEndian s p = omega arith
 
 -- a number of w + w bytes by its two halves, each of w bytes: what the functions over each width have to show, from their callees' promises
 module _ (o : ByteOrder) (w : ℕ) (s : List ℕ) (p a b r : ℕ) (x : a ≡ number o w s p) (y : b ≡ number o w s (p + w)) where
-  pub halves-big : o ≡ BigEndian → r ≡ a * 256 ^ w + b → r ≡ number o (w + w) s p
-  halves-big e z = z ∙ rw (x, y, e) (sym (number-big w w s p))
+  pub halves_big : o ≡ BigEndian → r ≡ a * 256 ^ w + b → r ≡ number o (w + w) s p
+  halves_big e z = z ∙ rw (x, y, e) (sym (number_big w w s p))
 
-  pub halves-little : o ≡ LittleEndian → r ≡ b * 256 ^ w + a → r ≡ number o (w + w) s p
-  halves-little e z =
-      z ∙ rw (x, y, e) (omega (arith, number-little w w s p, mul_comm (256 ^ w) (number LittleEndian w s (p + w))))
+  pub halves_little : o ≡ LittleEndian → r ≡ b * 256 ^ w + a → r ≡ number o (w + w) s p
+  halves_little e z =
+      z ∙ rw (x, y, e) (omega (arith, number_little w w s p, mul_comm (256 ^ w) (number LittleEndian w s (p + w))))
 
 -- ---- signed numbers
 
@@ -76,18 +76,18 @@ minus (suc k) = let e : suc (0 + k) ≡ suc k = omega arith in ap negsuc e
 
 -- -1 less the k that the bits are below 2^32 - 1, as the machine computes it
 module _ (bits : ℕ) (l : 0x8000_0000 ≤ bits) (u : bits < 0x1_0000_0000) where
-  below-zero : negsuc 0 -ℤ to_z w32 (0xFFFF_FFFF - bits) ≡ negsuc (0xFFFF_FFFF - bits)
-  below-zero = ap (λ (z : ℤ). negsuc 0 -ℤ z) (to_z_pos w32 {n = 0xFFFF_FFFF - bits} (omega arith)) ∙ minus (0xFFFF_FFFF - bits)
+  below_zero : negsuc 0 -ℤ to_z w32 (0xFFFF_FFFF - bits) ≡ negsuc (0xFFFF_FFFF - bits)
+  below_zero = ap (λ (z : ℤ). negsuc 0 -ℤ z) (to_z_pos w32 {n = 0xFFFF_FFFF - bits} (omega arith)) ∙ minus (0xFFFF_FFFF - bits)
 
-  pub below-zero-fits : SFits w32 (negsuc 0 -ℤ to_z w32 (0xFFFF_FFFF - bits))
-  below-zero-fits = subst (SFits w32) (sym below-zero) (record { sfits = omega arith })
+  pub below_zero_fits : SFits w32 (negsuc 0 -ℤ to_z w32 (0xFFFF_FFFF - bits))
+  below_zero_fits = subst (SFits w32) (sym below_zero) (record { sfits = omega arith })
 
-  pub below-zero-is : to_z w32 (of_z w32 (negsuc 0 -ℤ to_z w32 (0xFFFF_FFFF - bits))) ≡ signed bits
-  below-zero-is = to_z-of_z below-zero-fits ∙ (below-zero ∙ sym (signed_high bits l))
+  pub below_zero_is : to_z w32 (of_z w32 (negsuc 0 -ℤ to_z w32 (0xFFFF_FFFF - bits))) ≡ signed bits
+  below_zero_is = to_z-of_z below_zero_fits ∙ (below_zero ∙ sym (signed_high bits l))
 
 -- a signed number, written to 32 bits and read back
 pub back32 : (z : ℤ) → mag z < 0x8000_0000 → to_z w32 (of_z w32 z) ≡ z
 back32 z h = to_z-of_z {w = w32} {z = z} (record { sfits = h })
 
-pub at-least-zero-is : (bits : ℕ) → bits < 0x8000_0000 → to_z w32 bits ≡ signed bits
-at-least-zero-is bits h = to_z_pos w32 {n = bits} h ∙ sym (signed_low bits h)
+pub at_least_zero_is : (bits : ℕ) → bits < 0x8000_0000 → to_z w32 bits ≡ signed bits
+at_least_zero_is bits h = to_z_pos w32 {n = bits} h ∙ sym (signed_low bits h)

@@ -10,28 +10,28 @@ use borrow.Author.Tests.{le-leb, lt-leb}
 use Rattle.search.specs.Search.{each}
 use Rattle.codepage.specs.Page.{Page}
 use Rattle.codepage.specs.Rearranged.{rearranged}
-use Rattle.codepage.specs.Blank.{isBlank, isBlankIn}
-use Rattle.codepage.proofs.Pages.{blanksAsIn037}
-use Rattle.text.specs.Chars.{isAscii, isNameChar, charOf, chars, isNameOf, isBlankOf}
-use Rattle.text.specs.Text.{leading, kept, trimmedOf, trimmed, placed, textOn}
-use Rattle.text.specs.Generated.{isGenerated}
+use Rattle.codepage.specs.Blank.{is_blank, is_blank_in}
+use Rattle.codepage.proofs.Pages.{blanks_as_in037}
+use Rattle.text.specs.Chars.{is_ascii, is_name_char, char_of, chars, is_name_of, is_blank_of}
+use Rattle.text.specs.Text.{leading, kept, trimmed_of, trimmed, placed, text_on}
+use Rattle.text.specs.Generated.{is_generated}
 use Rattle.text.proofs.Decode.{lent}
-use Rattle.text.proofs.Generated.{SpellsColAsIn037, charOf-other, each_map}
-use Rattle.text.proofs.Bytes.{blank-same}
-use Rattle.generated.proofs.Quick.{ascii-chars, page-chars}
-use Rattle.text.proofs.Trim.{kept-le}
-use Rattle.identifier.specs.Identifier.{isIdentifier, isIdentifierAt}
-use Rattle.identifier.proofs.Trims.{trimmed-map, trimmed-twice}
+use Rattle.text.proofs.Generated.{SpellsColAsIn037, char_of_other, each_map}
+use Rattle.text.proofs.Bytes.{blank_same}
+use Rattle.generated.proofs.Quick.{ascii_chars, page_chars}
+use Rattle.text.proofs.Trim.{kept_le}
+use Rattle.identifier.specs.Identifier.{is_identifier, is_identifier_at}
+use Rattle.identifier.proofs.Trims.{trimmed_map, trimmed_twice}
 
 -- ---- characters of bytes
 
 module _ (page : Page) (a : ℕ) (bs : List ℕ) where
   same_length : length (chars page a bs) ≡ length bs
-  same_length = length-map bs (charOf page a)
+  same_length = length-map bs (char_of page a)
 
-  pub identifier-none : length bs < 1 → false ≡ isIdentifier (chars page a bs)
-  unfolding isIdentifier
-  identifier-none h =
+  pub identifier_none : length bs < 1 → false ≡ is_identifier (chars page a bs)
+  unfolding is_identifier
+  identifier_none h =
       let e : leb 1 (length (chars page a bs)) ≡ false = lt-leb 1 (length (chars page a bs)) (omega (arith, same_length)) in
       rw e refl
 
@@ -39,107 +39,107 @@ module _ (page : Page) (a : ℕ) (bs : List ℕ) where
     some : leb 1 (length (chars page a bs)) ≡ true
     some = le-leb 1 (length (chars page a bs)) (omega (arith, same_length))
 
-    pub identifier-long : 128 < length bs → false ≡ isIdentifier (chars page a bs)
-    unfolding isIdentifier
-    identifier-long h =
+    pub identifier_long : 128 < length bs → false ≡ is_identifier (chars page a bs)
+    unfolding is_identifier
+    identifier_long h =
         let e : leb (length (chars page a bs)) 128 ≡ false = lt-leb (length (chars page a bs)) 128 (omega (arith, same_length)) in
         rw (some, e) refl
 
-    module _ (m : length bs ≤ 128) (b : Bool) (e : b ≡ each (isNameOf page a) bs) where
+    module _ (m : length bs ≤ 128) (b : Bool) (e : b ≡ each (is_name_of page a) bs) where
       few : leb (length (chars page a bs)) 128 ≡ true
       few = le-leb (length (chars page a bs)) 128 (omega (arith, same_length))
 
-      named : each isNameChar (chars page a bs) ≡ b
-      named = each_map isNameChar (charOf page a) bs ∙ sym e
+      named : each is_name_char (chars page a bs) ≡ b
+      named = each_map is_name_char (char_of page a) bs ∙ sym e
 
-      pub identifier-other : b ≡ false → false ≡ isIdentifier (chars page a bs)
-      unfolding isIdentifier
-      identifier-other f = rw (some, few, named, f) refl
+      pub identifier_other : b ≡ false → false ≡ is_identifier (chars page a bs)
+      unfolding is_identifier
+      identifier_other f = rw (some, few, named, f) refl
 
-      pub identifier-named : b ≡ true → (g : Bool) → g ≡ isGenerated (chars page a bs) → not g ≡ isIdentifier (chars page a bs)
-      unfolding isIdentifier
-      identifier-named f g d = rw (some, few, named, f, ← d) refl
+      pub identifier_named : b ≡ true → (g : Bool) → g ≡ is_generated (chars page a bs) → not g ≡ is_identifier (chars page a bs)
+      unfolding is_identifier
+      identifier_named f g d = rw (some, few, named, f, ← d) refl
 
 -- characters that stand for themselves
-chars-same : (page : Page) (a : ℕ) → (a ≡ page.alphabet → ⊥) → (bs : List ℕ) → chars page a bs ≡ bs
-chars-same page a n [] = refl
-chars-same page a n (b ∷ bs) = rw (← charOf-other page a b n, chars-same page a n bs) refl
+chars_same : (page : Page) (a : ℕ) → (a ≡ page.alphabet → ⊥) → (bs : List ℕ) → chars page a bs ≡ bs
+chars_same page a n [] = refl
+chars_same page a n (b ∷ bs) = rw (← char_of_other page a b n, chars_same page a n bs) refl
 
-pub identifier-same : (page : Page) (a : ℕ) → (a ≡ page.alphabet → ⊥) → (bs : List ℕ) (r : Bool) → r ≡ isIdentifier (chars page a bs)
-    → r ≡ isIdentifier bs
-identifier-same page a n bs r e = e ∙ ap isIdentifier (chars-same page a n bs)
+pub identifier_same : (page : Page) (a : ℕ) → (a ≡ page.alphabet → ⊥) → (bs : List ℕ) (r : Bool) → r ≡ is_identifier (chars page a bs)
+    → r ≡ is_identifier bs
+identifier_same page a n bs r e = e ∙ ap is_identifier (chars_same page a n bs)
 
 -- ---- trimmed: f bytes are dropped in front, and those from k on
 
-module _ (page : Page) (a : ℕ) (bs : List ℕ) (f k : ℕ) (x : f ≡ leading (isBlankOf page a) bs) (y : k ≡ kept (isBlankOf page a) bs) where
-  pub end-inside : k ≤ length bs
-  end-inside = omega (arith, kept-le (isBlankOf page a) bs)
+module _ (page : Page) (a : ℕ) (bs : List ℕ) (f k : ℕ) (x : f ≡ leading (is_blank_of page a) bs) (y : k ≡ kept (is_blank_of page a) bs) where
+  pub end_inside : k ≤ length bs
+  end_inside = omega (arith, kept_le (is_blank_of page a) bs)
 
-  trims : trimmedOf isBlank (chars page a bs) ≡ chars page a (take (k - f) (drop f bs))
-  trims = trimmed-map isBlank (charOf page a) bs ∙ rw (← x, ← y) refl
+  trims : trimmed_of is_blank (chars page a bs) ≡ chars page a (take (k - f) (drop f bs))
+  trims = trimmed_map is_blank (char_of page a) bs ∙ rw (← x, ← y) refl
 
-  pub trimmed-none : k ≤ f → false ≡ isIdentifier (trimmedOf isBlank (chars page a bs))
-  unfolding isIdentifier
-  trimmed-none h =
+  pub trimmed_none : k ≤ f → false ≡ is_identifier (trimmed_of is_blank (chars page a bs))
+  unfolding is_identifier
+  trimmed_none h =
       let z : k - f ≡ 0 = omega arith in
-      sym (ap isIdentifier (trims ∙ ap (λ (n : ℕ). chars page a (take n (drop f bs))) z))
+      sym (ap is_identifier (trims ∙ ap (λ (n : ℕ). chars page a (take n (drop f bs))) z))
 
   -- blanks alone
-  pub trimmed-blank : length bs ≤ f → false ≡ isIdentifier (trimmedOf isBlank (chars page a bs))
-  trimmed-blank h = trimmed-none (omega (arith, end-inside))
+  pub trimmed_blank : length bs ≤ f → false ≡ is_identifier (trimmed_of is_blank (chars page a bs))
+  trimmed_blank h = trimmed_none (omega (arith, end_inside))
 
-  pub trimmed-some : (r : Bool) → r ≡ isIdentifier (chars page a (take (k - f) (drop f bs))) → r ≡ isIdentifier (trimmedOf isBlank (chars page a bs))
-  trimmed-some r e = e ∙ ap isIdentifier (sym trims)
+  pub trimmed_some : (r : Bool) → r ≡ is_identifier (chars page a (take (k - f) (drop f bs))) → r ≡ is_identifier (trimmed_of is_blank (chars page a bs))
+  trimmed_some r e = e ∙ ap is_identifier (sym trims)
 
 -- ---- in a reply
 
 -- a string without bytes is none
-pub identifier-empty : (page : Page) (s : List ℕ) (p : ℕ) → isIdentifierAt page s p 0 ≡ false
-unfolding isIdentifierAt isIdentifier textOn placed isAscii leading kept
-identifier-empty page s p = refl
+pub identifier_empty : (page : Page) (s : List ℕ) (p : ℕ) → is_identifier_at page s p 0 ≡ false
+unfolding is_identifier_at is_identifier text_on placed is_ascii leading kept
+identifier_empty page s p = refl
 
-module _ (page : Page) (r : T (rearranged page.table)) (h : T (blanksAsIn037 page.table)) (sp : SpellsColAsIn037 page.table)
+module _ (page : Page) (r : T (rearranged page.table)) (h : T (blanks_as_in037 page.table)) (sp : SpellsColAsIn037 page.table)
     (n : 1 ≡ page.alphabet → ⊥) (s : List ℕ) (p c : ℕ) (l : p + c ≤ length s) where
-  abbrev lentBytes : List ℕ
-  lentBytes = take (p + c - p) (drop p s)
+  abbrev lent_bytes : List ℕ
+  lent_bytes = take (p + c - p) (drop p s)
 
-  abbrev in-alphabet : ℕ → Bool
-  in-alphabet a = isIdentifier (trimmedOf isBlank (chars page a lentBytes))
+  abbrev in_alphabet : ℕ → Bool
+  in_alphabet a = is_identifier (trimmed_of is_blank (chars page a lent_bytes))
 
-  at_ascii : isAscii lentBytes ≡ true → in-alphabet 1 ≡ isIdentifierAt page s p c
-  unfolding isIdentifierAt
+  at_ascii : is_ascii lent_bytes ≡ true → in_alphabet 1 ≡ is_identifier_at page s p c
+  unfolding is_identifier_at
   at_ascii e =
-      rw (lent s p c) (ap (λ (cs : List ℕ). isIdentifier (trimmedOf isBlank cs)) (sym (ascii-chars page r h sp n s p c l (rw (lent s p c) at e))))
+      rw (lent s p c) (ap (λ (cs : List ℕ). is_identifier (trimmed_of is_blank cs)) (sym (ascii_chars page r h sp n s p c l (rw (lent s p c) at e))))
 
   -- the text of the page is trimmed already
-  trimmed-page : (bs : List ℕ) → trimmedOf isBlank (chars page page.alphabet (trimmed page bs)) ≡ trimmedOf isBlank (chars page page.alphabet bs)
+  trimmed_page : (bs : List ℕ) → trimmed_of is_blank (chars page page.alphabet (trimmed page bs)) ≡ trimmed_of is_blank (chars page page.alphabet bs)
   unfolding trimmed
-  trimmed-page bs =
+  trimmed_page bs =
       let a = page.alphabet in
-      trimmed-map isBlank (charOf page a) (trimmedOf (isBlankIn page) bs)
-      ∙ ap (λ (g : ℕ → Bool). chars page a (trimmedOf g (trimmedOf (isBlankIn page) bs))) (blank-same page)
-      ∙ ap (chars page a) (trimmed-twice (isBlankIn page) bs)
-      ∙ ap (λ (g : ℕ → Bool). chars page a (trimmedOf g bs)) (sym (blank-same page))
-      ∙ sym (trimmed-map isBlank (charOf page a) bs)
+      trimmed_map is_blank (char_of page a) (trimmed_of (is_blank_in page) bs)
+      ∙ ap (λ (g : ℕ → Bool). chars page a (trimmed_of g (trimmed_of (is_blank_in page) bs))) (blank_same page)
+      ∙ ap (chars page a) (trimmed_twice (is_blank_in page) bs)
+      ∙ ap (λ (g : ℕ → Bool). chars page a (trimmed_of g bs)) (sym (blank_same page))
+      ∙ sym (trimmed_map is_blank (char_of page a) bs)
 
-  at-page : isAscii lentBytes ≡ false → in-alphabet page.alphabet ≡ isIdentifierAt page s p c
-  unfolding isIdentifierAt
-  at-page e =
+  at_page : is_ascii lent_bytes ≡ false → in_alphabet page.alphabet ≡ is_identifier_at page s p c
+  unfolding is_identifier_at
+  at_page e =
       rw (lent s p c)
-      (ap isIdentifier (sym (trimmed-page (take c (drop p s)))
-      ∙ ap (trimmedOf isBlank) (sym (page-chars page r h sp n s p c l (rw (lent s p c) at e)))))
+      (ap is_identifier (sym (trimmed_page (take c (drop p s)))
+      ∙ ap (trimmed_of is_blank) (sym (page_chars page r h sp n s p c l (rw (lent s p c) at e)))))
 
-  module _ (b d : Bool) (x : b ≡ in-alphabet 1) (y : d ≡ in-alphabet page.alphabet) where
-    pub at_first : isAscii lentBytes ≡ true → b ≡ isIdentifierAt page s p c
+  module _ (b d : Bool) (x : b ≡ in_alphabet 1) (y : d ≡ in_alphabet page.alphabet) where
+    pub at_first : is_ascii lent_bytes ≡ true → b ≡ is_identifier_at page s p c
     at_first e = x ∙ at_ascii e
 
-    pub at_second : isAscii lentBytes ≡ false → d ≡ isIdentifierAt page s p c
-    at_second e = y ∙ at-page e
+    pub at_second : is_ascii lent_bytes ≡ false → d ≡ is_identifier_at page s p c
+    at_second e = y ∙ at_page e
 
-    pub at-neither : (b || d) ≡ false → false ≡ isIdentifierAt page s p c
-    at-neither e = go (isAscii lentBytes) refl b d refl refl e
+    pub at_neither : (b || d) ≡ false → false ≡ is_identifier_at page s p c
+    at_neither e = go (is_ascii lent_bytes) refl b d refl refl e
       where
-        go : (z : Bool) → isAscii lentBytes ≡ z → (u v : Bool) → b ≡ u → d ≡ v → (u || v) ≡ false → false ≡ isIdentifierAt page s p c
+        go : (z : Bool) → is_ascii lent_bytes ≡ z → (u v : Bool) → b ≡ u → d ≡ v → (u || v) ≡ false → false ≡ is_identifier_at page s p c
         go true a false v i j k = sym i ∙ at_first a
         go false a false false i j k = sym j ∙ at_second a
         go false a false true i j k = sym k ∙ sym j ∙ at_second a

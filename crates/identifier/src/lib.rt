@@ -5,14 +5,14 @@ ghost use Rattle.std.specs.Prelude.{◌≡◌, ◌+◌, ◌≤◌, eqb};
 ghost use lib.ListN.{length, drop};
 ghost use Rattle.search.specs.Search.{each};
 ghost use Rattle.codepage.specs.Page.{page037};
-ghost use Rattle.codepage.specs.Blank.{isBlank};
+ghost use Rattle.codepage.specs.Blank.{is_blank};
 ghost use Rattle.text.specs.Chars.{chars};
-ghost use Rattle.text.specs.Text.{trimmedOf};
-ghost use Rattle.identifier.specs.Identifier.{isIdentifier, isIdentifierAt};
+ghost use Rattle.text.specs.Text.{trimmed_of};
+ghost use Rattle.identifier.specs.Identifier.{is_identifier, is_identifier_at};
 
 // The length is tested first: a long string is left before its characters are looked at.
 fn is_identifier_in(bytes: &[u8], alphabet: u8) -> bool
-    ensures { result ≡ isIdentifier (chars page037 alphabet bytes.now) }
+    ensures { result ≡ is_identifier (chars page037 alphabet bytes.now) }
 {
     if bytes.len() < 1 {
         return false;
@@ -28,14 +28,14 @@ fn is_identifier_in(bytes: &[u8], alphabet: u8) -> bool
 
 // Of characters that stand for themselves.
 pub fn is_identifier(bytes: &[u8]) -> bool
-    ensures { result ≡ isIdentifier bytes.now }
+    ensures { result ≡ is_identifier bytes.now }
 {
     is_identifier_in(bytes, 1)
 }
 
 // Only the blanks at the ends and what is between are looked at.
 fn is_identifier_trimmed(bytes: &[u8], alphabet: u8) -> bool
-    ensures { result ≡ isIdentifier (trimmedOf isBlank (chars page037 alphabet bytes.now)) }
+    ensures { result ≡ is_identifier (trimmed_of is_blank (chars page037 alphabet bytes.now)) }
 {
     let first = text::leading_blanks(bytes, alphabet);
     if bytes.len() <= first {
@@ -65,7 +65,7 @@ fn all_spaces(block: &[u8]) -> bool
 // How many bytes lie in the blocks of spaces in front: in ASCII, trimming drops them anyhow.
 fn leading_spaces(bytes: &[u8]) -> usize
     ensures { (result ≤ length bytes.now)
-        × (trimmedOf isBlank (chars page037 1 (drop result bytes.now)) ≡ trimmedOf isBlank (chars page037 1 bytes.now)) }
+        × (trimmed_of is_blank (chars page037 1 (drop result bytes.now)) ≡ trimmed_of is_blank (chars page037 1 bytes.now)) }
 {
     let mut i = 0;
     while 64 <= bytes.len() - i {
@@ -80,7 +80,7 @@ fn leading_spaces(bytes: &[u8]) -> usize
 // Whether the text of a string may be a name. It is tested in both alphabets, and only where one passes are all bytes asked which of them it is.
 pub fn is_identifier_at(reply: &[u8], start: usize, length: usize) -> bool
     requires { start + length ≤ lib.ListN.length reply.now }
-    ensures { result ≡ isIdentifierAt page037 reply.now start length }
+    ensures { result ≡ is_identifier_at page037 reply.now start length }
 {
     let bytes = &reply[start..start + length];
     let spaces = leading_spaces(bytes);

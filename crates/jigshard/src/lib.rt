@@ -3,22 +3,22 @@
 #![tactic(auto)]
 
 ghost use Rattle.codepage.specs.Page.{page037};
-ghost use Rattle.column_name.specs.Name.{nameLength, nameRefusal, nameWritten};
-ghost use Rattle.column_name.specs.Part.{partRefusal, part_of};
-ghost use Rattle.column_words.specs.Words.{allWords};
-ghost use Rattle.entries.specs.Lists.{wordsCutAnswer, wordsCutRefusal, wordsRowAnswer, wordsRowRefusal};
-ghost use Rattle.entries.specs.Named.{namedColumn};
-ghost use Rattle.entries.specs.Part.{partLength, partPlace};
-ghost use Rattle.message_text.specs.Answer.{messageLength, messageRefusal, messageWritten};
-ghost use Rattle.name_words.specs.Texts.{textWords};
-ghost use Rattle.names.specs.Names.{nameScan};
-ghost use Rattle.outcome.specs.Refusal.{inNumbers};
-ghost use Rattle.plan.specs.Description.{description, withCodePoint};
+ghost use Rattle.column_name.specs.Name.{name_length, name_refusal, name_written};
+ghost use Rattle.column_name.specs.Part.{part_refusal, part_of};
+ghost use Rattle.column_words.specs.Words.{all_words};
+ghost use Rattle.entries.specs.Lists.{words_cut_answer, words_cut_refusal, words_row_answer, words_row_refusal};
+ghost use Rattle.entries.specs.Named.{named_column};
+ghost use Rattle.entries.specs.Part.{part_length, part_place};
+ghost use Rattle.message_text.specs.Answer.{message_length, message_refusal, message_written};
+ghost use Rattle.name_words.specs.Texts.{text_words};
+ghost use Rattle.names.specs.Names.{name_scan};
+ghost use Rattle.outcome.specs.Refusal.{in_numbers};
+ghost use Rattle.plan.specs.Description.{description, with_code_point};
 ghost use Rattle.search.specs.Search.{over};
-ghost use Rattle.sqlcard.specs.Alone.{aloneCard, aloneRefusal};
-ghost use Rattle.sqlcard.specs.Group.{groupCard, groupLength, groupRefusal};
+ghost use Rattle.sqlcard.specs.Alone.{alone_card, alone_refusal};
+ghost use Rattle.sqlcard.specs.Group.{group_card, group_length, group_refusal};
 ghost use Rattle.std.specs.Prelude.{length, ◌/◌, ◌≡◌};
-ghost use Rattle.text.specs.Text.{textIs};
+ghost use Rattle.text.specs.Text.{text_is};
 ghost use lib.ListN.{drop, take};
 
 use entries::{CountResult, CutResult, GroupResult, PartResult, SqlcardResult};
@@ -27,10 +27,10 @@ use sqldard_words::SqldardResult;
 // The entry description, with room for a column in each 22 words. Nothing is written where it refuses.
 #[unsafe(no_mangle)]
 pub extern "C" fn jigshard_parse_sqldard_data(reply: &[u8], columns: &mut [u64]) -> SqldardResult
-    ensures refuses { result.refusal ≡ inNumbers (description page037 (length columns.old / 22) reply.now).refusal }
+    ensures refuses { result.refusal ≡ in_numbers (description page037 (length columns.old / 22) reply.now).refusal }
     ensures gives { result.card ≡ (description page037 (length columns.old / 22) reply.now).card }
     ensures counts { result.count ≡ length (description page037 (length columns.old / 22) reply.now).columns }
-    ensures fills { columns.new ≡ over (allWords (description page037 (length columns.old / 22) reply.now).columns) columns.old }
+    ensures fills { columns.new ≡ over (all_words (description page037 (length columns.old / 22) reply.now).columns) columns.old }
 {
     entries::description::parse_sqldard_data(reply, columns)
 }
@@ -42,10 +42,10 @@ pub extern "C" fn jigshard_parse_sqldard(
     reply: &[u8],
     columns: &mut [u64],
 ) -> SqldardResult
-    ensures refuses { result.refusal ≡ inNumbers (withCodePoint page037 (length columns.old / 22) code_point reply.now).refusal }
-    ensures gives { result.card ≡ (withCodePoint page037 (length columns.old / 22) code_point reply.now).card }
-    ensures counts { result.count ≡ length (withCodePoint page037 (length columns.old / 22) code_point reply.now).columns }
-    ensures fills { columns.new ≡ over (allWords (withCodePoint page037 (length columns.old / 22) code_point reply.now).columns) columns.old }
+    ensures refuses { result.refusal ≡ in_numbers (with_code_point page037 (length columns.old / 22) code_point reply.now).refusal }
+    ensures gives { result.card ≡ (with_code_point page037 (length columns.old / 22) code_point reply.now).card }
+    ensures counts { result.count ≡ length (with_code_point page037 (length columns.old / 22) code_point reply.now).columns }
+    ensures fills { columns.new ≡ over (all_words (with_code_point page037 (length columns.old / 22) code_point reply.now).columns) columns.old }
 {
     entries::description::parse_sqldard(code_point, reply, columns)
 }
@@ -53,8 +53,8 @@ pub extern "C" fn jigshard_parse_sqldard(
 // The entry status alone.
 #[unsafe(no_mangle)]
 pub extern "C" fn jigshard_parse_sqlcard_data(reply: &[u8]) -> SqlcardResult
-    ensures refuses { result.refusal ≡ inNumbers (aloneRefusal reply.now) }
-    ensures gives { result.card ≡ aloneCard page037 reply.now }
+    ensures refuses { result.refusal ≡ in_numbers (alone_refusal reply.now) }
+    ensures gives { result.card ≡ alone_card page037 reply.now }
 {
     entries::status::parse_sqlcard_data(reply)
 }
@@ -62,9 +62,9 @@ pub extern "C" fn jigshard_parse_sqlcard_data(reply: &[u8]) -> SqlcardResult
 // The entry SQLCA group.
 #[unsafe(no_mangle)]
 pub extern "C" fn jigshard_consume_sqlca_group(reply: &[u8]) -> GroupResult
-    ensures refuses { result.refusal ≡ inNumbers (groupRefusal reply.now) }
-    ensures gives { result.card ≡ groupCard page037 reply.now }
-    ensures takes { result.length ≡ groupLength reply.now }
+    ensures refuses { result.refusal ≡ in_numbers (group_refusal reply.now) }
+    ensures gives { result.card ≡ group_card page037 reply.now }
+    ensures takes { result.length ≡ group_length reply.now }
 {
     entries::status::consume_sqlca_group(reply)
 }
@@ -72,9 +72,9 @@ pub extern "C" fn jigshard_consume_sqlca_group(reply: &[u8]) -> GroupResult
 // The entry name scan, with room for a text in each 3 words. Nothing is written where it refuses.
 #[unsafe(no_mangle)]
 pub extern "C" fn jigshard_scan_column_names(reply: &[u8], names: &mut [u64]) -> CountResult
-    ensures refuses { result.refusal ≡ inNumbers (nameScan page037 (length names.old / 3) reply.now).refusal }
-    ensures counts { result.count ≡ length (nameScan page037 (length names.old / 3) reply.now).names }
-    ensures fills { names.new ≡ over (textWords (nameScan page037 (length names.old / 3) reply.now).names) names.old }
+    ensures refuses { result.refusal ≡ in_numbers (name_scan page037 (length names.old / 3) reply.now).refusal }
+    ensures counts { result.count ≡ length (name_scan page037 (length names.old / 3) reply.now).names }
+    ensures fills { names.new ≡ over (text_words (name_scan page037 (length names.old / 3) reply.now).names) names.old }
 {
     entries::name_scan::scan_column_names(reply, names)
 }
@@ -87,10 +87,10 @@ pub extern "C" fn jigshard_name_part(
     length: usize,
     alphabet: u8,
 ) -> PartResult
-    ensures refuses { result.refusal ≡ inNumbers (partRefusal reply.now (textIs place length alphabet)) }
-    ensures places { result.place ≡ partPlace reply.now (textIs place length alphabet) }
-    ensures counts { result.length ≡ partLength reply.now (textIs place length alphabet) }
-    ensures gives { take result.length (drop result.place reply.now) ≡ part_of reply.now (textIs place length alphabet) }
+    ensures refuses { result.refusal ≡ in_numbers (part_refusal reply.now (text_is place length alphabet)) }
+    ensures places { result.place ≡ part_place reply.now (text_is place length alphabet) }
+    ensures counts { result.length ≡ part_length reply.now (text_is place length alphabet) }
+    ensures gives { take result.length (drop result.place reply.now) ≡ part_of reply.now (text_is place length alphabet) }
 {
     entries::texts::name_part(reply, place, length, alphabet)
 }
@@ -105,9 +105,9 @@ pub extern "C" fn jigshard_name_text(
     alphabet: u8,
     buffer: &mut [u8],
 ) -> CountResult
-    ensures refuses { result.refusal ≡ inNumbers (nameRefusal page037 reply.now (namedColumn number place length alphabet) (lib.ListN.length buffer.old)) }
-    ensures counts { result.count ≡ nameLength page037 reply.now (namedColumn number place length alphabet) (lib.ListN.length buffer.old) }
-    ensures leaves { buffer.new ≡ nameWritten page037 reply.now (namedColumn number place length alphabet) buffer.old }
+    ensures refuses { result.refusal ≡ in_numbers (name_refusal page037 reply.now (named_column number place length alphabet) (lib.ListN.length buffer.old)) }
+    ensures counts { result.count ≡ name_length page037 reply.now (named_column number place length alphabet) (lib.ListN.length buffer.old) }
+    ensures leaves { buffer.new ≡ name_written page037 reply.now (named_column number place length alphabet) buffer.old }
 {
     entries::texts::name_text(reply, number, place, length, alphabet, buffer)
 }
@@ -120,9 +120,9 @@ pub extern "C" fn jigshard_message_text(
     length: usize,
     buffer: &mut [u8],
 ) -> CountResult
-    ensures refuses { result.refusal ≡ inNumbers (messageRefusal page037 reply.now place length (lib.ListN.length buffer.old)) }
-    ensures counts { result.count ≡ messageLength page037 reply.now place length (lib.ListN.length buffer.old) }
-    ensures leaves { buffer.new ≡ messageWritten page037 reply.now place length buffer.old }
+    ensures refuses { result.refusal ≡ in_numbers (message_refusal page037 reply.now place length (lib.ListN.length buffer.old)) }
+    ensures counts { result.count ≡ message_length page037 reply.now place length (lib.ListN.length buffer.old) }
+    ensures leaves { buffer.new ≡ message_written page037 reply.now place length buffer.old }
 {
     entries::texts::message_text(reply, place, length, buffer)
 }
@@ -130,8 +130,8 @@ pub extern "C" fn jigshard_message_text(
 // The entry same cut: `first` and `second` are lists of columns, 22 words each.
 #[unsafe(no_mangle)]
 pub extern "C" fn jigshard_same_cut(first: &[u64], second: &[u64]) -> CutResult
-    ensures refuses { result.refusal ≡ inNumbers (wordsCutRefusal first.now second.now) }
-    ensures gives { result.same ≡ wordsCutAnswer first.now second.now }
+    ensures refuses { result.refusal ≡ in_numbers (words_cut_refusal first.now second.now) }
+    ensures gives { result.same ≡ words_cut_answer first.now second.now }
 {
     entries::lists::same_cut(first, second)
 }
@@ -139,8 +139,8 @@ pub extern "C" fn jigshard_same_cut(first: &[u64], second: &[u64]) -> CutResult
 // The entry widest row: `columns` is a list of columns, 22 words each.
 #[unsafe(no_mangle)]
 pub extern "C" fn jigshard_widest_row(columns: &[u64]) -> CountResult
-    ensures refuses { result.refusal ≡ inNumbers (wordsRowRefusal columns.now) }
-    ensures gives { result.count ≡ wordsRowAnswer columns.now }
+    ensures refuses { result.refusal ≡ in_numbers (words_row_refusal columns.now) }
+    ensures gives { result.count ≡ words_row_answer columns.now }
 {
     entries::lists::widest_row(columns)
 }

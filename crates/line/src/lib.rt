@@ -3,7 +3,7 @@
 #![tactic(auto)]
 
 ghost use Rattle.std.specs.Prelude.{◌≡◌, ◌-◌, min};
-ghost use Rattle.decimal.specs.Decimal.{decimalOf};
+ghost use Rattle.decimal.specs.Decimal.{decimal_of};
 ghost use Rattle.line.specs.Line.{Appended, gap};
 
 fn least(a: usize, b: usize) -> usize
@@ -30,7 +30,7 @@ pub fn append(line: &mut [u8], used: usize, bytes: &[u8]) -> usize
 }
 
 pub fn append_decimal(line: &mut [u8], used: usize, number: u64) -> usize
-    ensures { Appended line.old used (decimalOf number) line.new result }
+    ensures { Appended line.old used (decimal_of number) line.new result }
 {
     let digits = decimal::digits_of(number);
     let characters = digits.characters;

@@ -2,19 +2,19 @@
 #![tactic(auto)]
 
 ghost use Rattle.std.specs.Prelude.{true, ◌≡◌, ◌/◌, ◌≤◌, length};
-ghost use Rattle.outcome.specs.Refusal.{refusalOf};
-ghost use Rattle.columns.specs.Cut.{sameCut};
-ghost use Rattle.columns.specs.Row.{rowRefusal, rowAnswer};
-ghost use Rattle.column_words.specs.Columns.{columnsIn, areColumns};
+ghost use Rattle.outcome.specs.Refusal.{refusal_of};
+ghost use Rattle.columns.specs.Cut.{same_cut};
+ghost use Rattle.columns.specs.Row.{row_refusal, row_answer};
+ghost use Rattle.column_words.specs.Columns.{columns_in, are_columns};
 
 use columns::RowAnswer;
 use outcome::Outcome;
 
 // Whether the columns of two lists are cut from a row alike.
 pub fn same_columns(first: &[u64], second: &[u64]) -> bool
-    requires first { areColumns first.now ≡ true }
-    requires second { areColumns second.now ≡ true }
-    ensures { result ≡ sameCut (columnsIn first.now) (columnsIn second.now) }
+    requires first { are_columns first.now ≡ true }
+    requires second { are_columns second.now ≡ true }
+    ensures { result ≡ same_cut (columns_in first.now) (columns_in second.now) }
 {
     let count = first.len() / 22;
     if count != second.len() / 22 {
@@ -36,10 +36,10 @@ pub fn same_columns(first: &[u64], second: &[u64]) -> bool
 
 // The sum of the columns' widths, up to a column of a large type.
 pub fn add_widths(words: &[u64]) -> RowAnswer
-    requires are_columns { areColumns words.now ≡ true }
+    requires are_columns { are_columns words.now ≡ true }
     requires few { length words.now / 22 ≤ 4095 }
-    ensures refuses { refusalOf result.outcome ≡ rowRefusal (columnsIn words.now) }
-    ensures gives { result.width ≡ rowAnswer (columnsIn words.now) }
+    ensures refuses { refusal_of result.outcome ≡ row_refusal (columns_in words.now) }
+    ensures gives { result.width ≡ row_answer (columns_in words.now) }
 {
     let count = words.len() / 22;
     let mut width = 0;

@@ -2,10 +2,10 @@
 use Rattle.std.specs.Prelude.{Bool, not, ◌&&◌, ◌||◌, List, [], ◌∷◌, ℕ, ◌-◌, eqb, leb, length, get_or}
 use Rattle.search.specs.Search.{pick, front}
 use Rattle.text.specs.declared.Text.{Text}
-use Rattle.text.specs.Text.{emptyText}
+use Rattle.text.specs.Text.{empty_text}
 use Rattle.candidates.specs.declared.View.{View}
-use Rattle.candidates.specs.Candidates.{sameText, candidates}
-use Rattle.candidates.specs.View.{inView, Inside, Within}
+use Rattle.candidates.specs.Candidates.{same_text, candidates}
+use Rattle.candidates.specs.View.{in_view, Inside, Within}
 use Rattle.listing.specs.declared.Rule.{Rule}
 use Rattle.listing.specs.declared.Rule.TheVariants.{Returning, BeforeFirst}
 use Rattle.listing.specs.declared.Listing.{Listing}
@@ -13,22 +13,22 @@ use Rattle.listing.specs.declared.Cursor.{Cursor}
 
 -- candidate k of those after one; an empty text where there are fewer (01, Name scan)
 abbrev pub later : List Text → ℕ → Text
-later l k = get_or l k emptyText
+later l k = get_or l k empty_text
 
 -- the text of x returns four later and not between, l being the candidates after x (01, Name scan)
 unfoldable pub returns : List ℕ → Text → List Text → Bool
 returns s x l =
     leb 4 (length l)
-    && (sameText s x (later l 3) && not (sameText s x (later l 0) || sameText s x (later l 1) || sameText s x (later l 2)))
+    && (same_text s x (later l 3) && not (same_text s x (later l 0) || same_text s x (later l 1) || same_text s x (later l 2)))
 
 -- x is unlike the first candidate, and just before a repeat of it (01, Name scan)
-unfoldable pub isBefore : List ℕ → Text → Text → List Text → Bool
-isBefore s first x l = leb 1 (length l) && (sameText s (later l 0) first && not (sameText s x first))
+unfoldable pub is_before : List ℕ → Text → Text → List Text → Bool
+is_before s first x l = leb 1 (length l) && (same_text s (later l 0) first && not (same_text s x first))
 
 -- what a rule lists of x: one that returns, unless the search has still to go on; one before a repeat, unless its neighbour in the list is equal (01, Name scan)
-unfoldable pub isListed : List ℕ → Rule → Listing → Text → List Text → Bool
-isListed s Returning z x l = eqb z.skip 0 && returns s x l
-isListed s BeforeFirst z x l = isBefore s z.first x l && not (sameText s x z.last)
+unfoldable pub is_listed : List ℕ → Rule → Listing → Text → List Text → Bool
+is_listed s Returning z x l = eqb z.skip 0 && returns s x l
+is_listed s BeforeFirst z x l = is_before s z.first x l && not (same_text s x z.last)
 
 -- behind one that is listed or not: the search goes on five later, and the last one listed is the neighbour of the next (01, Name scan)
 unfoldable pub after : Listing → Text → Bool → Listing
@@ -37,15 +37,15 @@ after z x listed = record { first = z.first; skip = pick listed 4 (z.skip - 1); 
 -- the candidates that a rule lists (01, Name scan)
 unfoldable pub listed : List ℕ → Rule → Listing → List Text → List Text
 listed s rule z [] = []
-listed s rule z (x ∷ l) = front (isListed s rule z x l) x (listed s rule (after z x (isListed s rule z x l)) l)
+listed s rule z (x ∷ l) = front (is_listed s rule z x l) x (listed s rule (after z x (is_listed s rule z x l)) l)
 
 -- before any candidate (01, Name scan: the first)
 abbrev pub unlisted : Text → Listing
-unlisted first = record { first = first; skip = 0; last = emptyText }
+unlisted first = record { first = first; skip = 0; last = empty_text }
 
 -- all that a rule lists of a reply (01, Name scan)
-unfoldable pub listedBy : List ℕ → Rule → List Text
-listedBy s rule = listed s rule (unlisted (later (candidates s) 0)) (candidates s)
+unfoldable pub listed_by : List ℕ → Rule → List Text
+listed_by s rule = listed s rule (unlisted (later (candidates s) 0)) (candidates s)
 
 -- what a rule knows lies in the reply (01, Answers: place, length)
 pub record InsideListing (s : List ℕ) (z : Listing) : Type 0 where
@@ -53,12 +53,12 @@ pub record InsideListing (s : List ℕ) (z : Listing) : Type 0 where
   pub last : Inside s z.last
 
 -- the names that a rule lists from a cursor on (01, Name scan)
-unfoldable pub toCome : List ℕ → Rule → Cursor → List Text
-toCome s rule at = listed s rule at.listing (inView s at.view)
+unfoldable pub to_come : List ℕ → Rule → Cursor → List Text
+to_come s rule at = listed s rule at.listing (in_view s at.view)
 
 -- the cursor before the first name, at the view of the first candidates (01, Name scan)
-abbrev pub cursorAt : View → Cursor
-cursorAt v = record { text = emptyText; listing = unlisted v.first; view = v }
+abbrev pub cursor_at : View → Cursor
+cursor_at v = record { text = empty_text; listing = unlisted v.first; view = v }
 
 -- what holds of a cursor: all that it knows lies in the reply (01, Answers: place, length)
 pub record WithinCursor (s : List ℕ) (at : Cursor) : Type 0 where

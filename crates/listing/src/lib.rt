@@ -4,9 +4,9 @@
 ghost use Rattle.std.specs.Prelude.{List, ◌≡◌, ℕ, ◌-◌, length};
 ghost use Rattle.search.specs.Search.{pick};
 ghost use Rattle.candidates.specs.Candidates.{candidates};
-ghost use Rattle.candidates.specs.View.{shown, behind, inView, Inside, Within};
+ghost use Rattle.candidates.specs.View.{shown, behind, in_view, Inside, Within};
 ghost use Rattle.listing.specs.declared.Rule.TheVariants.{Returning, BeforeFirst};
-ghost use Rattle.listing.specs.Listing.{returns, isBefore, isListed, after, unlisted, listedBy, InsideListing, toCome, cursorAt, WithinCursor};
+ghost use Rattle.listing.specs.Listing.{returns, is_before, is_listed, after, unlisted, listed_by, InsideListing, to_come, cursor_at, WithinCursor};
 
 use candidates::View;
 use text::Text;
@@ -63,7 +63,7 @@ fn returns_in_view(reply: &[u8], view: View) -> bool
 fn is_before_first(reply: &[u8], start: Text, view: View) -> bool
     requires inside { Inside reply.now start }
     requires within { Within reply.now view }
-    ensures { result ≡ isBefore reply.now start view.first (behind reply.now view) }
+    ensures { result ≡ is_before reply.now start view.first (behind reply.now view) }
 {
     let first = view.first;
     let second = view.second;
@@ -78,7 +78,7 @@ fn is_before_first(reply: &[u8], start: Text, view: View) -> bool
 
 fn is_returning(reply: &[u8], listing: Listing, view: View) -> bool
     requires { Within reply.now view }
-    ensures { result ≡ isListed reply.now Returning listing view.first (behind reply.now view) }
+    ensures { result ≡ is_listed reply.now Returning listing view.first (behind reply.now view) }
 {
     if listing.skip != 0 {
         return false;
@@ -89,7 +89,7 @@ fn is_returning(reply: &[u8], listing: Listing, view: View) -> bool
 fn is_new_before_first(reply: &[u8], listing: Listing, view: View) -> bool
     requires inside_listing { InsideListing reply.now listing }
     requires within { Within reply.now view }
-    ensures { result ≡ isListed reply.now BeforeFirst listing view.first (behind reply.now view) }
+    ensures { result ≡ is_listed reply.now BeforeFirst listing view.first (behind reply.now view) }
 {
     let start = listing.first;
     let last = listing.last;
@@ -104,7 +104,7 @@ fn is_new_before_first(reply: &[u8], listing: Listing, view: View) -> bool
 fn is_listed(reply: &[u8], rule: Rule, listing: Listing, view: View) -> bool
     requires inside_listing { InsideListing reply.now listing }
     requires within { Within reply.now view }
-    ensures { result ≡ isListed reply.now rule listing view.first (behind reply.now view) }
+    ensures { result ≡ is_listed reply.now rule listing view.first (behind reply.now view) }
 {
     match rule {
         Rule::Returning => is_returning(reply, listing, view),
@@ -168,7 +168,7 @@ pub struct Step {
 fn list_step(reply: &[u8], rule: Rule, listing: Listing, view: View) -> Step
     requires inside_listing { InsideListing reply.now listing }
     requires within { Within reply.now view }
-    ensures { (result.listed ≡ isListed reply.now rule listing view.first (behind reply.now view))
+    ensures { (result.listed ≡ is_listed reply.now rule listing view.first (behind reply.now view))
         × ((result.listing ≡ after listing view.first result.listed) × (InsideListing reply.now result.listing)) }
 {
     let text = view.first;
@@ -189,9 +189,9 @@ pub struct Counts {
 
 // Both rules in one pass.
 pub fn count_names(reply: &[u8]) -> Counts
-    ensures { ((result.returning ≡ length (listedBy reply.now Returning))
-        × (result.before_first ≡ length (listedBy reply.now BeforeFirst)))
-        × ((inView reply.now result.view ≡ candidates reply.now) × (Within reply.now result.view)) }
+    ensures { ((result.returning ≡ length (listed_by reply.now Returning))
+        × (result.before_first ≡ length (listed_by reply.now BeforeFirst)))
+        × ((in_view reply.now result.view ≡ candidates reply.now) × (Within reply.now result.view)) }
 {
     let start = candidates::first_view(reply);
     let first = start.first;
@@ -227,7 +227,7 @@ pub struct Cursor {
 // The next name that the rule lists.
 pub fn next_listed(reply: &[u8], rule: Rule, from: Cursor) -> Cursor
     requires { WithinCursor reply.now from }
-    ensures { (toCome reply.now rule from ≡ shown result.text (toCome reply.now rule result)) × (WithinCursor reply.now result) }
+    ensures { (to_come reply.now rule from ≡ shown result.text (to_come reply.now rule result)) × (WithinCursor reply.now result) }
 {
     let mut listing = from.listing;
     let mut view = from.view;
@@ -253,7 +253,7 @@ pub fn next_listed(reply: &[u8], rule: Rule, from: Cursor) -> Cursor
 
 // Before the first name.
 pub fn first_cursor(view: View) -> Cursor
-    ensures { result ≡ cursorAt view }
+    ensures { result ≡ cursor_at view }
 {
     let text = candidates::no_text();
     let listing = no_listing(view.first);

@@ -8,32 +8,32 @@ use native.Mathlib.Numerals.{add-one}
 use native.Mathlib.Omega.{arith}
 use lib.ListN.{length, get_or}
 use Rattle.search.specs.Search.{pick}
-use Rattle.codepage.specs.Blank.{isBlank}
-use Rattle.message.specs.Squeezed.{after, isGap, added, squeezed}
+use Rattle.codepage.specs.Blank.{is_blank}
+use Rattle.message.specs.Squeezed.{after, is_gap, added, squeezed}
 use Rattle.message.specs.declared.Behind.{Behind}
 use Rattle.message.specs.declared.Behind.TheVariants.{Nothing, Character, Blanks}
 
 -- ---- the words
 
 -- a character in front of the first piece
-abbrev pub inFront : ℕ → List (List ℕ) → List (List ℕ)
-inFront c [] = (c ∷ []) ∷ []
-inFront c (p ∷ ps) = (c ∷ p) ∷ ps
+abbrev pub in_front : ℕ → List (List ℕ) → List (List ℕ)
+in_front c [] = (c ∷ []) ∷ []
+in_front c (p ∷ ps) = (c ∷ p) ∷ ps
 
 -- the characters split at every blank: a piece between two blanks side by side is empty
 abbrev pub pieces : List ℕ → List (List ℕ)
 pieces [] = [] ∷ []
-pieces (c ∷ cs) = pick (isBlank c) ([] ∷ pieces cs) (inFront c (pieces cs))
+pieces (c ∷ cs) = pick (is_blank c) ([] ∷ pieces cs) (in_front c (pieces cs))
 
 -- the pieces that are not empty
-abbrev pub notEmpty : List (List ℕ) → List (List ℕ)
-notEmpty [] = []
-notEmpty ([] ∷ ps) = notEmpty ps
-notEmpty ((c ∷ p) ∷ ps) = (c ∷ p) ∷ notEmpty ps
+abbrev pub not_empty : List (List ℕ) → List (List ℕ)
+not_empty [] = []
+not_empty ([] ∷ ps) = not_empty ps
+not_empty ((c ∷ p) ∷ ps) = (c ∷ p) ∷ not_empty ps
 
 -- the maximal runs of characters that are no blanks, in order
 abbrev pub words : List ℕ → List (List ℕ)
-words cs = notEmpty (pieces cs)
+words cs = not_empty (pieces cs)
 
 -- each word with a 0x20 before it
 abbrev pub spaced : List (List ℕ) → List ℕ
@@ -49,48 +49,48 @@ joined (w ∷ ws) = w ++ spaced ws
 
 -- what the pieces give from a place on: behind a character the first of them is the rest of that character's word
 abbrev shown : Behind → List (List ℕ) → List ℕ
-shown Nothing ps = joined (notEmpty ps)
-shown Blanks ps = spaced (notEmpty ps)
+shown Nothing ps = joined (not_empty ps)
+shown Blanks ps = spaced (not_empty ps)
 shown Character [] = []
-shown Character (p ∷ ps) = p ++ spaced (notEmpty ps)
+shown Character (p ∷ ps) = p ++ spaced (not_empty ps)
 
 -- one character more, t telling whether it is a blank
-shown-more : (b : Behind) (c : ℕ) (ps : List (List ℕ)) (t : Bool)
-    → pick t [] (pick (isGap b) (0x20 ∷ c ∷ []) (c ∷ [])) ++ shown (after t b) ps ≡ shown b (pick t ([] ∷ ps) (inFront c ps))
-shown-more Nothing c ps true = refl
-shown-more Character c ps true = refl
-shown-more Blanks c ps true = refl
-shown-more Nothing c [] false = refl
-shown-more Character c [] false = refl
-shown-more Blanks c [] false = refl
-shown-more Nothing c (p ∷ ps) false = refl
-shown-more Character c (p ∷ ps) false = refl
-shown-more Blanks c (p ∷ ps) false = refl
+shown_more : (b : Behind) (c : ℕ) (ps : List (List ℕ)) (t : Bool)
+    → pick t [] (pick (is_gap b) (0x20 ∷ c ∷ []) (c ∷ [])) ++ shown (after t b) ps ≡ shown b (pick t ([] ∷ ps) (in_front c ps))
+shown_more Nothing c ps true = refl
+shown_more Character c ps true = refl
+shown_more Blanks c ps true = refl
+shown_more Nothing c [] false = refl
+shown_more Character c [] false = refl
+shown_more Blanks c [] false = refl
+shown_more Nothing c (p ∷ ps) false = refl
+shown_more Character c (p ∷ ps) false = refl
+shown_more Blanks c (p ∷ ps) false = refl
 
-squeezed-shown : (b : Behind) (cs : List ℕ) → squeezed b cs ≡ shown b (pieces cs)
+squeezed_shown : (b : Behind) (cs : List ℕ) → squeezed b cs ≡ shown b (pieces cs)
 unfolding added
-squeezed-shown Nothing [] = refl
-squeezed-shown Character [] = refl
-squeezed-shown Blanks [] = refl
-squeezed-shown b (c ∷ cs) =
-    ap (λ (t : List ℕ). added b c ++ t) (squeezed-shown (after (isBlank c) b) cs) ∙ shown-more b c (pieces cs) (isBlank c)
+squeezed_shown Nothing [] = refl
+squeezed_shown Character [] = refl
+squeezed_shown Blanks [] = refl
+squeezed_shown b (c ∷ cs) =
+    ap (λ (t : List ℕ). added b c ++ t) (squeezed_shown (after (is_blank c) b) cs) ∙ shown_more b c (pieces cs) (is_blank c)
 
-pub squeezed-is-words : (cs : List ℕ) → squeezed Nothing cs ≡ joined (words cs)
-squeezed-is-words = squeezed-shown Nothing
+pub squeezed_is_words : (cs : List ℕ) → squeezed Nothing cs ≡ joined (words cs)
+squeezed_is_words = squeezed_shown Nothing
 
 -- ---- what every character keeps holds of every text
 
 module _ (P : List ℕ → List ℕ → Type 0)
     (none : P [] [])
-    (skip : (c : ℕ) (cs t : List ℕ) → isBlank c ≡ true → P cs t → P (c ∷ cs) t)
-    (one : (c : ℕ) (cs t : List ℕ) → isBlank c ≡ false → P cs t → P (c ∷ cs) (c ∷ t))
-    (two : (c : ℕ) (cs t : List ℕ) → isBlank c ≡ false → P cs t → P (c ∷ cs) (0x20 ∷ c ∷ t)) where
-  by-character : (b : Behind) (cs : List ℕ) → P cs (squeezed b cs)
+    (skip : (c : ℕ) (cs t : List ℕ) → is_blank c ≡ true → P cs t → P (c ∷ cs) t)
+    (one : (c : ℕ) (cs t : List ℕ) → is_blank c ≡ false → P cs t → P (c ∷ cs) (c ∷ t))
+    (two : (c : ℕ) (cs t : List ℕ) → is_blank c ≡ false → P cs t → P (c ∷ cs) (0x20 ∷ c ∷ t)) where
+  by_character : (b : Behind) (cs : List ℕ) → P cs (squeezed b cs)
   unfolding added
-  by-character b [] = none
-  by-character b (c ∷ cs) = go (isBlank c) (isGap b) refl (by-character (after (isBlank c) b) cs)
+  by_character b [] = none
+  by_character b (c ∷ cs) = go (is_blank c) (is_gap b) refl (by_character (after (is_blank c) b) cs)
     where
-      go : (t u : Bool) → isBlank c ≡ t → {s : List ℕ} → P cs s → P (c ∷ cs) (pick t [] (pick u (0x20 ∷ c ∷ []) (c ∷ [])) ++ s)
+      go : (t u : Bool) → is_blank c ≡ t → {s : List ℕ} → P cs s → P (c ∷ cs) (pick t [] (pick u (0x20 ∷ c ∷ []) (c ∷ [])) ++ s)
       go true u e {s} h = skip c cs s e h
       go false true e {s} h = two c cs s e h
       go false false e {s} h = one c cs s e h
@@ -100,14 +100,14 @@ module _ (P : List ℕ → List ℕ → Type 0)
 -- the characters that are no blanks
 abbrev pub letters : List ℕ → List ℕ
 letters [] = []
-letters (c ∷ cs) = pick (isBlank c) (letters cs) (c ∷ letters cs)
+letters (c ∷ cs) = pick (is_blank c) (letters cs) (c ∷ letters cs)
 
 -- the text has those of the original, in order
-pub text-letters : (cs : List ℕ) → letters (squeezed Nothing cs) ≡ letters cs
-text-letters =
-    let more : (c : ℕ) (cs t : List ℕ) → isBlank c ≡ false → letters t ≡ letters cs → letters (c ∷ t) ≡ letters (c ∷ cs) =
+pub text_letters : (cs : List ℕ) → letters (squeezed Nothing cs) ≡ letters cs
+text_letters =
+    let more : (c : ℕ) (cs t : List ℕ) → is_blank c ≡ false → letters t ≡ letters cs → letters (c ∷ t) ≡ letters (c ∷ cs) =
     λ c cs t e h. rw e (ap (λ (l : List ℕ). c ∷ l) h) in
-    by-character (λ cs t. letters t ≡ letters cs) refl (λ c cs t e h. rw e h) more more Nothing
+    by_character (λ cs t. letters t ≡ letters cs) refl (λ c cs t e h. rw e h) more more Nothing
 
 -- ---- its blanks
 
@@ -115,42 +115,42 @@ text-letters =
 pub record Gap (t : List ℕ) (i : ℕ) : Type 0 where
   pub one : get_or t i 0 ≡ 0x20
   pub more : i + 1 < length t
-  pub next : isBlank (get_or t (i + 1) 0) ≡ false
+  pub next : is_blank (get_or t (i + 1) 0) ≡ false
 
 abbrev Gaps : List ℕ → Type 0
-Gaps t = (i : ℕ) → isBlank (get_or t i 0) ≡ true → Gap t i
+Gaps t = (i : ℕ) → is_blank (get_or t i 0) ≡ true → Gap t i
 
-gap-on : (c : ℕ) (t : List ℕ) (i : ℕ) → Gap t i → Gap (c ∷ t) (suc i)
-gap-on c t i g = record { one = g.one; more = omega (arith, g.more); next = rw (add-one (suc i)) (rw (add-one i) at g.next) }
+gap_on : (c : ℕ) (t : List ℕ) (i : ℕ) → Gap t i → Gap (c ∷ t) (suc i)
+gap_on c t i g = record { one = g.one; more = omega (arith, g.more); next = rw (add-one (suc i)) (rw (add-one i) at g.next) }
 
-gaps-one : (c : ℕ) (t : List ℕ) → isBlank c ≡ false → Gaps t → Gaps (c ∷ t)
-gaps-one c t e h zero b = absurd (false≢true (sym e ∙ b))
-gaps-one c t e h (suc i) b = gap-on c t i (h i b)
+gaps_one : (c : ℕ) (t : List ℕ) → is_blank c ≡ false → Gaps t → Gaps (c ∷ t)
+gaps_one c t e h zero b = absurd (false≢true (sym e ∙ b))
+gaps_one c t e h (suc i) b = gap_on c t i (h i b)
 
-gaps-two : (c : ℕ) (t : List ℕ) → isBlank c ≡ false → Gaps t → Gaps (0x20 ∷ c ∷ t)
-gaps-two c t e h zero b = record { one = refl; more = omega arith; next = e }
-gaps-two c t e h (suc i) b = gap-on 0x20 (c ∷ t) i (gaps-one c t e h i b)
+gaps_two : (c : ℕ) (t : List ℕ) → is_blank c ≡ false → Gaps t → Gaps (0x20 ∷ c ∷ t)
+gaps_two c t e h zero b = record { one = refl; more = omega arith; next = e }
+gaps_two c t e h (suc i) b = gap_on 0x20 (c ∷ t) i (gaps_one c t e h i b)
 
 -- so it is with every blank of the text
-pub text-blanks : (cs : List ℕ) (i : ℕ) → isBlank (get_or (squeezed Nothing cs) i 0) ≡ true → Gap (squeezed Nothing cs) i
-text-blanks =
-    by-character (λ cs t. Gaps t) (λ i b. absurd (false≢true b)) (λ c cs t e h. h) (λ c cs. gaps-one c) (λ c cs. gaps-two c) Nothing
+pub text_blanks : (cs : List ℕ) (i : ℕ) → is_blank (get_or (squeezed Nothing cs) i 0) ≡ true → Gap (squeezed Nothing cs) i
+text_blanks =
+    by_character (λ cs t. Gaps t) (λ i b. absurd (false≢true b)) (λ c cs t e h. h) (λ c cs. gaps_one c) (λ c cs. gaps_two c) Nothing
 
 -- ---- its ends: neither the first character nor the last is a blank (of an empty text get_or gives 0, which is none)
 
-pub text-not-blank-first : (cs : List ℕ) → isBlank (get_or (squeezed Nothing cs) 0 0) ≡ false
+pub text_not_blank_first : (cs : List ℕ) → is_blank (get_or (squeezed Nothing cs) 0 0) ≡ false
 unfolding added
-text-not-blank-first [] = refl
-text-not-blank-first (c ∷ cs) = go (isBlank c) refl (text-not-blank-first cs)
+text_not_blank_first [] = refl
+text_not_blank_first (c ∷ cs) = go (is_blank c) refl (text_not_blank_first cs)
   where
-    go : (t : Bool) → isBlank c ≡ t → isBlank (get_or (squeezed Nothing cs) 0 0) ≡ false
-        → isBlank (get_or (pick t [] (c ∷ []) ++ squeezed (after t Nothing) cs) 0 0) ≡ false
+    go : (t : Bool) → is_blank c ≡ t → is_blank (get_or (squeezed Nothing cs) 0 0) ≡ false
+        → is_blank (get_or (pick t [] (c ∷ []) ++ squeezed (after t Nothing) cs) 0 0) ≡ false
     go true e h = h
     go false e h = e
 
-pub text-not-blank-last : (cs : List ℕ) → isBlank (get_or (squeezed Nothing cs) (length (squeezed Nothing cs) - 1) 0) ≡ false
-text-not-blank-last cs = go _ refl
+pub text_not_blank_last : (cs : List ℕ) → is_blank (get_or (squeezed Nothing cs) (length (squeezed Nothing cs) - 1) 0) ≡ false
+text_not_blank_last cs = go _ refl
   where
-    go : (u : Bool) → isBlank (get_or (squeezed Nothing cs) (length (squeezed Nothing cs) - 1) 0) ≡ u → u ≡ false
-    go true e = absurd (omega (arith, (text-blanks cs _ e).more))
+    go : (u : Bool) → is_blank (get_or (squeezed Nothing cs) (length (squeezed Nothing cs) - 1) 0) ≡ u → u ≡ false
+    go true e = absurd (omega (arith, (text_blanks cs _ e).more))
     go false e = refl

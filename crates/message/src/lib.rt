@@ -4,17 +4,17 @@
 ghost use Rattle.std.specs.Prelude.{not, ◌≡◌, ◌+◌, ◌<◌, ◌≤◌, length};
 ghost use Rattle.search.specs.Search.{count};
 ghost use Rattle.codepage.specs.Page.{page037};
-ghost use Rattle.codepage.specs.Blank.{isBlank};
-ghost use Rattle.message.specs.Message.{isPrintable, isSeparator, others, isAsciiMessage, messageChar, hasText};
+ghost use Rattle.codepage.specs.Blank.{is_blank};
+ghost use Rattle.message.specs.Message.{is_printable, is_separator, others, is_ascii_message, message_char, has_text};
 
 pub fn is_printable(byte: u8) -> bool
-    ensures { result ≡ isPrintable byte }
+    ensures { result ≡ is_printable byte }
 {
     (byte >= 0x20) & (byte <= 0x7E)
 }
 
 pub fn is_separator(byte: u8) -> bool
-    ensures { result ≡ isSeparator byte }
+    ensures { result ≡ is_separator byte }
 {
     (byte == 0x00) | (byte == 0xFF)
 }
@@ -38,7 +38,7 @@ struct Counted {
 
 fn count_block(block: &[u8]) -> Counted
     requires { length block.now ≤ 128 }
-    ensures { (result.printables ≡ count isPrintable block.now) × (result.others ≡ others block.now) }
+    ensures { (result.printables ≡ count is_printable block.now) × (result.others ≡ others block.now) }
 {
     let mut printables: u8 = 0;
     let mut others: u8 = 0;
@@ -53,7 +53,7 @@ fn count_block(block: &[u8]) -> Counted
 
 pub fn is_ascii_message(bytes: &[u8]) -> bool
     requires { length bytes.now ≤ 65536 }
-    ensures { result ≡ isAsciiMessage bytes.now }
+    ensures { result ≡ is_ascii_message bytes.now }
 {
     let mut printables = 0;
     let mut others = 0;
@@ -73,7 +73,7 @@ pub fn is_ascii_message(bytes: &[u8]) -> bool
 
 // Whether the character of a message's byte is a blank. By bytes: no table is asked for.
 pub fn is_message_blank(byte: u8, ascii: bool) -> bool
-    ensures { result ≡ isBlank (messageChar page037 ascii byte) }
+    ensures { result ≡ is_blank (message_char page037 ascii byte) }
 {
     if ascii {
         (byte <= 0x20) | (byte > 0x7E)
@@ -85,7 +85,7 @@ pub fn is_message_blank(byte: u8, ascii: bool) -> bool
 // How many characters of a block are no blanks.
 fn characters_in(block: &[u8], ascii: bool) -> u8
     requires { length block.now ≤ 128 }
-    ensures { result ≡ count (λ b. not (isBlank (messageChar page037 ascii b))) block.now }
+    ensures { result ≡ count (λ b. not (is_blank (message_char page037 ascii b))) block.now }
 {
     let mut characters: u8 = 0;
     let mut i = 0;
@@ -99,7 +99,7 @@ fn characters_in(block: &[u8], ascii: bool) -> u8
 // Whether the text of the bytes is not empty: stops at the first block with a character that is no blank.
 pub fn has_text(bytes: &[u8]) -> bool
     requires { length bytes.now ≤ 65536 }
-    ensures { result ≡ hasText page037 bytes.now }
+    ensures { result ≡ has_text page037 bytes.now }
 {
     let ascii = is_ascii_message(bytes);
     let mut i = 0;

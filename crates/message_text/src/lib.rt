@@ -6,11 +6,11 @@ ghost use lib.ListN.{length};
 ghost use Rattle.std.proofs.lemmas.List.Edits.{sets};
 ghost use Rattle.search.specs.Search.{pick, over};
 ghost use Rattle.codepage.specs.Page.{page037};
-ghost use Rattle.codepage.specs.Blank.{isBlank};
-ghost use Rattle.outcome.specs.Refusal.{refusalOf};
-ghost use Rattle.message.specs.Message.{messageChar, textIn};
-ghost use Rattle.message.specs.Squeezed.{after, isGap, added};
-ghost use Rattle.message_text.specs.Answer.{messageRefusal, messageLength, messageWritten};
+ghost use Rattle.codepage.specs.Blank.{is_blank};
+ghost use Rattle.outcome.specs.Refusal.{refusal_of};
+ghost use Rattle.message.specs.Message.{message_char, text_in};
+ghost use Rattle.message.specs.Squeezed.{after, is_gap, added};
+ghost use Rattle.message_text.specs.Answer.{message_refusal, message_length, message_written};
 
 use message::Behind;
 use outcome::Outcome;
@@ -32,7 +32,7 @@ fn behind_next(behind: Behind, blank: bool) -> Behind
 
 // Whether blanks stand between a character and the one before it.
 fn is_gap(behind: Behind) -> bool
-    ensures { result ≡ isGap behind }
+    ensures { result ≡ is_gap behind }
 {
     match behind {
         Behind::Nothing => false,
@@ -43,7 +43,7 @@ fn is_gap(behind: Behind) -> bool
 
 // By how much a character makes the text longer.
 fn added_length(behind: Behind, blank: bool) -> usize
-    ensures { result ≡ pick blank 0 (pick (isGap behind) 2 1) }
+    ensures { result ≡ pick blank 0 (pick (is_gap behind) 2 1) }
 {
     if blank {
         return 0;
@@ -53,7 +53,7 @@ fn added_length(behind: Behind, blank: bool) -> usize
 
 // How long the text is.
 fn message_length(bytes: &[u8], ascii: bool) -> usize
-    ensures { result ≡ length (textIn page037 ascii bytes.now) }
+    ensures { result ≡ length (text_in page037 ascii bytes.now) }
 {
     let mut end = 0;
     let mut behind = Behind::Nothing;
@@ -68,7 +68,7 @@ fn message_length(bytes: &[u8], ascii: bool) -> usize
 }
 
 fn is_blank(character: u8) -> bool
-    ensures { result ≡ isBlank character }
+    ensures { result ≡ is_blank character }
 {
     (character >= 0x09) & (character <= 0x0D)
         | (character == 0x20)
@@ -79,7 +79,7 @@ fn is_blank(character: u8) -> bool
 // The character of a message's byte, by page 037's table, which is lent.
 fn message_char(table: &[u8], byte: u8, ascii: bool) -> u8
     requires { table.now ≡ page037.table }
-    ensures { result ≡ messageChar page037 ascii byte }
+    ensures { result ≡ message_char page037 ascii byte }
 {
     if ascii {
         return if message::is_printable(byte) {
@@ -114,9 +114,9 @@ fn put_char(buffer: &mut [u8], at: usize, behind: Behind, character: u8) -> usiz
 
 // Writes the text over the buffer's front, and says how long it is.
 fn write_message(bytes: &[u8], ascii: bool, buffer: &mut [u8]) -> usize
-    requires { length (textIn page037 ascii bytes.now) ≤ length buffer.old }
-    ensures gives { result ≡ length (textIn page037 ascii bytes.now) }
-    ensures leaves { buffer.new ≡ over (textIn page037 ascii bytes.now) buffer.old }
+    requires { length (text_in page037 ascii bytes.now) ≤ length buffer.old }
+    ensures gives { result ≡ length (text_in page037 ascii bytes.now) }
+    ensures leaves { buffer.new ≡ over (text_in page037 ascii bytes.now) buffer.old }
 {
     let table = codepage::ebcdic037_table();
     let mut at = 0;
@@ -133,8 +133,8 @@ fn write_message(bytes: &[u8], ascii: bool, buffer: &mut [u8]) -> usize
 
 // The room that the text needs. Where its bytes would fit, their number serves, as a text is never longer: its length is not asked for.
 fn room_needed(bytes: &[u8], ascii: bool, room: usize) -> usize
-    ensures enough { length (textIn page037 ascii bytes.now) ≤ result }
-    ensures exact { room < result → result ≡ length (textIn page037 ascii bytes.now) }
+    ensures enough { length (text_in page037 ascii bytes.now) ≤ result }
+    ensures exact { room < result → result ≡ length (text_in page037 ascii bytes.now) }
 {
     if bytes.len() <= room {
         return bytes.len();
@@ -157,9 +157,9 @@ fn refused(outcome: Outcome) -> MessageText
 
 // The text of the `length` bytes of the reply from `place` on, written to the buffer's front.
 pub fn message_text(reply: &[u8], place: usize, length: usize, buffer: &mut [u8]) -> MessageText
-    ensures refuses { refusalOf result.outcome ≡ messageRefusal page037 reply.now place length (lib.ListN.length buffer.old) }
-    ensures gives { result.length ≡ messageLength page037 reply.now place length (lib.ListN.length buffer.old) }
-    ensures leaves { buffer.new ≡ messageWritten page037 reply.now place length buffer.old }
+    ensures refuses { refusal_of result.outcome ≡ message_refusal page037 reply.now place length (lib.ListN.length buffer.old) }
+    ensures gives { result.length ≡ message_length page037 reply.now place length (lib.ListN.length buffer.old) }
+    ensures leaves { buffer.new ≡ message_written page037 reply.now place length buffer.old }
 {
     if reply.len() > 65536 {
         return refused(Outcome::ReplyTooLong);

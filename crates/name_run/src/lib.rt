@@ -2,13 +2,13 @@
 #![tactic(auto)]
 
 ghost use Rattle.std.specs.Prelude.{◌≡◌, true, false, [], ◌∷◌, ℕ, ◌+◌, ◌≤◌, ◌<◌, length};
-ghost use Rattle.search.specs.Search.{firstIn};
+ghost use Rattle.search.specs.Search.{first_in};
 ghost use Rattle.search.specs.Walks.{keep};
 ghost use Rattle.codepage.specs.Page.{page037};
-ghost use Rattle.strings.specs.Strings.{noString};
-ghost use Rattle.column.specs.Column.{stringText};
-ghost use Rattle.name_run.specs.Layout.{isNameString, nameIn, isNamedLayout, layoutEnd, noName, scannedNameAt};
-ghost use Rattle.name_run.specs.Run.{nameRunFrom, longer, longestNameRun};
+ghost use Rattle.strings.specs.Strings.{no_string};
+ghost use Rattle.column.specs.Column.{string_text};
+ghost use Rattle.name_run.specs.Layout.{is_name_string, name_in, is_named_layout, layout_end, no_name, scanned_name_at};
+ghost use Rattle.name_run.specs.Run.{name_run_from, longer, longest_name_run};
 
 use field::ByteOrder;
 use strings::StringRead;
@@ -22,7 +22,7 @@ pub struct ScannedName {
 }
 
 fn no_name() -> ScannedName
-    ensures { result ≡ noName }
+    ensures { result ≡ no_name }
 {
     let name = strings::no_string(0);
     ScannedName { name, next: 0 }
@@ -30,7 +30,7 @@ fn no_name() -> ScannedName
 
 fn is_name_string(reply: &[u8], string: StringRead) -> bool
     requires { string.place + string.length ≤ length reply.now }
-    ensures { result ≡ isNameString page037 reply.now string }
+    ensures { result ≡ is_name_string page037 reply.now string }
 {
     identifier::is_identifier_at(reply, string.place, string.length)
 }
@@ -39,7 +39,7 @@ fn is_name_string(reply: &[u8], string: StringRead) -> bool
 fn first_name(reply: &[u8], m: StringRead, s: StringRead, extension: StringRead) -> StringRead
     requires { (m.place + m.length ≤ length reply.now)
         × ((s.place + s.length ≤ length reply.now) × (extension.place + extension.length ≤ length reply.now)) }
-    ensures { result ≡ firstIn (isNameString page037 reply.now) (m ∷ s ∷ extension ∷ []) (noString 0) }
+    ensures { result ≡ first_in (is_name_string page037 reply.now) (m ∷ s ∷ extension ∷ []) (no_string 0) }
 {
     if is_name_string(reply, m) {
         return m;
@@ -56,7 +56,7 @@ fn first_name(reply: &[u8], m: StringRead, s: StringRead, extension: StringRead)
 // The scan asks at every byte of a reply: names are tested only where the whole layout can be read.
 pub fn scan_descriptor_name(reply: &[u8], offset: usize) -> ScannedName
     requires { offset ≤ length reply.now }
-    ensures { result ≡ scannedNameAt page037 reply.now offset }
+    ensures { result ≡ scanned_name_at page037 reply.now offset }
 {
     let end = reply.len();
     if end - offset < 17 {
@@ -94,7 +94,7 @@ pub struct NameRun {
 
 fn name_run_from(reply: &[u8], start: usize) -> NameRun
     requires { start ≤ length reply.now }
-    ensures { result ≡ nameRunFrom page037 reply.now start }
+    ensures { result ≡ name_run_from page037 reply.now start }
 {
     let mut offset = start;
     let mut count = 0;
@@ -124,7 +124,7 @@ fn longer_of(best: NameRun, run: NameRun) -> NameRun
 // nothing else is read.
 fn may_start(reply: &[u8], start: usize) -> bool
     requires { start + 21 ≤ length reply.now }
-    ensures { result ≡ false → (nameRunFrom page037 reply.now start).count ≡ 0 }
+    ensures { result ≡ false → (name_run_from page037 reply.now start).count ≡ 0 }
 {
     if reply[start + 16] == 0xFF {
         return false;
@@ -136,7 +136,7 @@ fn may_start(reply: &[u8], start: usize) -> bool
 // From `from` on, the first start of a layout that may have a name; `end` where there is none. No run is passed over.
 fn next_start(reply: &[u8], from: usize, end: usize) -> usize
     requires { (from ≤ end) × (end + 20 ≤ length reply.now) }
-    ensures { ((from ≤ result) × (result ≤ end)) × ((p : ℕ) → from ≤ p → p < result → (nameRunFrom page037 reply.now p).count ≡ 0) }
+    ensures { ((from ≤ result) × (result ≤ end)) × ((p : ℕ) → from ≤ p → p < result → (name_run_from page037 reply.now p).count ≡ 0) }
 {
     let mut start = from;
     while start < end {
@@ -150,7 +150,7 @@ fn next_start(reply: &[u8], from: usize, end: usize) -> usize
 
 // The first longest run; one without names where there is none.
 pub fn longest_name_run(reply: &[u8]) -> NameRun
-    ensures { result ≡ longestNameRun page037 reply.now }
+    ensures { result ≡ longest_name_run page037 reply.now }
 {
     let mut best = NameRun { start: 0, count: 0 };
     if reply.len() < 21 {
@@ -174,9 +174,9 @@ pub struct RunName {
 }
 
 pub fn run_name(reply: &[u8], offset: usize) -> RunName
-    requires { isNamedLayout page037 reply.now offset (layoutEnd reply.now offset) ≡ true }
-    ensures { (result.text ≡ stringText page037 reply.now (nameIn page037 reply.now offset))
-        × (result.next ≡ layoutEnd reply.now offset) }
+    requires { is_named_layout page037 reply.now offset (layout_end reply.now offset) ≡ true }
+    ensures { (result.text ≡ string_text page037 reply.now (name_in page037 reply.now offset))
+        × (result.next ≡ layout_end reply.now offset) }
 {
     let scanned = scan_descriptor_name(reply, offset);
     let name = scanned.name;

@@ -4,11 +4,11 @@
 ghost use Rattle.std.specs.Prelude.{◌++◌, ◌≡◌, ◌+◌, ◌*◌, ◌/◌, ◌≤◌, length, take, drop};
 ghost use Rattle.search.specs.Search.{over};
 ghost use Rattle.codepage.specs.Page.{page037};
-ghost use Rattle.outcome.specs.Refusal.{refusalOf};
-ghost use Rattle.listing.specs.Listing.{toCome, WithinCursor};
-ghost use Rattle.name_run.specs.Run.{namesOfRun};
-ghost use Rattle.names.specs.Names.{nameScan};
-ghost use Rattle.name_words.specs.Texts.{wordsOfText, textWords};
+ghost use Rattle.outcome.specs.Refusal.{refusal_of};
+ghost use Rattle.listing.specs.Listing.{to_come, WithinCursor};
+ghost use Rattle.name_run.specs.Run.{names_of_run};
+ghost use Rattle.names.specs.Names.{name_scan};
+ghost use Rattle.name_words.specs.Texts.{words_of_text, text_words};
 
 use listing::{Cursor, Rule};
 use name_run::NameRun;
@@ -18,7 +18,7 @@ use text::Text;
 // Writes a text's words from `at` on.
 fn put_text_words(text: Text, words: &mut [u64], at: usize)
     requires { at + 3 ≤ length words.old }
-    ensures { words.new ≡ take at words.old ++ (wordsOfText text ++ drop (at + 3) words.old) }
+    ensures { words.new ≡ take at words.old ++ (words_of_text text ++ drop (at + 3) words.old) }
 {
     words[at] = text.place as u64;
     words[at + 1] = text.length as u64;
@@ -28,9 +28,9 @@ fn put_text_words(text: Text, words: &mut [u64], at: usize)
 // Writes the first names that a rule lists, as words.
 fn fill_listed(reply: &[u8], rule: Rule, start: Cursor, count: usize, words: &mut [u64])
     requires within_cursor { WithinCursor reply.now start }
-    requires count_listed { count ≤ length (toCome reply.now rule start) }
+    requires count_listed { count ≤ length (to_come reply.now rule start) }
     requires count_in_room { count * 3 ≤ length words.old }
-    ensures { words.new ≡ over (textWords (take count (toCome reply.now rule start))) words.old }
+    ensures { words.new ≡ over (text_words (take count (to_come reply.now rule start))) words.old }
 {
     let mut cursor = start;
     let mut at = 0;
@@ -45,9 +45,9 @@ fn fill_listed(reply: &[u8], rule: Rule, start: Cursor, count: usize, words: &mu
 
 // Writes the names of a run, as words.
 fn fill_run(reply: &[u8], run: NameRun, words: &mut [u64])
-    requires count_of_run { run.count ≡ length (namesOfRun page037 reply.now run) }
+    requires count_of_run { run.count ≡ length (names_of_run page037 reply.now run) }
     requires count_in_room { run.count * 3 ≤ length words.old }
-    ensures { words.new ≡ over (textWords (namesOfRun page037 reply.now run)) words.old }
+    ensures { words.new ≡ over (text_words (names_of_run page037 reply.now run)) words.old }
 {
     let count = run.count;
     let mut offset = run.start;
@@ -64,9 +64,9 @@ fn fill_run(reply: &[u8], run: NameRun, words: &mut [u64])
 
 // The entry name scan, with room for a text in each 3 words. Nothing is written where it refuses.
 pub fn scan_column_names(reply: &[u8], words: &mut [u64]) -> NamesAnswer
-    ensures refuses { refusalOf result.outcome ≡ (nameScan page037 (length words.old / 3) reply.now).refusal }
-    ensures counts { result.count ≡ length (nameScan page037 (length words.old / 3) reply.now).names }
-    ensures fills { words.new ≡ over (textWords (nameScan page037 (length words.old / 3) reply.now).names) words.old }
+    ensures refuses { refusal_of result.outcome ≡ (name_scan page037 (length words.old / 3) reply.now).refusal }
+    ensures counts { result.count ≡ length (name_scan page037 (length words.old / 3) reply.now).names }
+    ensures fills { words.new ≡ over (text_words (name_scan page037 (length words.old / 3) reply.now).names) words.old }
 {
     let decision = names::decide(reply, words.len() / 3);
     let plan = decision.plan;

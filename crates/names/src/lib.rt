@@ -4,11 +4,11 @@
 ghost use Rattle.std.specs.Prelude.{List, ◌++◌, ◌≡◌, ℕ, ◌≤◌, length, take, drop};
 ghost use Rattle.search.specs.Search.{over};
 ghost use Rattle.codepage.specs.Page.{page037};
-ghost use Rattle.outcome.specs.Refusal.{refusalOf};
-ghost use Rattle.listing.specs.Listing.{toCome, WithinCursor};
-ghost use Rattle.name_run.specs.Run.{namesOfRun};
-ghost use Rattle.names.specs.Names.{columnNames, refusedWith, nameScan};
-ghost use Rattle.names.specs.Decision.{listedPlan, runPlan, Plans, Decides};
+ghost use Rattle.outcome.specs.Refusal.{refusal_of};
+ghost use Rattle.listing.specs.Listing.{to_come, WithinCursor};
+ghost use Rattle.name_run.specs.Run.{names_of_run};
+ghost use Rattle.names.specs.Names.{column_names, refused_with, name_scan};
+ghost use Rattle.names.specs.Decision.{listed_plan, run_plan, Plans, Decides};
 
 use candidates::View;
 use listing::{Cursor, Listing, Rule};
@@ -41,7 +41,7 @@ pub struct Decision {
 }
 
 fn listed_plan(rule: Rule, cursor: Cursor, count: usize) -> Plan
-    ensures { result ≡ listedPlan rule cursor count }
+    ensures { result ≡ listed_plan rule cursor count }
 {
     let run = NameRun { start: 0, count: 0 };
     Plan {
@@ -54,7 +54,7 @@ fn listed_plan(rule: Rule, cursor: Cursor, count: usize) -> Plan
 }
 
 fn run_plan(cursor: Cursor, run: NameRun) -> Plan
-    ensures { result ≡ runPlan cursor run }
+    ensures { result ≡ run_plan cursor run }
 {
     let rule = Rule::Returning;
     Plan {
@@ -68,7 +68,7 @@ fn run_plan(cursor: Cursor, run: NameRun) -> Plan
 
 // Which of the three lists is taken. A list of candidates counts from two names on, and the second only if it is longer.
 fn plan_names(reply: &[u8]) -> Plan
-    ensures { Plans page037 reply.now result (columnNames page037 reply.now) }
+    ensures { Plans page037 reply.now result (column_names page037 reply.now) }
 {
     let counts = listing::count_names(reply);
     let view = counts.view;
@@ -85,7 +85,7 @@ fn plan_names(reply: &[u8]) -> Plan
 }
 
 fn refused(outcome: Outcome) -> Decision
-    ensures { (room : ℕ) (s : List ℕ) → Decides page037 room s result (refusedWith (refusalOf outcome)) }
+    ensures { (room : ℕ) (s : List ℕ) → Decides page037 room s result (refused_with (refusal_of outcome)) }
 {
     let rule = Rule::Returning;
     let cursor = listing::no_cursor();
@@ -97,7 +97,7 @@ fn refused(outcome: Outcome) -> Decision
 
 // Every refusal is decided here, before the list is written.
 pub fn decide(reply: &[u8], room: usize) -> Decision
-    ensures { Decides page037 room reply.now result (nameScan page037 room reply.now) }
+    ensures { Decides page037 room reply.now result (name_scan page037 room reply.now) }
 {
     if reply.len() > 65536 {
         return refused(Outcome::ReplyTooLong);
@@ -119,9 +119,9 @@ pub fn decide(reply: &[u8], room: usize) -> Decision
 // Writes the first names that a rule lists.
 fn fill_listed(reply: &[u8], rule: Rule, start: Cursor, count: usize, names: &mut [Text])
     requires within_cursor { WithinCursor reply.now start }
-    requires count_listed { count ≤ length (toCome reply.now rule start) }
+    requires count_listed { count ≤ length (to_come reply.now rule start) }
     requires count_in_room { count ≤ length names.old }
-    ensures { names.new ≡ take count (toCome reply.now rule start) ++ drop count names.old }
+    ensures { names.new ≡ take count (to_come reply.now rule start) ++ drop count names.old }
 {
     let mut cursor = start;
     let mut i = 0;
@@ -135,9 +135,9 @@ fn fill_listed(reply: &[u8], rule: Rule, start: Cursor, count: usize, names: &mu
 
 // Writes the names of a run.
 fn fill_run(reply: &[u8], run: NameRun, names: &mut [Text])
-    requires count_of_run { run.count ≡ length (namesOfRun page037 reply.now run) }
+    requires count_of_run { run.count ≡ length (names_of_run page037 reply.now run) }
     requires count_in_room { run.count ≤ length names.old }
-    ensures { names.new ≡ namesOfRun page037 reply.now run ++ drop run.count names.old }
+    ensures { names.new ≡ names_of_run page037 reply.now run ++ drop run.count names.old }
 {
     let count = run.count;
     let mut at = run.start;
@@ -153,9 +153,9 @@ fn fill_run(reply: &[u8], run: NameRun, names: &mut [Text])
 
 // The entry name scan. Nothing is written where it refuses.
 pub fn scan_column_names(reply: &[u8], names: &mut [Text]) -> NamesAnswer
-    ensures refuses { refusalOf result.outcome ≡ (nameScan page037 (length names.old) reply.now).refusal }
-    ensures counts { result.count ≡ length (nameScan page037 (length names.old) reply.now).names }
-    ensures fills { names.new ≡ over (nameScan page037 (length names.old) reply.now).names names.old }
+    ensures refuses { refusal_of result.outcome ≡ (name_scan page037 (length names.old) reply.now).refusal }
+    ensures counts { result.count ≡ length (name_scan page037 (length names.old) reply.now).names }
+    ensures fills { names.new ≡ over (name_scan page037 (length names.old) reply.now).names names.old }
 {
     let decision = decide(reply, names.len());
     let plan = decision.plan;

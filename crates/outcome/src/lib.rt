@@ -2,7 +2,7 @@
 #![tactic(auto)]
 
 ghost use Rattle.std.specs.Prelude.{◌≡◌};
-ghost use Rattle.outcome.specs.Refusal.{refusalOf, is_refused, refusalIs, inNumbers};
+ghost use Rattle.outcome.specs.Refusal.{refusal_of, is_refused, refusal_from, in_numbers};
 
 // EmptyReply to UnexpectedCodePoint are the Rust's refusals; the others are the project's own limits.
 #[derive(Clone, Copy)]
@@ -33,7 +33,7 @@ pub struct Refusal {
 }
 
 fn refused(number: u8, count: u8, first: usize, second: usize) -> Refusal
-    ensures { result ≡ refusalIs number count first second }
+    ensures { result ≡ refusal_from number count first second }
 {
     Refusal {
         number,
@@ -45,7 +45,7 @@ fn refused(number: u8, count: u8, first: usize, second: usize) -> Refusal
 
 // The refusal in numbers, for those who print it or hand it on.
 pub fn refusal_of(outcome: Outcome) -> Refusal
-    ensures { result ≡ inNumbers (refusalOf outcome) }
+    ensures { result ≡ in_numbers (refusal_of outcome) }
 {
     match outcome {
         Outcome::Accepted => refused(0, 0, 0, 0),
@@ -61,7 +61,7 @@ pub fn refusal_of(outcome: Outcome) -> Refusal
 }
 
 pub fn is_refused(outcome: Outcome) -> bool
-    ensures { result ≡ is_refused (refusalOf outcome) }
+    ensures { result ≡ is_refused (refusal_of outcome) }
 {
     refusal_of(outcome).number != 0
 }

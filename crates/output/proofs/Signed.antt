@@ -31,21 +31,21 @@ casts (pos n) f h = (tt, Fits-nat_abs tt f)
 casts (negsuc n) f h = absurd (true≢false h)
 
 module _ (z : ℤ) (f : SFits w32 z) where
-  pub at-least-zero-casts : lt_z (to_z w32 (of_z w32 z)) (pos 0) ≡ false → Casts (to_z w32 (of_z w32 z))
-  at-least-zero-casts h = rw (to_z-of_z f) (casts z f (rw (to_z-of_z f) at h))
+  pub at_least_zero_casts : lt_z (to_z w32 (of_z w32 z)) (pos 0) ≡ false → Casts (to_z w32 (of_z w32 z))
+  at_least_zero_casts h = rw (to_z-of_z f) (casts z f (rw (to_z-of_z f) at h))
 
-  pub at-least-zero-is : nat_abs (to_z w32 (of_z w32 z)) ≡ nat_abs z
-  at-least-zero-is = ap nat_abs (to_z-of_z f)
+  pub at_least_zero_is : nat_abs (to_z w32 (of_z w32 z)) ≡ nat_abs z
+  at_least_zero_is = ap nat_abs (to_z-of_z f)
 
   module _ (h : lt_z (to_z w32 (of_z w32 z)) (pos 0) ≡ true) where
     is : (turned z ≡ pos (nat_abs z - 1)) × (0 < nat_abs z)
     is = below z f (rw (to_z-of_z f) at h)
 
-    pub below-zero-casts : Casts (turned z)
-    below-zero-casts = rw is.0 (tt, record { fits = omega (arith, (Fits-nat_abs {w' = w64} tt f).fits) })
+    pub below_zero_casts : Casts (turned z)
+    below_zero_casts = rw is.0 (tt, record { fits = omega (arith, (Fits-nat_abs {w' = w64} tt f).fits) })
 
-    pub below-zero-fits : Fits w64 (nat_abs (turned z) + 1)
-    below-zero-fits = rw is.0 (record { fits = omega (arith, is.1, (Fits-nat_abs {w' = w64} tt f).fits) })
+    pub below_zero_fits : Fits w64 (nat_abs (turned z) + 1)
+    below_zero_fits = rw is.0 (record { fits = omega (arith, is.1, (Fits-nat_abs {w' = w64} tt f).fits) })
 
-    pub below-zero-is : nat_abs (turned z) + 1 ≡ nat_abs z
-    below-zero-is = rw is.0 (omega (arith, is.1))
+    pub below_zero_is : nat_abs (turned z) + 1 ≡ nat_abs z
+    below_zero_is = rw is.0 (omega (arith, is.1))

@@ -5,13 +5,13 @@
 ghost use Rattle.std.specs.Prelude.{List, ◌≡◌, ℕ, ◌+◌, ◌≤◌, leb, length};
 ghost use Rattle.search.specs.Search.{pick};
 ghost use Rattle.codepage.specs.Page.{page037};
-ghost use Rattle.outcome.specs.Refusal.{refusalOf};
-ghost use Rattle.descriptor.specs.Reading.{countAt};
-ghost use Rattle.scan.specs.Scan.{limitOf};
-ghost use Rattle.plan.specs.Choice.{lastCountAt};
+ghost use Rattle.outcome.specs.Refusal.{refusal_of};
+ghost use Rattle.descriptor.specs.Reading.{count_at};
+ghost use Rattle.scan.specs.Scan.{limit_of};
+ghost use Rattle.plan.specs.Choice.{last_count_at};
 ghost use Rattle.plan.specs.Decision.{Decides};
-ghost use Rattle.plan.specs.Description.{refusedWith, statusOf, description, withCodePoint};
-ghost use Rattle.plan.specs.Plan.{planWith, noColumns, emptyPlan, standardPlan, compactPlan, scanPlan, lastPlan, plan_of, Counted};
+ghost use Rattle.plan.specs.Description.{refused_with, status_of, description, with_code_point};
+ghost use Rattle.plan.specs.Plan.{plan_with, no_columns, empty_plan, standard_plan, compact_plan, scan_plan, last_plan, plan_of, Counted};
 
 use column::Run;
 use compact::Ends;
@@ -44,7 +44,7 @@ fn plan_with(
     limit: usize,
     run: Run,
 ) -> Plan
-    ensures { result ≡ planWith layout order alone start limit run }
+    ensures { result ≡ plan_with layout order alone start limit run }
 {
     Plan {
         layout,
@@ -59,7 +59,7 @@ fn plan_with(
 }
 
 fn no_columns(order: ByteOrder) -> Plan
-    ensures { result ≡ noColumns order }
+    ensures { result ≡ no_columns order }
 {
     plan_with(
         Layout::Standard,
@@ -73,8 +73,8 @@ fn no_columns(order: ByteOrder) -> Plan
 
 // All descriptors that the count announces, or nothing.
 fn standard_plan(reply: &[u8], order: ByteOrder, offset: usize) -> Plan
-    requires { offset ≡ countAt reply.now }
-    ensures { (result ≡ standardPlan page037 order reply.now) × (result.limit ≤ 65535) }
+    requires { offset ≡ count_at reply.now }
+    ensures { (result ≡ standard_plan page037 order reply.now) × (result.limit ≤ 65535) }
 {
     let end = reply.len();
     if end < offset {
@@ -98,7 +98,7 @@ fn standard_plan(reply: &[u8], order: ByteOrder, offset: usize) -> Plan
 }
 
 fn compact_plan(reply: &[u8]) -> Plan
-    ensures { (result ≡ compactPlan page037 reply.now) × (result.limit ≤ 65535) }
+    ensures { (result ≡ compact_plan page037 reply.now) × (result.limit ≤ 65535) }
 {
     let table = compact_table::find_compact_descriptor_table(reply);
     let run = compact::compact_run(Ends::Compact, reply, table.count, table.start);
@@ -113,13 +113,13 @@ fn compact_plan(reply: &[u8]) -> Plan
 }
 
 fn limit_of(best: Best) -> usize
-    ensures { (result ≡ limitOf best) × (result ≤ 512) }
+    ensures { (result ≡ limit_of best) × (result ≤ 512) }
 {
     if 1 <= best.count { 512 } else { 0 }
 }
 
 fn scan_plan(reply: &[u8]) -> Plan
-    ensures { (result ≡ scanPlan page037 reply.now) × (result.limit ≤ 65535) }
+    ensures { (result ≡ scan_plan page037 reply.now) × (result.limit ≤ 65535) }
 {
     let best = scan::scan_standard_sqldagroups(reply);
     let order = best.order;
@@ -138,10 +138,10 @@ fn scan_plan(reply: &[u8]) -> Plan
 }
 
 // A byte FF that was not counted with the groups before stands before the last reader's count.
-#[tactic(auto, unfolding(crate::specs::Choice::lastCountAt))]
+#[tactic(auto, unfolding(crate::specs::Choice::last_count_at))]
 fn last_count_offset(reply: &[u8], offset: usize) -> usize
-    requires { (offset ≡ countAt reply.now) × (offset + 2 ≤ length reply.now) }
-    ensures { (result ≡ lastCountAt reply.now) × (result + 2 ≤ length reply.now) }
+    requires { (offset ≡ count_at reply.now) × (offset + 2 ≤ length reply.now) }
+    ensures { (result ≡ last_count_at reply.now) × (result + 2 ≤ length reply.now) }
 {
     let count = field::u16_at(reply, offset, ByteOrder::LittleEndian);
     if count <= 256 {
@@ -157,7 +157,7 @@ fn last_count_offset(reply: &[u8], offset: usize) -> usize
 }
 
 fn empty_plan(outcome: Outcome) -> Plan
-    ensures { result ≡ emptyPlan outcome }
+    ensures { result ≡ empty_plan outcome }
 {
     Plan {
         layout: Layout::Last,
@@ -173,8 +173,8 @@ fn empty_plan(outcome: Outcome) -> Plan
 
 // The only plan that may be a refusal: it is asked where all four readings gave no column.
 fn last_plan(reply: &[u8], offset: usize) -> Plan
-    requires { offset ≡ countAt reply.now }
-    ensures { (result ≡ lastPlan page037 reply.now) × (result.limit ≤ 65535) }
+    requires { offset ≡ count_at reply.now }
+    ensures { (result ≡ last_plan page037 reply.now) × (result.limit ≤ 65535) }
 {
     let size = reply.len();
     if size == 0 {
@@ -243,7 +243,7 @@ pub fn plan_reply(reply: &[u8]) -> Plan
 }
 
 fn refused(outcome: Outcome) -> Decision
-    ensures { (room : ℕ) (s : List ℕ) → Decides page037 room s result (refusedWith (refusalOf outcome)) }
+    ensures { (room : ℕ) (s : List ℕ) → Decides page037 room s result (refused_with (refusal_of outcome)) }
 {
     Decision {
         plan: empty_plan(Outcome::Accepted),
@@ -257,7 +257,7 @@ fn refused(outcome: Outcome) -> Decision
 
 // Compact and scan read the status alone on the whole reply, the others take the group's.
 fn card_by(reply: &[u8], alone: bool) -> SqlCard
-    ensures { result ≡ statusOf page037 reply.now alone }
+    ensures { result ≡ status_of page037 reply.now alone }
 {
     if alone {
         let read = sqlcard::parse_sqlcard_data(reply);
@@ -297,7 +297,7 @@ pub fn decide(reply: &[u8], room: usize) -> Decision
 
 #[tactic(auto, using(crate::proofs::Deciding::decides_own))]
 pub fn decide_at(code_point: u16, reply: &[u8], room: usize) -> Decision
-    ensures { Decides page037 room reply.now result (withCodePoint page037 room code_point reply.now) }
+    ensures { Decides page037 room reply.now result (with_code_point page037 room code_point reply.now) }
 {
     if code_point == 0x2411 {
         return decide(reply, room);

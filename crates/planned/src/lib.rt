@@ -4,9 +4,9 @@
 ghost use Rattle.std.specs.Prelude.{◌++◌, ◌≡◌, true, ◌+◌, ◌-◌, ◌<◌, ◌≤◌, length, drop};
 ghost use Rattle.codepage.specs.Page.{page037};
 ghost use Rattle.column.specs.Column.{StringsInside};
-ghost use Rattle.column.specs.Numbers.{numbersOf, Fits};
-ghost use Rattle.compact.specs.Compact.{compactAt, endBy};
-ghost use Rattle.planned.specs.Planned.{walk_of, describedBy, Reads};
+ghost use Rattle.column.specs.Numbers.{numbers_of, Fits};
+ghost use Rattle.compact.specs.Compact.{compact_at, end_by};
+ghost use Rattle.planned.specs.Planned.{walk_of, described_by, Reads};
 
 use column::Described;
 use compact::Ends;
@@ -37,8 +37,8 @@ pub struct Plan {
 }
 
 fn read_by_ends(reply: &[u8], ends: Ends, left: usize, offset: usize) -> Described
-    requires { (offset + 16 ≤ endBy ends left reply.now offset) × (offset + 16 ≤ length reply.now) }
-    ensures { (result ≡ compactAt reply.now offset (endBy ends left reply.now offset)) × StringsInside reply.now result }
+    requires { (offset + 16 ≤ end_by ends left reply.now offset) × (offset + 16 ≤ length reply.now) }
+    ensures { (result ≡ compact_at reply.now offset (end_by ends left reply.now offset)) × StringsInside reply.now result }
 {
     let end = compact::compact_end(ends, left, reply, offset);
     compact::read_compact(reply, offset, end)
@@ -47,7 +47,7 @@ fn read_by_ends(reply: &[u8], ends: Ends, left: usize, offset: usize) -> Describ
 // The descriptor at `offset`, with `left` more to come after it.
 fn read_descriptor(reply: &[u8], plan: Plan, left: usize, offset: usize) -> Described
     requires { Reads page037 reply.now plan left offset }
-    ensures { (result ≡ describedBy plan.layout plan.order left reply.now offset) × StringsInside reply.now result }
+    ensures { (result ≡ described_by plan.layout plan.order left reply.now offset) × StringsInside reply.now result }
 {
     let layout = plan.layout;
     let order = plan.order;
@@ -71,7 +71,7 @@ pub fn column_numbers(
     requires reads { Reads page037 reply.now plan (plan.limit - (index + 1)) offset }
     requires in_bounds { 19 ≤ length numbers.old }
     ensures ends { result ≡ (walk_of page037 reply.now plan).end (plan.limit - (index + 1)) offset }
-    ensures writes { numbers.new ≡ numbersOf page037 reply.now index (describedBy plan.layout plan.order (plan.limit - (index + 1)) reply.now offset) ++ drop 19 numbers.old }
+    ensures writes { numbers.new ≡ numbers_of page037 reply.now index (described_by plan.layout plan.order (plan.limit - (index + 1)) reply.now offset) ++ drop 19 numbers.old }
     ensures fits { Fits numbers.new }
 {
     let described = read_descriptor(reply, plan, plan.limit - (index + 1), offset);

@@ -4,26 +4,26 @@
 use Rattle.std.specs.Prelude.{true, List, [], ◌∷◌, ◌≡◌, ◌≤◌, length}
 use Rattle.types.specs.declared.ColumnMetadata.{ColumnMetadata}
 use Rattle.columns.specs.Consistent.{Consistent}
-use Rattle.columns.specs.Cut.{mostColumns, sameCut, cutRefusal, cutAnswer}
-use Rattle.columns.specs.Finer.{coarseCut}
-use Rattle.columns.specs.Row.{largeRefusal, rowRefusal, rowAnswer}
+use Rattle.columns.specs.Cut.{most_columns, same_cut, cut_refusal, cut_answer}
+use Rattle.columns.specs.Finer.{coarse_cut}
+use Rattle.columns.specs.Row.{large_refusal, row_refusal, row_answer}
 
 -- one list: numbered in order, each code its type's; few enough for same cut and widest row (01, Answers; 01, Numbers of refusal)
 pub record Listed (l : List ColumnMetadata) : Type 0 where
   pub consistent : Consistent l
-  pub few : length l ≤ mostColumns
+  pub few : length l ≤ most_columns
   -- so widest row does not refuse it with 5
-  pub row : rowRefusal l ≡ largeRefusal l
+  pub row : row_refusal l ≡ large_refusal l
 
 -- widest row says the same of both lists (01, Answers: widest row; 01, Numbers of refusal: widest row)
 pub record SameRow (a b : List ColumnMetadata) : Type 0 where
-  pub refusal : rowRefusal a ≡ rowRefusal b
-  pub answer : rowAnswer a ≡ rowAnswer b
+  pub refusal : row_refusal a ≡ row_refusal b
+  pub answer : row_answer a ≡ row_answer b
 
 -- two lists: same cut does not refuse them; where the rule before T-05 says yes, widest row says the same of both, and so where same cut does
 -- (01, Answers: same cut, widest row; 02, T-05)
 pub record Compared (a b : List ColumnMetadata) : Type 0 where
-  pub accepts : cutRefusal a b ≡ 0 ∷ []
-  pub answers : cutAnswer a b ≡ sameCut a b
-  pub coarse-rows : coarseCut a b ≡ true → SameRow a b
-  pub rows : sameCut a b ≡ true → SameRow a b
+  pub accepts : cut_refusal a b ≡ 0 ∷ []
+  pub answers : cut_answer a b ≡ same_cut a b
+  pub coarse_rows : coarse_cut a b ≡ true → SameRow a b
+  pub rows : same_cut a b ≡ true → SameRow a b

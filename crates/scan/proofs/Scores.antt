@@ -11,18 +11,18 @@ use mir.Val.{SFits, to_z, of_z}
 use mir.Facts.{to_z-of_z, to_z_pos}
 use borrow.Author.Tests.{lt-ltb, le-ltb, ltb-true, ltb-false, le-leb, lt-leb}
 use Rattle.scan.specs.declared.Best.{Best}
-use Rattle.scan.specs.Score.{exactScore}
+use Rattle.scan.specs.Score.{exact_score}
 use Rattle.scan.specs.Scan.{score, better}
 
 -- ---- the machine's difference
 
-minus-le : (a b : ℕ) → b ≤ a → pos a -ℤ pos b ≡ pos (a - b)
-minus-le a zero h = let e : a + 0 ≡ a - 0 = omega arith in ap pos e
-minus-le a (suc b) h = ap (λ (t : Bool). cond t (negsuc (suc b - suc a)) (pos (a - suc b))) (le-ltb a (suc b) h)
+minus_le : (a b : ℕ) → b ≤ a → pos a -ℤ pos b ≡ pos (a - b)
+minus_le a zero h = let e : a + 0 ≡ a - 0 = omega arith in ap pos e
+minus_le a (suc b) h = ap (λ (t : Bool). cond t (negsuc (suc b - suc a)) (pos (a - suc b))) (le-ltb a (suc b) h)
 
-minus-lt : (a b : ℕ) → a < b → pos a -ℤ pos b ≡ negsuc (b - suc a)
-minus-lt a zero h = absurd (omega arith)
-minus-lt a (suc b) h = ap (λ (t : Bool). cond t (negsuc (suc b - suc a)) (pos (a - suc b))) (lt-ltb a (suc b) h)
+minus_lt : (a b : ℕ) → a < b → pos a -ℤ pos b ≡ negsuc (b - suc a)
+minus_lt a zero h = absurd (omega arith)
+minus_lt a (suc b) h = ap (λ (t : Bool). cond t (negsuc (suc b - suc a)) (pos (a - suc b))) (lt-ltb a (suc b) h)
 
 split : (a b : ℕ) (P : Type 0) → (a < b → P) → (b ≤ a → P) → P
 split a b P f g = go (ltb a b) refl
@@ -38,14 +38,14 @@ module _ (a b : ℕ) (ha : a < 2 ^ 63) (hb : b < 2 ^ 63) where
 
   small : SFits w64 (pos a -ℤ pos b)
   small =
-      split a b (SFits w64 (pos a -ℤ pos b)) (λ l. subst (SFits w64) (sym (minus-lt a b l)) (record { sfits = omega arith }))
-      (λ l. subst (SFits w64) (sym (minus-le a b l)) (record { sfits = omega arith }))
+      split a b (SFits w64 (pos a -ℤ pos b)) (λ l. subst (SFits w64) (sym (minus_lt a b l)) (record { sfits = omega arith }))
+      (λ l. subst (SFits w64) (sym (minus_le a b l)) (record { sfits = omega arith }))
 
-  pub minus-fits : SFits w64 (to_z w64 a -ℤ to_z w64 b)
-  minus-fits = subst (SFits w64) (sym reads) small
+  pub minus_fits : SFits w64 (to_z w64 a -ℤ to_z w64 b)
+  minus_fits = subst (SFits w64) (sym reads) small
 
   pub minus_is : to_z w64 (of_z w64 (to_z w64 a -ℤ to_z w64 b)) ≡ pos a -ℤ pos b
-  minus_is = to_z-of_z minus-fits ∙ reads
+  minus_is = to_z-of_z minus_fits ∙ reads
 
 pub back64 : (z : ℤ) → mag z < 0x8000_0000_0000_0000 → to_z w64 (of_z w64 z) ≡ z
 back64 z h = to_z-of_z {w = w64} {z = z} (record { sfits = h })
@@ -53,20 +53,20 @@ back64 z h = to_z-of_z {w = w64} {z = z} (record { sfits = h })
 -- ---- the score
 
 module _ (x : Best) where
-  pub score-one : x.count < 2 → pos 0 ≡ score x
+  pub score_one : x.count < 2 → pos 0 ≡ score x
   unfolding score
-  score-one h = rw (lt-leb 2 x.count h) refl
+  score_one h = rw (lt-leb 2 x.count h) refl
 
-  pub score-none : 2 ≤ x.count → x.named ≡ 0 → pos 0 ≡ score x
+  pub score_none : 2 ≤ x.count → x.named ≡ 0 → pos 0 ≡ score x
   unfolding score
-  score-none h e = rw (le-leb 2 x.count h, lt-leb 1 x.named (omega arith)) refl
+  score_none h e = rw (le-leb 2 x.count h, lt-leb 1 x.named (omega arith)) refl
 
-  pub score-is : (z : ℤ) → 2 ≤ x.count → (x.named ≡ 0 → ⊥) → z ≡ exactScore x.named x.count (x.count - x.named) → z ≡ score x
+  pub score_is : (z : ℤ) → 2 ≤ x.count → (x.named ≡ 0 → ⊥) → z ≡ exact_score x.named x.count (x.count - x.named) → z ≡ score x
   unfolding score
-  score-is z h e f = rw (le-leb 2 x.count h, le-leb 1 x.named (omega arith)) f
+  score_is z h e f = rw (le-leb 2 x.count h, le-leb 1 x.named (omega arith)) f
 
 -- a and b are the machine's scores of x and y
-pub better-is : (x y : Best) (a b : ℤ) → mag a < 0x8000_0000_0000_0000 → mag b < 0x8000_0000_0000_0000 → a ≡ score x → b ≡ score y
+pub better_is : (x y : Best) (a b : ℤ) → mag a < 0x8000_0000_0000_0000 → mag b < 0x8000_0000_0000_0000 → a ≡ score x → b ≡ score y
     → lt_z (to_z w64 (of_z w64 b)) (to_z w64 (of_z w64 a)) ≡ better x y
-better-is x y a b k l e f =
+better_is x y a b k l e f =
     ap (λ (z : ℤ). lt_z z (to_z w64 (of_z w64 a))) (back64 b l ∙ f) ∙ ap (λ (z : ℤ). lt_z (score y) z) (back64 a k ∙ e)

@@ -7,13 +7,13 @@ use Rattle.codepage.specs.Page.{Page}
 use Rattle.field.specs.declared.ByteOrder.{ByteOrder}
 use Rattle.field.specs.declared.ByteOrder.TheVariants.{BigEndian, LittleEndian}
 use Rattle.types.specs.declared.ColumnMetadata.{ColumnMetadata}
-use Rattle.descriptor.specs.Run.{standardWalk, standardRun}
+use Rattle.descriptor.specs.Run.{standard_walk, standard_run}
 use Rattle.scan.specs.declared.Best.{Best}
-use Rattle.scan.specs.Score.{exactScore}
+use Rattle.scan.specs.Score.{exact_score}
 
 -- a run's score, 0 unless it has two or more columns, at least one of them named: 0 replaces nothing (01, Choice)
 unfoldable pub score : Best → ℤ
-score x = pick (leb 2 x.count && leb 1 x.named) (exactScore x.named x.count (x.count - x.named)) (pos 0)
+score x = pick (leb 2 x.count && leb 1 x.named) (exact_score x.named x.count (x.count - x.named)) (pos 0)
 
 -- only a strictly greater score replaces (01, Choice)
 abbrev pub better : Best → Best → Bool
@@ -26,23 +26,23 @@ no_run = record { start = 0; order = BigEndian; count = 0; named = 0 }
 -- the run from p on, up to 512 columns (01, Choice: from each start, up to 512)
 unfoldable pub run_from : Page → ByteOrder → List ℕ → ℕ → Best
 run_from page order s p =
-    record { start = p; order = order; count = (standardRun page order s 512 p).count; named = (standardRun page order s 512 p).named }
+    record { start = p; order = order; count = (standard_run page order s 512 p).count; named = (standard_run page order s 512 p).named }
 
 -- the best of x and the runs in one byte order, from each start before the last 17 bytes (01, Choice)
-unfoldable pub scanOrder : Page → ByteOrder → List ℕ → Best → Best
-scanOrder page order s x = best better (run_from page order s) 0 (length s - 17) x
+unfoldable pub scan_order : Page → ByteOrder → List ℕ → Best → Best
+scan_order page order s x = best better (run_from page order s) 0 (length s - 17) x
 
 -- the best run, BE then LE (01, Choice: only a strictly greater score, above 0, replaces)
-unfoldable pub scanBest : Page → List ℕ → Best
-scanBest page s = scanOrder page LittleEndian s (scanOrder page BigEndian s no_run)
+unfoldable pub scan_best : Page → List ℕ → Best
+scan_best page s = scan_order page LittleEndian s (scan_order page BigEndian s no_run)
 
 -- how many columns may be read from its start: up to 512, none where there is no run (01, Choice: read again from its start)
-abbrev pub limitOf : Best → ℕ
-limitOf x = pick (leb 1 x.count) 512 0
+abbrev pub limit_of : Best → ℕ
+limit_of x = pick (leb 1 x.count) 512 0
 
 -- the columns of the best run, read again from its start, none where there is no such run (01, Forms that must change: Best run)
-unfoldable pub scanColumns : Page → List ℕ → List ColumnMetadata
-scanColumns page s = chain (standardWalk page (scanBest page s).order s) (limitOf (scanBest page s)) 0 (scanBest page s).start
+unfoldable pub scan_columns : Page → List ℕ → List ColumnMetadata
+scan_columns page s = chain (standard_walk page (scan_best page s).order s) (limit_of (scan_best page s)) 0 (scan_best page s).start
 
 -- what holds of a run: few columns, and no more of them named (01, Choice: up to 512)
 pub record Few (x : Best) : Type 0 where

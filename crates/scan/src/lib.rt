@@ -4,8 +4,8 @@
 ghost use Rattle.std.specs.Prelude.{◌≡◌, ◌+◌, ◌≤◌, length};
 ghost use Rattle.search.specs.Walks.{keep};
 ghost use Rattle.codepage.specs.Page.{page037};
-ghost use Rattle.scan.specs.Score.{exactScore};
-ghost use Rattle.scan.specs.Scan.{score, better, run_from, scanOrder, scanBest, Few, InHand};
+ghost use Rattle.scan.specs.Score.{exact_score};
+ghost use Rattle.scan.specs.Scan.{score, better, run_from, scan_order, scan_best, Few, InHand};
 
 use field::ByteOrder;
 
@@ -21,7 +21,7 @@ pub struct Best {
 // Exact: the Rust's own subtraction overflows where the generated columns outweigh the named ones.
 pub fn exact_score(named: usize, columns: usize, generated: usize) -> i64
     requires { (named ≤ 512) × ((columns ≤ 512) × (generated ≤ 512)) }
-    ensures { result ≡ exactScore named columns generated }
+    ensures { result ≡ exact_score named columns generated }
 {
     ((named * 2048 + columns) as i64) - ((generated * 1024) as i64)
 }
@@ -89,7 +89,7 @@ fn best_with_start(reply: &[u8], order: ByteOrder, best: Best, start: usize) -> 
 
 fn scan_order(reply: &[u8], order: ByteOrder, from: Best) -> Best
     requires { InHand from }
-    ensures { (result ≡ scanOrder page037 order reply.now from) × (InHand result) }
+    ensures { (result ≡ scan_order page037 order reply.now from) × (InHand result) }
 {
     if reply.len() < 18 {
         return from;
@@ -106,7 +106,7 @@ fn scan_order(reply: &[u8], order: ByteOrder, from: Best) -> Best
 
 // The best run; one without columns where none counts.
 pub fn scan_standard_sqldagroups(reply: &[u8]) -> Best
-    ensures { (result ≡ scanBest page037 reply.now) × (Few result) }
+    ensures { (result ≡ scan_best page037 reply.now) × (Few result) }
 {
     let none = Best {
         start: 0,

@@ -9,18 +9,18 @@ use lib.Seq.{drop-cons}
 use Rattle.search.specs.Search.{each}
 
 -- the list from i on is its element at i, and the list from i + 1 on
-pub drop-next : {A : Type 0} (l : List A) (i : ℕ) (d : A) → i < length l → drop i l ≡ get_or l i d ∷ drop (i + 1) l
-drop-next l i d h = rw (add-one i) (drop-cons l i d h)
+pub drop_next : {A : Type 0} (l : List A) (i : ℕ) (d : A) → i < length l → drop i l ≡ get_or l i d ∷ drop (i + 1) l
+drop_next l i d h = rw (add-one i) (drop-cons l i d h)
 
 module _ {A : Type 0} (f : A → Bool) (l : List A) (d : A) (i : ℕ) (t : Bool) (e : t ≡ each f (drop i l)) where
   turn : i < length l → t ≡ (f (get_or l i d) && each f (drop (i + 1) l))
-  turn h = e ∙ ap (each f) (drop-next l i d h)
+  turn h = e ∙ ap (each f) (drop_next l i d h)
 
   pub each_more : i < length l → f (get_or l i d) ≡ true → t ≡ each f (drop (i + 1) l)
   each_more h g = turn h ∙ rw g refl
 
-  pub each-fails : i < length l → f (get_or l i d) ≡ false → false ≡ t
-  each-fails h g = sym (turn h ∙ rw g refl)
+  pub each_fails : i < length l → f (get_or l i d) ≡ false → false ≡ t
+  each_fails h g = sym (turn h ∙ rw g refl)
 
-  pub each-done : length l ≤ i → true ≡ t
-  each-done h = sym (e ∙ ap (each f) (drop_of_length-le l h))
+  pub each_done : length l ≤ i → true ≡ t
+  each_done h = sym (e ∙ ap (each f) (drop_of_length-le l h))

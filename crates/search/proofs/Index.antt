@@ -36,11 +36,11 @@ pub record Found (f : ℕ → Bool) (i n t : ℕ) : Type 0 where
   pub before : (j : ℕ) → i ≤ j → j < t → f j ≡ false
   pub passes : t < n → f t ≡ true
 
-firstOf-is : (f : ℕ → Bool) (k i : ℕ) → Found f i (i + k) (first_of f k i)
+first_of_is : (f : ℕ → Bool) (k i : ℕ) → Found f i (i + k) (first_of f k i)
 unfolding first_of
-firstOf-is f zero i =
+first_of_is f zero i =
     record { from = omega arith; to = λ h. omega arith; before = λ j h g. absurd (omega arith); passes = λ h. absurd (omega arith) }
-firstOf-is f (suc k) i = go (f i) refl (firstOf-is f k (suc i))
+first_of_is f (suc k) i = go (f i) refl (first_of_is f k (suc i))
   where
     go : (b : Bool) → f i ≡ b → Found f (suc i) (suc i + k) (first_of f k (suc i)) → Found f i (i + suc k) (pick b i (first_of f k (suc i)))
     go true e r = record { from = omega arith; to = λ h. omega arith; before = λ j h g. absurd (omega arith); passes = λ h. e }
@@ -56,22 +56,22 @@ firstOf-is f (suc k) i = go (f i) refl (firstOf-is f k (suc i))
         at j h g true u = ap f (sym (eqb-true i j u)) ∙ e
         at j h g false u = let z = eqb-false i j u in r.before j (omega arith) g
 
-pub first-is : (f : ℕ → Bool) (i n : ℕ) → i ≤ n → Found f i n (first f i n)
+pub first_is : (f : ℕ → Bool) (i n : ℕ) → i ≤ n → Found f i n (first f i n)
 unfolding first
-first-is f i n h =
+first_is f i n h =
     let e : i + (n - i) ≡ n = omega arith in
-    subst (λ (m : ℕ). Found f i m (first_of f (n - i) i)) e (firstOf-is f (n - i) i)
+    subst (λ (m : ℕ). Found f i m (first_of f (n - i) i)) e (first_of_is f (n - i) i)
 
 -- where none from i on passes, none from j on does
-pub first-none : (f : ℕ → Bool) (i j n : ℕ) → i ≤ j → n ≤ first f i n → n ≤ first f j n
-first-none f i j n h g = go (leb j n) refl
+pub first_none : (f : ℕ → Bool) (i j n : ℕ) → i ≤ j → n ≤ first f i n → n ≤ first f j n
+first_none f i j n h g = go (leb j n) refl
   where
     go : (b : Bool) → leb j n ≡ b → n ≤ first f j n
     go false e = let u = leb-false j n e in let d = first_done f n j (first f j n) refl (omega arith) in omega arith
     go true e =
         let u = leb-true j n e in
-        let a = first-is f i n (omega arith) in
-        let b = first-is f j n u in
+        let a = first_is f i n (omega arith) in
+        let b = first_is f j n u in
         at (ltb (first f j n) n) refl a b
       where
         at : (c : Bool) → ltb (first f j n) n ≡ c → Found f i n (first f i n) → Found f j n (first f j n) → n ≤ first f j n

@@ -7,7 +7,7 @@ use Prim.Native.Nat.{ℕ, zero, suc, ◌<◌}
 use native.Mathlib.Nat.{le_of_suc-le-suc, not-suc-le-zero, eq-or-lt_of_le}
 use lib.Dec.{T}
 use lib.ListN.{length, get_or}
-use Rattle.search.specs.Search.{pick, below, each, firstIn}
+use Rattle.search.specs.Search.{pick, below, each, first_in}
 
 pub and_left : (a b : Bool) → T (a && b) → T a
 and_left true b t = tt
@@ -42,19 +42,19 @@ each_at f (x ∷ xs) d t zero h = and_left (f x) (each f xs) t
 each_at f (x ∷ xs) d t (suc k) h = each_at f xs d (and_right (f x) (each f xs) t) k (le_of_suc-le-suc h)
 
 -- a test that both pass is passed by the one that is picked
-pub pick-passes : {A : Type 0} (f : A → Bool) (b : Bool) (x y : A) → T (f x) → T (f y) → T (f (pick b x y))
-pick-passes f true x y p q = p
-pick-passes f false x y p q = q
+pub pick_passes : {A : Type 0} (f : A → Bool) (b : Bool) (x y : A) → T (f x) → T (f y) → T (f (pick b x y))
+pick_passes f true x y p q = p
+pick_passes f false x y p q = q
 
 -- a test that every element and the default pass is passed by what a search finds
-pub found-passes : {A : Type 0} (f g : A → Bool) (l : List A) (d : A) → T (each f l) → T (f d) → T (f (firstIn g l d))
-found-passes f g [] d p q = q
-found-passes f g (x ∷ xs) d p q =
-    pick-passes f (g x) x (firstIn g xs d) (and_left (f x) (each f xs) p)
-    (found-passes f g xs d (and_right (f x) (each f xs) p) q)
+pub found_passes : {A : Type 0} (f g : A → Bool) (l : List A) (d : A) → T (each f l) → T (f d) → T (f (first_in g l d))
+found_passes f g [] d p q = q
+found_passes f g (x ∷ xs) d p q =
+    pick_passes f (g x) x (first_in g xs d) (and_left (f x) (each f xs) p)
+    (found_passes f g xs d (and_right (f x) (each f xs) p) q)
 
 -- a search that no element which passes a test can end finds none, if all pass it
-pub firstIn-none : {A : Type 0} (f g : A → Bool) (l : List A) (d : A) → T (each f l) → ((x : A) → T (f x) → g x ≡ false) → firstIn g l d ≡ d
-firstIn-none f g [] d p h = refl
-firstIn-none f g (x ∷ xs) d p h =
-    rw (h x (and_left (f x) (each f xs) p)) (firstIn-none f g xs d (and_right (f x) (each f xs) p) h)
+pub first_in_none : {A : Type 0} (f g : A → Bool) (l : List A) (d : A) → T (each f l) → ((x : A) → T (f x) → g x ≡ false) → first_in g l d ≡ d
+first_in_none f g [] d p h = refl
+first_in_none f g (x ∷ xs) d p h =
+    rw (h x (and_left (f x) (each f xs) p)) (first_in_none f g xs d (and_right (f x) (each f xs) p) h)

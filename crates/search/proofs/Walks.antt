@@ -17,10 +17,10 @@ pub record Walking {A : Type 0} (w : Walk A) (f : A → Bool) (n p₀ i m p : �
   pub steps : length (chain w n 0 p₀) ≡ i + length (chain w (n - i) i p)
   pub holds : count f (chain w n 0 p₀) ≡ m + count f (chain w (n - i) i p)
 
-pub chain-le : {A : Type 0} (w : Walk A) (k i p : ℕ) → length (chain w k i p) ≤ k
+pub chain_le : {A : Type 0} (w : Walk A) (k i p : ℕ) → length (chain w k i p) ≤ k
 unfolding chain
-chain-le w zero i p = le_refl 0
-chain-le w (suc k) i p = go (w.reads p (w.end k p)) (chain-le w k (suc i) (w.end k p))
+chain_le w zero i p = le_refl 0
+chain_le w (suc k) i p = go (w.reads p (w.end k p)) (chain_le w k (suc i) (w.end k p))
   where
     go : (b : Bool) → length (chain w k (suc i) (w.end k p)) ≤ k
         → length (pick b (w.view i p (w.end k p) ∷ chain w k (suc i) (w.end k p)) []) ≤ suc k
@@ -28,8 +28,8 @@ chain-le w (suc k) i p = go (w.reads p (w.end k p)) (chain-le w k (suc i) (w.end
     go false h = omega arith
 
 module _ {A : Type 0} (w : Walk A) (f : A → Bool) (n p₀ : ℕ) where
-  pub walking-none : Walking w f n p₀ 0 0 p₀
-  walking-none =
+  pub walking_none : Walking w f n p₀ 0 0 p₀
+  walking_none =
       let e : n ≡ n - 0 = omega arith in
       record {
         below = omega arith;
@@ -47,9 +47,9 @@ module _ {A : Type 0} (w : Walk A) (f : A → Bool) (n p₀ : ℕ) where
         ap (λ (j : ℕ). chain w j i p) k ∙ rw (add-one i) refl
 
     -- one step more: q is its end, x what is found there, b whether f holds of it, m' the new count
-    pub walking-more : (q m' : ℕ) (b : Bool) → i < n → q ≡ w.end (n - (i + 1)) p → w.reads p q ≡ true → b ≡ f (w.view i p q) → m' ≡ m + pick b 1 0
+    pub walking_more : (q m' : ℕ) (b : Bool) → i < n → q ≡ w.end (n - (i + 1)) p → w.reads p q ≡ true → b ≡ f (w.view i p q) → m' ≡ m + pick b 1 0
         → Walking w f n p₀ (i + 1) m' q
-    walking-more q m' b h e g u v =
+    walking_more q m' b h e g u v =
         let z : chain w (n - i) i p ≡ w.view i p q ∷ chain w (n - (i + 1)) (i + 1) q =
         turn h ∙ rw (← e, g) refl in
         let y = ap (count f) z in
@@ -73,20 +73,20 @@ module _ {A : Type 0} (w : Walk A) (f : A → Bool) (n p₀ : ℕ) where
         (omega (arith, t.steps), omega (arith, t.holds))
 
     -- no further step: it cannot be made, or n are made
-    pub walking-stop : (q : ℕ) → i < n → q ≡ w.end (n - (i + 1)) p → w.reads p q ≡ false → (i ≡ length (chain w n 0 p₀)) × (m ≡ count f (chain w n 0 p₀))
-    walking-stop q h e g = over (turn h ∙ rw (← e, g) refl)
+    pub walking_stop : (q : ℕ) → i < n → q ≡ w.end (n - (i + 1)) p → w.reads p q ≡ false → (i ≡ length (chain w n 0 p₀)) × (m ≡ count f (chain w n 0 p₀))
+    walking_stop q h e g = over (turn h ∙ rw (← e, g) refl)
 
-    pub walking-done : n ≤ i → (i ≡ length (chain w n 0 p₀)) × (m ≡ count f (chain w n 0 p₀))
+    pub walking_done : n ≤ i → (i ≡ length (chain w n 0 p₀)) × (m ≡ count f (chain w n 0 p₀))
     unfolding chain
-    walking-done h =
+    walking_done h =
         let k : n - i ≡ 0 = omega arith in
         over (ap (λ (j : ℕ). chain w j i p) k)
 
     -- a step before the last can be made, and adds what it finds: for who writes the list down
-    pub walking-reads : i < length (chain w n 0 p₀) → (i < n) × (w.reads p (w.end (n - (i + 1)) p) ≡ true)
+    pub walking_reads : i < length (chain w n 0 p₀) → (i < n) × (w.reads p (w.end (n - (i + 1)) p) ≡ true)
         × (chain w (n - i) i p ≡ w.view i p (w.end (n - (i + 1)) p) ∷ chain w (n - (i + 1)) (i + 1) (w.end (n - (i + 1)) p))
-    walking-reads h =
-        let l = chain-le w n 0 p₀ in
+    walking_reads h =
+        let l = chain_le w n 0 p₀ in
         let j : i < n = omega arith in
         go j (w.reads p (w.end (n - (i + 1)) p)) refl (turn j)
       where

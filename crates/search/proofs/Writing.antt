@@ -19,9 +19,9 @@ module _ {A : Type 0} where
   writing_start l₀ whole = record { done = refl; rest = refl; as_long = refl }
 
   -- a block of what comes, n elements, is stored from i on
-  pub writing-block : {l₀ l todo whole : List A} {i : ℕ} (b l' : List A) (n : ℕ) → length b ≡ n → i + n ≤ length l
+  pub writing_block : {l₀ l todo whole : List A} {i : ℕ} (b l' : List A) (n : ℕ) → length b ≡ n → i + n ≤ length l
       → l' ≡ take i l ++ (b ++ drop (i + n) l) → Writing l₀ l (b ++ todo) whole i → Writing l₀ l' todo whole (i + n)
-  writing-block {l₀} {l} {todo} {whole} {i} b l' n e h f w =
+  writing_block {l₀} {l} {todo} {whole} {i} b l' n e h f w =
       let front : List A = take i l ++ b in
       let back : List A = drop (i + n) l in
       let split : l' ≡ front ++ back = f ∙ sym (append_assoc (take i l) b back) in
@@ -33,18 +33,18 @@ module _ {A : Type 0} where
       }
 
   -- one element, the first of what comes, is stored at i
-  pub writing-next : {l₀ l todo whole : List A} {i : ℕ} (a : A) → i < length l → Writing l₀ l (a ∷ todo) whole i → Writing l₀ (set l i a) todo whole (i + 1)
-  writing-next {l₀} {l} {todo} {whole} {i} a h w =
-      writing-block (a ∷ []) (set l i a) 1 refl (omega arith) (rw (add-one i) (set_split l i a h)) w
+  pub writing_next : {l₀ l todo whole : List A} {i : ℕ} (a : A) → i < length l → Writing l₀ l (a ∷ todo) whole i → Writing l₀ (set l i a) todo whole (i + 1)
+  writing_next {l₀} {l} {todo} {whole} {i} a h w =
+      writing_block (a ∷ []) (set l i a) 1 refl (omega arith) (rw (add-one i) (set_split l i a h)) w
 
   -- nothing is left to come
-  pub writing-end : {l₀ l whole : List A} {i : ℕ} → Writing l₀ l [] whole i → l ≡ whole ++ drop i l₀
-  writing-end {l₀} {l} {whole} {i} w =
+  pub writing_end : {l₀ l whole : List A} {i : ℕ} → Writing l₀ l [] whole i → l ≡ whole ++ drop i l₀
+  writing_end {l₀} {l} {whole} {i} w =
       sym (take-append-drop i l) ∙ ap (λ (x : List A). x ++ drop i l) (sym (append-nil (take i l)) ∙ w.done) ∙ ap (λ (x : List A). whole ++ x) w.rest
 
 -- blocks of n elements, one for each of a list, are n times as many
-pub blocks-length : {A B : Type 0} (f : A → List B) (n : ℕ) → ((a : A) → length (f a) ≡ n) → (l : List A) → length (flat_map f l) ≡ length l * n
+pub blocks_length : {A B : Type 0} (f : A → List B) (n : ℕ) → ((a : A) → length (f a) ≡ n) → (l : List A) → length (flat_map f l) ≡ length l * n
 unfolding flat_map
-blocks-length f n h [] = sym (zero-mul n)
-blocks-length f n h (a ∷ l) =
-    omega (arith, length-append (f a) (flat_map f l), h a, blocks-length f n h l, suc-mul (length l) n)
+blocks_length f n h [] = sym (zero-mul n)
+blocks_length f n h (a ∷ l) =
+    omega (arith, length-append (f a) (flat_map f l), h a, blocks_length f n h l, suc-mul (length l) n)

@@ -27,9 +27,9 @@ count f [] = 0
 count f (x ∷ xs) = pick (f x) 1 0 + count f xs
 
 -- the first element that passes the test, else d
-abbrev pub firstIn : {A : Type 0} → (A → Bool) → List A → A → A
-firstIn f [] d = d
-firstIn f (x ∷ xs) d = pick (f x) x (firstIn f xs d)
+abbrev pub first_in : {A : Type 0} → (A → Bool) → List A → A → A
+first_in f [] d = d
+first_in f (x ∷ xs) d = pick (f x) x (first_in f xs d)
 
 -- two lists are equally long, and the test holds of each two elements at the same place
 abbrev pub alike : {A : Type 0} → (A → A → Bool) → List A → List A → Bool

@@ -17,13 +17,13 @@ unfoldable pub keep : {X : Type 0} → (X → X → Bool) → X → X → X
 keep better x y = pick (better y x) y x
 
 -- the best of x and f at k indices from i on, the earliest of equals
-unfoldable pub bestOf : {X : Type 0} → (X → X → Bool) → (ℕ → X) → ℕ → ℕ → X → X
-bestOf better f zero i x = x
-bestOf better f (suc k) i x = bestOf better f k (suc i) (keep better x (f i))
+unfoldable pub best_of : {X : Type 0} → (X → X → Bool) → (ℕ → X) → ℕ → ℕ → X → X
+best_of better f zero i x = x
+best_of better f (suc k) i x = best_of better f k (suc i) (keep better x (f i))
 
 -- the best of x and f at each index from i on and below n
 unfoldable pub best : {X : Type 0} → (X → X → Bool) → (ℕ → X) → ℕ → ℕ → X → X
-best better f i n x = bestOf better f (n - i) i x
+best better f i n x = best_of better f (n - i) i x
 
 -- a walk: where what stands at a position ends, if k more are to come after it; whether it can be read, by its position and its end; and what
 -- it is, under a number

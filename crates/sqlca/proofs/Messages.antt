@@ -7,58 +7,58 @@ use lib.ListN.{length}
 use Rattle.search.specs.Search.{pick}
 use Rattle.codepage.specs.Page.{Page}
 use Rattle.strings.specs.declared.StringRead.{StringRead}
-use Rattle.strings.specs.Strings.{stringEnd, stringsEnd, stringAt, noString}
-use Rattle.strings.proofs.Strings.{string-next, string-inside}
-use Rattle.message.specs.Message.{hasText}
-use Rattle.sqlca.specs.Message.{bytes_of, firstText, messageAt}
+use Rattle.strings.specs.Strings.{string_end, strings_end, string_at, no_string}
+use Rattle.strings.proofs.Strings.{string_next, string_inside}
+use Rattle.message.specs.Message.{has_text}
+use Rattle.sqlca.specs.Message.{bytes_of, first_text, message_at}
 
 module _ (page : Page) (s : List ℕ) (m t : StringRead) where
   abbrev chosen : Bool → Bool → StringRead
-  chosen a b = pick a (record { place = m.place; length = m.length; next = t.next }) (pick b t (noString t.next))
+  chosen a b = pick a (record { place = m.place; length = m.length; next = t.next }) (pick b t (no_string t.next))
 
-  first-text : (a b : Bool) → hasText page (bytes_of s m) ≡ a → hasText page (bytes_of s t) ≡ b → firstText page s m t ≡ chosen a b
-  unfolding firstText
-  first-text a b e f = λ i. chosen (e i) (f i)
+  first_text_is : (a b : Bool) → has_text page (bytes_of s m) ≡ a → has_text page (bytes_of s t) ≡ b → first_text page s m t ≡ chosen a b
+  unfolding first_text
+  first_text_is a b e f = λ i. chosen (e i) (f i)
 
 -- past both, whichever it is
-pub first_next : (page : Page) (s : List ℕ) (m t : StringRead) → (firstText page s m t).next ≡ t.next
+pub first_next : (page : Page) (s : List ℕ) (m t : StringRead) → (first_text page s m t).next ≡ t.next
 first_next page s m t = go _ _ refl refl
   where
-    go : (a b : Bool) → hasText page (bytes_of s m) ≡ a → hasText page (bytes_of s t) ≡ b → (firstText page s m t).next ≡ t.next
-    go true b e f = ap (λ (r : StringRead). r.next) (first-text page s m t true b e f)
-    go false true e f = ap (λ (r : StringRead). r.next) (first-text page s m t false true e f)
-    go false false e f = ap (λ (r : StringRead). r.next) (first-text page s m t false false e f)
+    go : (a b : Bool) → has_text page (bytes_of s m) ≡ a → has_text page (bytes_of s t) ≡ b → (first_text page s m t).next ≡ t.next
+    go true b e f = ap (λ (r : StringRead). r.next) (first_text_is page s m t true b e f)
+    go false true e f = ap (λ (r : StringRead). r.next) (first_text_is page s m t false true e f)
+    go false false e f = ap (λ (r : StringRead). r.next) (first_text_is page s m t false false e f)
 
 -- past the three strings
-pub message-next : (page : Page) (s : List ℕ) (p : ℕ) → (messageAt page s p).next ≡ stringsEnd 3 s p
-unfolding messageAt stringsEnd
-message-next page s p = first_next page s (stringAt s (stringEnd s p)) (stringAt s (stringsEnd 2 s p)) ∙ string-next s (stringsEnd 2 s p)
+pub message_next : (page : Page) (s : List ℕ) (p : ℕ) → (message_at page s p).next ≡ strings_end 3 s p
+unfolding message_at strings_end
+message_next page s p = first_next page s (string_at s (string_end s p)) (string_at s (strings_end 2 s p)) ∙ string_next s (strings_end 2 s p)
 
 -- the three strings, as the reader finds them one after the other
-module _ (page : Page) (s : List ℕ) (p : ℕ) (rdb m t : StringRead) (x : rdb ≡ stringAt s p) (y : m ≡ stringAt s rdb.next) (z : t ≡ stringAt s m.next)
+module _ (page : Page) (s : List ℕ) (p : ℕ) (rdb m t : StringRead) (x : rdb ≡ string_at s p) (y : m ≡ string_at s rdb.next) (z : t ≡ string_at s m.next)
   where
-    m-is : m ≡ stringAt s (stringEnd s p)
-    m-is = y ∙ ap (stringAt s) (ap (λ (r : StringRead). r.next) x ∙ string-next s p)
+    m_is : m ≡ string_at s (string_end s p)
+    m_is = y ∙ ap (string_at s) (ap (λ (r : StringRead). r.next) x ∙ string_next s p)
 
-    t-is : t ≡ stringAt s (stringsEnd 2 s p)
-    unfolding stringsEnd
-    t-is = z ∙ ap (stringAt s) (ap (λ (r : StringRead). r.next) m-is ∙ string-next s (stringEnd s p))
+    t_is : t ≡ string_at s (strings_end 2 s p)
+    unfolding strings_end
+    t_is = z ∙ ap (string_at s) (ap (λ (r : StringRead). r.next) m_is ∙ string_next s (string_end s p))
 
-    pub m-inside : m.place + m.length ≤ length s
-    m-inside = subst (λ (r : StringRead). r.place + r.length ≤ length s) (sym m-is) (string-inside s (stringEnd s p))
+    pub m_inside : m.place + m.length ≤ length s
+    m_inside = subst (λ (r : StringRead). r.place + r.length ≤ length s) (sym m_is) (string_inside s (string_end s p))
 
-    pub t-inside : t.place + t.length ≤ length s
-    t-inside = subst (λ (r : StringRead). r.place + r.length ≤ length s) (sym t-is) (string-inside s (stringsEnd 2 s p))
+    pub t_inside : t.place + t.length ≤ length s
+    t_inside = subst (λ (r : StringRead). r.place + r.length ≤ length s) (sym t_is) (string_inside s (strings_end 2 s p))
 
-    message-is : firstText page s m t ≡ messageAt page s p
-    unfolding messageAt
-    message-is = λ i. firstText page s (m-is i) (t-is i)
+    message_is : first_text page s m t ≡ message_at page s p
+    unfolding message_at
+    message_is = λ i. first_text page s (m_is i) (t_is i)
 
-    pub message-m : hasText page (bytes_of s m) ≡ true → record { place = m.place; length = m.length; next = t.next } ≡ messageAt page s p
-    message-m e = sym (first-text page s m t true _ e refl) ∙ message-is
+    pub message_m : has_text page (bytes_of s m) ≡ true → record { place = m.place; length = m.length; next = t.next } ≡ message_at page s p
+    message_m e = sym (first_text_is page s m t true _ e refl) ∙ message_is
 
-    pub message-s : hasText page (bytes_of s m) ≡ false → hasText page (bytes_of s t) ≡ true → t ≡ messageAt page s p
-    message-s e f = sym (first-text page s m t false true e f) ∙ message-is
+    pub message_s : has_text page (bytes_of s m) ≡ false → has_text page (bytes_of s t) ≡ true → t ≡ message_at page s p
+    message_s e f = sym (first_text_is page s m t false true e f) ∙ message_is
 
-    pub message-none : hasText page (bytes_of s m) ≡ false → hasText page (bytes_of s t) ≡ false → noString t.next ≡ messageAt page s p
-    message-none e f = sym (first-text page s m t false false e f) ∙ message-is
+    pub message_none : has_text page (bytes_of s m) ≡ false → has_text page (bytes_of s t) ≡ false → no_string t.next ≡ message_at page s p
+    message_none e f = sym (first_text_is page s m t false false e f) ∙ message_is

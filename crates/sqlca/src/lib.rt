@@ -5,24 +5,24 @@ ghost use Rattle.std.specs.Prelude.{◌≡◌, ◌+◌, ◌≤◌, length};
 ghost use Rattle.search.specs.Search.{each};
 ghost use Rattle.codepage.specs.Page.{page037};
 ghost use Rattle.field.specs.Numbers.{number, signed};
-ghost use Rattle.message.specs.Message.{isPrintable, hasText};
-ghost use Rattle.sqlca.specs.Code.{isNear, codeOrder, code_of, numbersOrder, fixedChars};
-ghost use Rattle.sqlca.specs.Extension.{isExtended, numbersFrom, rows_of, warningsOf, extensionOf};
-ghost use Rattle.sqlca.specs.Message.{bytes_of, messageAt};
+ghost use Rattle.message.specs.Message.{is_printable, has_text};
+ghost use Rattle.sqlca.specs.Code.{is_near, code_order, code_of, numbers_order, fixed_chars};
+ghost use Rattle.sqlca.specs.Extension.{is_extended, numbers_from, rows_of, warnings_of, extension_of};
+ghost use Rattle.sqlca.specs.Message.{bytes_of, message_at};
 
 use field::ByteOrder;
 use strings::StringRead;
 
 // Within 100,000 of 0 as a signed number.
 fn is_near(bits: u32) -> bool
-    ensures { result ≡ isNear bits }
+    ensures { result ≡ is_near bits }
 {
     (bits <= 100_000) | (bits >= 0xFFFE_7960)
 }
 
 fn sqlcode_order(reply: &[u8]) -> ByteOrder
     requires { 19 ≤ length reply.now }
-    ensures { result ≡ codeOrder reply.now }
+    ensures { result ≡ code_order reply.now }
 {
     let big = field::u32_at(reply, 1, ByteOrder::BigEndian);
     let little = field::u32_at(reply, 1, ByteOrder::LittleEndian);
@@ -49,7 +49,7 @@ pub fn sqlcode(reply: &[u8]) -> i32
 
 fn sqlerrd_order(reply: &[u8]) -> ByteOrder
     requires { 19 ≤ length reply.now }
-    ensures { result ≡ numbersOrder reply.now }
+    ensures { result ≡ numbers_order reply.now }
 {
     let big = field::u32_at(reply, 1, ByteOrder::BigEndian);
     let little = field::u32_at(reply, 1, ByteOrder::LittleEndian);
@@ -64,7 +64,7 @@ fn sqlerrd_order(reply: &[u8]) -> ByteOrder
 }
 
 fn all_printable(bytes: &[u8]) -> bool
-    ensures { result ≡ each isPrintable bytes.now }
+    ensures { result ≡ each is_printable bytes.now }
 {
     let mut i = 0;
     while i < bytes.len() {
@@ -79,7 +79,7 @@ fn all_printable(bytes: &[u8]) -> bool
 // The characters of state or proc, untrimmed.
 pub fn fixed_chars(bytes: &[u8], characters: &mut [u8])
     requires { length bytes.now ≡ length characters.old }
-    ensures { characters.new ≡ fixedChars page037 bytes.now }
+    ensures { characters.new ≡ fixed_chars page037 bytes.now }
 {
     if all_printable(bytes) {
         characters.copy_from_slice(bytes);
@@ -91,7 +91,7 @@ pub fn fixed_chars(bytes: &[u8], characters: &mut [u8])
 // Whether a status that is read alone has an extension: its flag says so, and its numbers are there.
 pub fn is_extended(reply: &[u8]) -> bool
     requires { 19 ≤ length reply.now }
-    ensures { result ≡ isExtended reply.now }
+    ensures { result ≡ is_extended reply.now }
 {
     (reply[18] != 0xFF) & (reply.len() >= 43)
 }
@@ -106,7 +106,7 @@ pub struct Extension {
 
 fn six_numbers(reply: &[u8], order: ByteOrder) -> [i32; 6]
     requires { 43 ≤ length reply.now }
-    ensures { result ≡ numbersFrom 6 order reply.now 19 }
+    ensures { result ≡ numbers_from 6 order reply.now 19 }
 {
     [
         number_at(reply, 19, order),
@@ -127,7 +127,7 @@ fn rows_updated(reply: &[u8], order: ByteOrder) -> u32
 }
 
 fn warnings(reply: &[u8]) -> [u8; 11]
-    ensures { result ≡ warningsOf reply.now }
+    ensures { result ≡ warnings_of reply.now }
 {
     let mut sqlwarn = [0u8; 11];
     if reply.len() >= 54 {
@@ -138,7 +138,7 @@ fn warnings(reply: &[u8]) -> [u8; 11]
 
 pub fn read_extension(reply: &[u8]) -> Extension
     requires { 19 ≤ length reply.now }
-    ensures { result ≡ extensionOf reply.now }
+    ensures { result ≡ extension_of reply.now }
 {
     if !is_extended(reply) {
         return Extension {
@@ -158,7 +158,7 @@ pub fn read_extension(reply: &[u8]) -> Extension
 fn string_has_text(reply: &[u8], string: StringRead) -> bool
     requires reply_len_bound { length reply.now ≤ 65536 }
     requires length_in_bounds { string.place + string.length ≤ length reply.now }
-    ensures { result ≡ hasText page037 (bytes_of reply.now string) }
+    ensures { result ≡ has_text page037 (bytes_of reply.now string) }
 {
     let start = string.place;
     let end = start + string.length;
@@ -168,7 +168,7 @@ fn string_has_text(reply: &[u8], string: StringRead) -> bool
 // The message of the three strings at `offset`; `next` is past them, also where the reply ends early.
 pub fn message_at(reply: &[u8], offset: usize) -> StringRead
     requires { length reply.now ≤ 65536 }
-    ensures { result ≡ messageAt page037 reply.now offset }
+    ensures { result ≡ message_at page037 reply.now offset }
 {
     let rdb = strings::read_string(reply, offset);
     let m = strings::read_string(reply, rdb.next);

@@ -12,109 +12,109 @@ use borrow.Author.Tests.{lt-ltb, le-ltb, ne_eqb, eqb-true, eqb-false, ltb-true, 
 use Rattle.search.specs.Search.{pick}
 use Rattle.codepage.specs.Page.{Page}
 use Rattle.strings.specs.declared.StringRead.{StringRead}
-use Rattle.strings.specs.Strings.{stringEnd, stringsEnd, noString}
-use Rattle.strings.proofs.Strings.{end-inside}
-use Rattle.strings.proofs.Windows.{Window, window-self, window-take, stringsEnd-grows, part_same, same_here}
+use Rattle.strings.specs.Strings.{string_end, strings_end, no_string}
+use Rattle.strings.proofs.Strings.{end_inside}
+use Rattle.strings.proofs.Windows.{Window, window_self, window_take, strings_end_grows, part_same, same_here}
 use Rattle.outcome.specs.Refusal.{is_refused}
-use Rattle.sqlca.specs.Message.{messageAt}
-use Rattle.sqlca.specs.Code.{fixedChars}
-use Rattle.sqlca.specs.Extension.{extensionOf}
-use Rattle.sqlca.proofs.Messages.{message-next}
+use Rattle.sqlca.specs.Message.{message_at}
+use Rattle.sqlca.specs.Code.{fixed_chars}
+use Rattle.sqlca.specs.Extension.{extension_of}
+use Rattle.sqlca.proofs.Messages.{message_next}
 use Rattle.sqlca.proofs.Local as local
 use Rattle.sqlcard.specs.declared.SqlCard.{SqlCard}
-use Rattle.sqlcard.specs.Card.{successCard, cardWith}
-use Rattle.sqlcard.specs.Alone.{startsNull, is_null, aloneEnd, aloneMessage, aloneCard}
-use Rattle.sqlcard.specs.Group.{groupEnd, groupMessage, groupRefusal, groupBytes, groupCard, groupLength}
-use Rattle.sqlcard.proofs.Cards.{card-made}
-use Rattle.sqlcard.proofs.Alones.{null-not-empty, message-absent, message-behind-warnings, alone-next, alone-long, alone-null, alone-read}
+use Rattle.sqlcard.specs.Card.{success_card, card_with}
+use Rattle.sqlcard.specs.Alone.{starts_null, is_null, alone_end, alone_message, alone_card}
+use Rattle.sqlcard.specs.Group.{group_end, group_message, group_refusal, group_bytes, group_card, group_length}
+use Rattle.sqlcard.proofs.Cards.{card_made}
+use Rattle.sqlcard.proofs.Alones.{null_not_empty, message_absent, message_behind_warnings, alone_next, alone_long, alone_null, alone_read}
 
 -- ---- past the group
 
 module _ (s : List ℕ) where
   abbrev end : Bool → Bool → Bool → Bool → ℕ
-  end a b c d = pick a 1 (pick b 19 (pick c 19 (pick d 56 (stringsEnd 3 s 54))))
+  end a b c d = pick a 1 (pick b 19 (pick c 19 (pick d 56 (strings_end 3 s 54))))
 
-  end_is : (a b c d : Bool) → startsNull s ≡ a → ltb (length s) 19 ≡ b → eqb (get_or s 18 0) 0xFF ≡ c → ltb (length s) 56 ≡ d → groupEnd s ≡ end a b c d
-  unfolding groupEnd
+  end_is : (a b c d : Bool) → starts_null s ≡ a → ltb (length s) 19 ≡ b → eqb (get_or s 18 0) 0xFF ≡ c → ltb (length s) 56 ≡ d → group_end s ≡ end a b c d
+  unfolding group_end
   end_is a b c d p q r t = λ i. end (p i) (q i) (r i) (t i)
 
-  pub end-null : startsNull s ≡ true → groupEnd s ≡ 1
-  end-null e = end_is true _ _ _ e refl refl refl
+  pub end_null : starts_null s ≡ true → group_end s ≡ 1
+  end_null e = end_is true _ _ _ e refl refl refl
 
-  module _ (e : startsNull s ≡ false) where
-    pub end_short : length s < 19 → groupEnd s ≡ 19
+  module _ (e : starts_null s ≡ false) where
+    pub end_short : length s < 19 → group_end s ≡ 19
     end_short h = end_is false true _ _ e (lt-ltb (length s) 19 h) refl refl
 
     module _ (h : 19 ≤ length s) where
-      pub end-plain : eqb (get_or s 18 0) 0xFF ≡ true → groupEnd s ≡ 19
-      end-plain f = end_is false false true _ e (le-ltb (length s) 19 h) f refl
+      pub end_plain : eqb (get_or s 18 0) 0xFF ≡ true → group_end s ≡ 19
+      end_plain f = end_is false false true _ e (le-ltb (length s) 19 h) f refl
 
-      pub end-cut : eqb (get_or s 18 0) 0xFF ≡ false → length s < 56 → groupEnd s ≡ 56
-      end-cut f k = end_is false false false true e (le-ltb (length s) 19 h) f (lt-ltb (length s) 56 k)
+      pub end_cut : eqb (get_or s 18 0) 0xFF ≡ false → length s < 56 → group_end s ≡ 56
+      end_cut f k = end_is false false false true e (le-ltb (length s) 19 h) f (lt-ltb (length s) 56 k)
 
-      pub end-extended : eqb (get_or s 18 0) 0xFF ≡ false → 56 ≤ length s → groupEnd s ≡ stringsEnd 3 s 54
-      end-extended f k = end_is false false false false e (le-ltb (length s) 19 h) f (le-ltb (length s) 56 k)
+      pub end_extended : eqb (get_or s 18 0) 0xFF ≡ false → 56 ≤ length s → group_end s ≡ strings_end 3 s 54
+      end_extended f k = end_is false false false false e (le-ltb (length s) 19 h) f (le-ltb (length s) 56 k)
 
 -- ---- the group's message
 
 module _ (page : Page) (s : List ℕ) where
   abbrev message : Bool → Bool → StringRead
-  message c d = pick c (noString 19) (pick d (noString 56) (messageAt page s 54))
+  message c d = pick c (no_string 19) (pick d (no_string 56) (message_at page s 54))
 
-  message-is : (c d : Bool) → eqb (get_or s 18 0) 0xFF ≡ c → ltb (length s) 56 ≡ d → groupMessage page s ≡ message c d
-  unfolding groupMessage
-  message-is c d r t = λ i. message (r i) (t i)
+  message_is : (c d : Bool) → eqb (get_or s 18 0) 0xFF ≡ c → ltb (length s) 56 ≡ d → group_message page s ≡ message c d
+  unfolding group_message
+  message_is c d r t = λ i. message (r i) (t i)
 
-  pub message-plain : eqb (get_or s 18 0) 0xFF ≡ true → groupMessage page s ≡ noString 19
-  message-plain f = message-is true _ f refl
+  pub message_plain : eqb (get_or s 18 0) 0xFF ≡ true → group_message page s ≡ no_string 19
+  message_plain f = message_is true _ f refl
 
-  pub message-cut : eqb (get_or s 18 0) 0xFF ≡ false → length s < 56 → groupMessage page s ≡ noString 56
-  message-cut f k = message-is false true f (lt-ltb (length s) 56 k)
+  pub message_cut : eqb (get_or s 18 0) 0xFF ≡ false → length s < 56 → group_message page s ≡ no_string 56
+  message_cut f k = message_is false true f (lt-ltb (length s) 56 k)
 
-  pub message-due : eqb (get_or s 18 0) 0xFF ≡ false → 56 ≤ length s → groupMessage page s ≡ messageAt page s 54
-  message-due f k = message-is false false f (le-ltb (length s) 56 k)
+  pub message_due : eqb (get_or s 18 0) 0xFF ≡ false → 56 ≤ length s → group_message page s ≡ message_at page s 54
+  message_due f k = message_is false false f (le-ltb (length s) 56 k)
 
   -- past the message is past the group
-  pub group-next : startsNull s ≡ false → 19 ≤ length s → (groupMessage page s).next ≡ groupEnd s
-  group-next e h = go (eqb (get_or s 18 0) 0xFF) refl (ltb (length s) 56) refl
+  pub group_next : starts_null s ≡ false → 19 ≤ length s → (group_message page s).next ≡ group_end s
+  group_next e h = go (eqb (get_or s 18 0) 0xFF) refl (ltb (length s) 56) refl
     where
-      past : {m : StringRead} → groupMessage page s ≡ m → (groupMessage page s).next ≡ m.next
+      past : {m : StringRead} → group_message page s ≡ m → (group_message page s).next ≡ m.next
       past p = ap (λ (r : StringRead). r.next) p
 
-      go : (c : Bool) → eqb (get_or s 18 0) 0xFF ≡ c → (d : Bool) → ltb (length s) 56 ≡ d → (groupMessage page s).next ≡ groupEnd s
-      go true f d g = past (message-plain f) ∙ sym (end-plain s e h f)
-      go false f true g = past (message-cut f (ltb-true (length s) 56 g)) ∙ sym (end-cut s e h f (ltb-true (length s) 56 g))
+      go : (c : Bool) → eqb (get_or s 18 0) 0xFF ≡ c → (d : Bool) → ltb (length s) 56 ≡ d → (group_message page s).next ≡ group_end s
+      go true f d g = past (message_plain f) ∙ sym (end_plain s e h f)
+      go false f true g = past (message_cut f (ltb-true (length s) 56 g)) ∙ sym (end_cut s e h f (ltb-true (length s) 56 g))
       go false f false g =
-          past (message-due f (ltb-false (length s) 56 g))
-          ∙ (message-next page s 54 ∙ sym (end-extended s e h f (ltb-false (length s) 56 g)))
+          past (message_due f (ltb-false (length s) 56 g))
+          ∙ (message_next page s 54 ∙ sym (end_extended s e h f (ltb-false (length s) 56 g)))
 
 -- ---- locality: v begins with the group of s
 
 -- what a group that can be read has: no extension, or one in full
 data Read (s : List ℕ) : Type 0 where
-  plain : eqb (get_or s 18 0) 0xFF ≡ true → groupEnd s ≡ 19 → Read s
-  extended : eqb (get_or s 18 0) 0xFF ≡ false → 56 ≤ length s → groupEnd s ≡ stringsEnd 3 s 54 → Read s
+  plain : eqb (get_or s 18 0) 0xFF ≡ true → group_end s ≡ 19 → Read s
+  extended : eqb (get_or s 18 0) 0xFF ≡ false → 56 ≤ length s → group_end s ≡ strings_end 3 s 54 → Read s
 
-read_as : (s : List ℕ) → startsNull s ≡ false → groupEnd s ≤ length s → Read s
+read_as : (s : List ℕ) → starts_null s ≡ false → group_end s ≤ length s → Read s
 read_as s e h = go (ltb (length s) 19) refl (eqb (get_or s 18 0) 0xFF) refl (ltb (length s) 56) refl
   where
     go : (b : Bool) → ltb (length s) 19 ≡ b → (c : Bool) → eqb (get_or s 18 0) 0xFF ≡ c → (d : Bool) → ltb (length s) 56 ≡ d → Read s
     go true p c f d g = absurd (omega (arith, end_short s e (ltb-true (length s) 19 p), ltb-true (length s) 19 p, h))
-    go false p true f d g = plain f (end-plain s e (ltb-false (length s) 19 p) f)
+    go false p true f d g = plain f (end_plain s e (ltb-false (length s) 19 p) f)
     go false p false f true g =
-        absurd (omega (arith, end-cut s e (ltb-false (length s) 19 p) f (ltb-true (length s) 56 g), ltb-true (length s) 56 g, h))
+        absurd (omega (arith, end_cut s e (ltb-false (length s) 19 p) f (ltb-true (length s) 56 g), ltb-true (length s) 56 g, h))
     go false p false f false g =
-        extended f (ltb-false (length s) 56 g) (end-extended s e (ltb-false (length s) 19 p) f (ltb-false (length s) 56 g))
+        extended f (ltb-false (length s) 56 g) (end_extended s e (ltb-false (length s) 19 p) f (ltb-false (length s) 56 g))
 
-module _ (s v : List ℕ) (n : ℕ) (w : Window s 0 v 0 n) (e : startsNull s ≡ false) (h : groupEnd s ≤ n) where
-  there : groupEnd s ≤ length s
+module _ (s v : List ℕ) (n : ℕ) (w : Window s 0 v 0 n) (e : starts_null s ≡ false) (h : group_end s ≤ n) where
+  there : group_end s ≤ length s
   there = omega (arith, w.inside)
 
-  due : 56 ≤ length s → groupEnd s ≡ stringsEnd 3 s 54 → 56 ≤ n
-  unfolding stringsEnd
+  due : 56 ≤ length s → group_end s ≡ strings_end 3 s 54 → 56 ≤ n
+  unfolding strings_end
   due k g =
-      let m : stringEnd s 54 ≤ groupEnd s = omega (arith, stringsEnd-grows 2 s (stringEnd s 54)) in
-      omega (arith, (end-inside s 54 (omega (arith, there))).1)
+      let m : string_end s 54 ≤ group_end s = omega (arith, strings_end_grows 2 s (string_end s 54)) in
+      omega (arith, (end_inside s 54 (omega (arith, there))).1)
 
   room : 19 ≤ n
   room = go (read_as s e there)
@@ -123,51 +123,51 @@ module _ (s v : List ℕ) (n : ℕ) (w : Window s 0 v 0 n) (e : startsNull s ≡
       go (plain f g) = omega arith
       go (extended f k g) = omega (arith, due k g)
 
-  not_null : startsNull v ≡ false
+  not_null : starts_null v ≡ false
   not_null = ap (λ (b : ℕ). eqb b 0xFF) (sym (local.byte_at s v n w 0 (omega (arith, room)))) ∙ e
 
   module _ (page : Page) where
-    extension-same : Read s → extensionOf v ≡ extensionOf s
-    extension-same (plain f g) = sym (local.no-extension-same s v n w room (eqb-true (get_or s 18 0) 0xFF f))
-    extension-same (extended f k g) = sym (local.extension-same s v n w (omega (arith, due k g)) (eqb-false (get_or s 18 0) 0xFF f))
+    extension_same : Read s → extension_of v ≡ extension_of s
+    extension_same (plain f g) = sym (local.no_extension_same s v n w room (eqb-true (get_or s 18 0) 0xFF f))
+    extension_same (extended f k g) = sym (local.extension_same s v n w (omega (arith, due k g)) (eqb-false (get_or s 18 0) 0xFF f))
 
-    message-same : Read s → aloneMessage page v ≡ groupMessage page s
-    message-same (plain f g) =
-        message-absent page v (local.absent-there s v n w room (eqb-true (get_or s 18 0) 0xFF f)) ∙ sym (message-plain page s f)
-    message-same (extended f k g) =
-        let z : stringsEnd 3 s 54 ≤ n = omega arith in
-        message-behind-warnings page v (local.extended-there s v n w (omega (arith, due k g)) (eqb-false (get_or s 18 0) 0xFF f))
+    message_same : Read s → alone_message page v ≡ group_message page s
+    message_same (plain f g) =
+        message_absent page v (local.absent_there s v n w room (eqb-true (get_or s 18 0) 0xFF f)) ∙ sym (message_plain page s f)
+    message_same (extended f k g) =
+        let z : strings_end 3 s 54 ≤ n = omega arith in
+        message_behind_warnings page v (local.extended_there s v n w (omega (arith, due k g)) (eqb-false (get_or s 18 0) 0xFF f))
         (omega (arith, due k g, w.inside'))
-        ∙ (sym (local.message-same s v n w page 54 z) ∙ sym (message-due page s f k))
+        ∙ (sym (local.message_same s v n w page 54 z) ∙ sym (message_due page s f k))
 
-    alone-end : aloneEnd v ≡ groupEnd s
-    alone-end =
-        sym (alone-next page v)
-        ∙ (ap (λ (r : StringRead). r.next) (message-same (read_as s e there)) ∙ group-next page s e (omega (arith, room, w.inside)))
+    alone_end_is : alone_end v ≡ group_end s
+    alone_end_is =
+        sym (alone_next page v)
+        ∙ (ap (λ (r : StringRead). r.next) (message_same (read_as s e there)) ∙ group_next page s e (omega (arith, room, w.inside)))
 
-    card-same : cardWith page v (aloneMessage page v) ≡ cardWith page s (groupMessage page s)
-    card-same =
+    card_same : card_with page v (alone_message page v) ≡ card_with page s (group_message page s)
+    card_same =
         let r = read_as s e there in
-        sym (card-made page v refl refl refl refl refl)
-        ∙ card-made page s (sym (local.code_same s v n w room)) (ap (fixedChars page) (sym (local.state-same s v n w room)))
-        (ap (fixedChars page) (sym (local.proc-same s v n w room)))
-        (extension-same r)
-        (message-same r)
+        sym (card_made page v refl refl refl refl refl)
+        ∙ card_made page s (sym (local.code_same s v n w room)) (ap (fixed_chars page) (sym (local.state_same s v n w room)))
+        (ap (fixed_chars page) (sym (local.proc_same s v n w room)))
+        (extension_same r)
+        (message_same r)
 
     -- read alone, any reply that begins with the group gives the group's status
-    pub status-alone : length v ≤ 65536 → aloneCard page v ≡ cardWith page s (groupMessage page s)
-    status-alone l =
+    pub status_alone : length v ≤ 65536 → alone_card page v ≡ card_with page s (group_message page s)
+    status_alone l =
         let a : 19 ≤ length v = omega (arith, room, w.inside') in
         let b : eqb (length v) 0 ≡ false = ne_eqb (length v) 0 (λ z. omega arith) in
         let c : is_null v ≡ false = rw (b, not_null) refl in
-        sym (alone-read page v l c a (omega (arith, alone-end, w.inside'))).1 ∙ card-same
+        sym (alone_read page v l c a (omega (arith, alone_end_is, w.inside'))).1 ∙ card_same
 
   -- and has the same end of the group
-  end_same : Read s → groupEnd v ≡ groupEnd s
+  end_same : Read s → group_end v ≡ group_end s
   end_same (plain f g) =
-      end-plain v not_null (omega (arith, room, w.inside')) (ap (λ (b : ℕ). eqb b 0xFF) (sym (local.byte_at s v n w 18 (omega (arith, room)))) ∙ f) ∙ sym g
+      end_plain v not_null (omega (arith, room, w.inside')) (ap (λ (b : ℕ). eqb b 0xFF) (sym (local.byte_at s v n w 18 (omega (arith, room)))) ∙ f) ∙ sym g
   end_same (extended f k g) =
-      end-extended v not_null (omega (arith, room, w.inside'))
+      end_extended v not_null (omega (arith, room, w.inside'))
       (ap (λ (b : ℕ). eqb b 0xFF) (sym (local.byte_at s v n w 18 (omega (arith, room)))) ∙ f)
       (omega (arith, due k g, w.inside'))
       ∙ (sym (local.end_same s v n w 3 54 (omega arith)) ∙ sym g)
@@ -176,105 +176,105 @@ module _ (s v : List ℕ) (n : ℕ) (w : Window s 0 v 0 n) (e : startsNull s ≡
 
 -- refusal, status record and length of an answer
 abbrev pub Answers : Page → List ℕ → List ℕ → SqlCard → ℕ → Type 0
-Answers page s refusal card length = (refusal ≡ groupRefusal s) × ((card ≡ groupCard page s) × (length ≡ groupLength s))
+Answers page s refusal card length = (refusal ≡ group_refusal s) × ((card ≡ group_card page s) × (length ≡ group_length s))
 
 -- a null status, whatever follows
-null-card : (page : Page) (s : List ℕ) → is_null s ≡ true → aloneCard page s ≡ successCard
-null-card page s e = go (ltb 65536 (length s)) refl
+null_card : (page : Page) (s : List ℕ) → is_null s ≡ true → alone_card page s ≡ success_card
+null_card page s e = go (ltb 65536 (length s)) refl
   where
-    go : (b : Bool) → ltb 65536 (length s) ≡ b → aloneCard page s ≡ successCard
-    go true f = sym (alone-long page s (ltb-true 65536 (length s) f)).1
-    go false f = sym (alone-null page s (ltb-false 65536 (length s) f) e).1
+    go : (b : Bool) → ltb 65536 (length s) ≡ b → alone_card page s ≡ success_card
+    go true f = sym (alone_long page s (ltb-true 65536 (length s) f)).1
+    go false f = sym (alone_null page s (ltb-false 65536 (length s) f) e).1
 
 module _ (page : Page) (s : List ℕ) where
   abbrev refusal : Bool → Bool → List ℕ
-  refusal a d = pick a (5 ∷ []) (pick d (2 ∷ groupEnd s ∷ length s ∷ []) (0 ∷ []))
+  refusal a d = pick a (5 ∷ []) (pick d (2 ∷ group_end s ∷ length s ∷ []) (0 ∷ []))
 
-  answer : (a d : Bool) → ltb 65536 (length s) ≡ a → ltb (length s) (groupEnd s) ≡ d
-      → Answers page s (refusal a d) (pick (is_refused (refusal a d)) successCard (aloneCard page (groupBytes s)))
-      (pick (is_refused (refusal a d)) 0 (groupEnd s))
-  unfolding groupRefusal groupCard groupLength
+  answer : (a d : Bool) → ltb 65536 (length s) ≡ a → ltb (length s) (group_end s) ≡ d
+      → Answers page s (refusal a d) (pick (is_refused (refusal a d)) success_card (alone_card page (group_bytes s)))
+      (pick (is_refused (refusal a d)) 0 (group_end s))
+  unfolding group_refusal group_card group_length
   answer a d p q = (
     sym (λ i. refusal (p i) (q i)),
-    (sym (λ i. pick (is_refused (refusal (p i) (q i))) successCard (aloneCard page (groupBytes s))), sym (λ i. pick (is_refused (refusal (p i) (q i))) 0 (groupEnd s))),
+    (sym (λ i. pick (is_refused (refusal (p i) (q i))) success_card (alone_card page (group_bytes s))), sym (λ i. pick (is_refused (refusal (p i) (q i))) 0 (group_end s))),
   )
 
-  pub group-long : 65536 < length s → Answers page s (5 ∷ []) successCard 0
-  group-long h = answer true _ (lt-ltb 65536 (length s) h) refl
+  pub group_long : 65536 < length s → Answers page s (5 ∷ []) success_card 0
+  group_long h = answer true _ (lt-ltb 65536 (length s) h) refl
 
   module _ (h : length s ≤ 65536) where
-    cut : length s < groupEnd s → Answers page s (2 ∷ groupEnd s ∷ length s ∷ []) successCard 0
-    cut k = answer false true (le-ltb 65536 (length s) h) (lt-ltb (length s) (groupEnd s) k)
+    cut : length s < group_end s → Answers page s (2 ∷ group_end s ∷ length s ∷ []) success_card 0
+    cut k = answer false true (le-ltb 65536 (length s) h) (lt-ltb (length s) (group_end s) k)
 
-    taken : groupEnd s ≤ length s → Answers page s (0 ∷ []) (aloneCard page (groupBytes s)) (groupEnd s)
-    taken k = answer false false (le-ltb 65536 (length s) h) (le-ltb (length s) (groupEnd s) k)
+    taken : group_end s ≤ length s → Answers page s (0 ∷ []) (alone_card page (group_bytes s)) (group_end s)
+    taken k = answer false false (le-ltb 65536 (length s) h) (le-ltb (length s) (group_end s) k)
 
-    pub group-null : startsNull s ≡ true → Answers page s (0 ∷ []) successCard 1
-    group-null e =
-        let g = end-null s e in
-        let l : 0 < length s = null-not-empty s e in
+    pub group_null : starts_null s ≡ true → Answers page s (0 ∷ []) success_card 1
+    group_null e =
+        let g = end_null s e in
+        let l : 0 < length s = null_not_empty s e in
         let t = taken (omega (arith, g)) in
-        let b : get_or (groupBytes s) 0 0 ≡ get_or s 0 0 = get_or-take (groupEnd s) s 0 0 (omega (arith, g)) in
-        let z : is_null (groupBytes s) ≡ true = rw (b, e) (or-true (eqb (length (groupBytes s)) 0)) in
-        (t.0, (sym (null-card page (groupBytes s) z) ∙ t.1.0, sym g ∙ t.1.1))
+        let b : get_or (group_bytes s) 0 0 ≡ get_or s 0 0 = get_or-take (group_end s) s 0 0 (omega (arith, g)) in
+        let z : is_null (group_bytes s) ≡ true = rw (b, e) (or-true (eqb (length (group_bytes s)) 0)) in
+        (t.0, (sym (null_card page (group_bytes s) z) ∙ t.1.0, sym g ∙ t.1.1))
 
-    pub group-read : startsNull s ≡ false → groupEnd s ≤ length s → Answers page s (0 ∷ []) (cardWith page s (groupMessage page s)) (groupEnd s)
-    group-read e k =
+    pub group_read : starts_null s ≡ false → group_end s ≤ length s → Answers page s (0 ∷ []) (card_with page s (group_message page s)) (group_end s)
+    group_read e k =
         let t = taken k in
-        let n : length (groupBytes s) ≡ groupEnd s = length-take-le (groupEnd s) s k in
-        let c = status-alone s (groupBytes s) (groupEnd s) (window-take s (groupEnd s) k) e (le_refl (groupEnd s)) page (omega arith) in
+        let n : length (group_bytes s) ≡ group_end s = length-take-le (group_end s) s k in
+        let c = status_alone s (group_bytes s) (group_end s) (window_take s (group_end s) k) e (le_refl (group_end s)) page (omega arith) in
         (t.0, (sym c ∙ t.1.0, t.1.1))
 
-    module _ (e : startsNull s ≡ false) where
-      pub group-short : length s < 19 → Answers page s (2 ∷ 19 ∷ length s ∷ []) successCard 0
-      group-short k =
+    module _ (e : starts_null s ≡ false) where
+      pub group_short : length s < 19 → Answers page s (2 ∷ 19 ∷ length s ∷ []) success_card 0
+      group_short k =
           let g = end_short s e k in
           let a = cut (omega (arith, g)) in
           (ap (λ (n : ℕ). 2 ∷ n ∷ length s ∷ []) (sym g) ∙ a.0, a.1)
 
       -- by the message that was found
-      module _ (k : 19 ≤ length s) (m : StringRead) (x : m ≡ groupMessage page s) where
-        past : m.next ≡ groupEnd s
-        past = ap (λ (r : StringRead). r.next) x ∙ group-next page s e k
+      module _ (k : 19 ≤ length s) (m : StringRead) (x : m ≡ group_message page s) where
+        past : m.next ≡ group_end s
+        past = ap (λ (r : StringRead). r.next) x ∙ group_next page s e k
 
-        pub group-cut : length s < m.next → Answers page s (2 ∷ m.next ∷ length s ∷ []) successCard 0
-        group-cut l =
+        pub group_cut : length s < m.next → Answers page s (2 ∷ m.next ∷ length s ∷ []) success_card 0
+        group_cut l =
             let a = cut (omega (arith, past)) in
             (ap (λ (n : ℕ). 2 ∷ n ∷ length s ∷ []) past ∙ a.0, a.1)
 
-        pub group-told : m.next ≤ length s → Answers page s (0 ∷ []) (cardWith page s m) m.next
-        group-told l =
-            let a = group-read e (omega (arith, past)) in
-            (a.0, (ap (cardWith page s) x ∙ a.1.0, past ∙ a.1.1))
+        pub group_told : m.next ≤ length s → Answers page s (0 ∷ []) (card_with page s m) m.next
+        group_told l =
+            let a = group_read e (omega (arith, past)) in
+            (a.0, (ap (card_with page s) x ∙ a.1.0, past ∙ a.1.1))
 
 -- ---- the laws for the layers above
 
 -- where the group can be read, the status read alone on the whole reply is the same
-pub alone-as-group : (page : Page) (s : List ℕ) → length s ≤ 65536 → groupEnd s ≤ length s → aloneCard page s ≡ groupCard page s
-alone-as-group page s h k = go (startsNull s) refl
+pub alone_as_group : (page : Page) (s : List ℕ) → length s ≤ 65536 → group_end s ≤ length s → alone_card page s ≡ group_card page s
+alone_as_group page s h k = go (starts_null s) refl
   where
-    go : (b : Bool) → startsNull s ≡ b → aloneCard page s ≡ groupCard page s
+    go : (b : Bool) → starts_null s ≡ b → alone_card page s ≡ group_card page s
     go true e =
-        null-card page s (rw e (or-true (eqb (length s) 0))) ∙ (group-null page s h e).1.0
-    go false e = status-alone s s (groupEnd s) (window-self s (groupEnd s) k) e (le_refl (groupEnd s)) page h ∙ (group-read page s h e k).1.0
+        null_card page s (rw e (or-true (eqb (length s) 0))) ∙ (group_null page s h e).1.0
+    go false e = status_alone s s (group_end s) (window_self s (group_end s) k) e (le_refl (group_end s)) page h ∙ (group_read page s h e k).1.0
 
 -- the group and its status depend on the group's bytes alone: another reply that begins with them has both
-module _ (s v : List ℕ) (n : ℕ) (w : Window s 0 v 0 n) (k : groupEnd s ≤ n) where
-  pub group-end-same : groupEnd v ≡ groupEnd s
-  group-end-same = go (startsNull s) refl
+module _ (s v : List ℕ) (n : ℕ) (w : Window s 0 v 0 n) (k : group_end s ≤ n) where
+  pub group_end_same : group_end v ≡ group_end s
+  group_end_same = go (starts_null s) refl
     where
-      go : (b : Bool) → startsNull s ≡ b → groupEnd v ≡ groupEnd s
+      go : (b : Bool) → starts_null s ≡ b → group_end v ≡ group_end s
       go true e =
-          let g = end-null s e in
-          end-null v (ap (λ (b : ℕ). eqb b 0xFF) (sym (local.byte_at s v n w 0 (omega (arith, g)))) ∙ e) ∙ sym g
+          let g = end_null s e in
+          end_null v (ap (λ (b : ℕ). eqb b 0xFF) (sym (local.byte_at s v n w 0 (omega (arith, g)))) ∙ e) ∙ sym g
       go false e = end_same s v n w e k (read_as s e (omega (arith, w.inside)))
 
-  pub group-bytes-same : groupBytes v ≡ groupBytes s
-  group-bytes-same =
-      ap (λ (m : ℕ). take m v) group-end-same ∙ sym (part_same s 0 v 0 n w 0 0 (groupEnd s) (same_here 0) (omega arith))
+  pub group_bytes_same : group_bytes v ≡ group_bytes s
+  group_bytes_same =
+      ap (λ (m : ℕ). take m v) group_end_same ∙ sym (part_same s 0 v 0 n w 0 0 (group_end s) (same_here 0) (omega arith))
 
-  pub group-status-same : (page : Page) → length s ≤ 65536 → length v ≤ 65536 → groupCard page v ≡ groupCard page s
-  group-status-same page a b =
-      let i : groupEnd s ≤ length s = omega (arith, w.inside) in
-      let j : groupEnd v ≤ length v = omega (arith, w.inside', group-end-same) in
-      sym (taken page v b j).1.0 ∙ (ap (aloneCard page) group-bytes-same ∙ (taken page s a i).1.0)
+  pub group_status_same : (page : Page) → length s ≤ 65536 → length v ≤ 65536 → group_card page v ≡ group_card page s
+  group_status_same page a b =
+      let i : group_end s ≤ length s = omega (arith, w.inside) in
+      let j : group_end v ≤ length v = omega (arith, w.inside', group_end_same) in
+      sym (taken page v b j).1.0 ∙ (ap (alone_card page) group_bytes_same ∙ (taken page s a i).1.0)

@@ -3,11 +3,11 @@
 
 ghost use Rattle.std.specs.Prelude.{◌≡◌, ◌+◌, ◌≤◌, ◌<◌, length};
 ghost use Rattle.codepage.specs.Page.{page037};
-ghost use Rattle.outcome.specs.Refusal.{refusalOf};
-ghost use Rattle.sqlcard.specs.Card.{successCard, cardWith};
-ghost use Rattle.sqlcard.specs.Alone.{startsNull, aloneMessage, aloneRefusal, aloneCard};
-ghost use Rattle.sqlcard.specs.Group.{groupEnd, groupMessage, groupRefusal, groupCard, groupLength};
-ghost use Rattle.sqlcard.specs.Sqldhgrp.{sqldhgrpEnd};
+ghost use Rattle.outcome.specs.Refusal.{refusal_of};
+ghost use Rattle.sqlcard.specs.Card.{success_card, card_with};
+ghost use Rattle.sqlcard.specs.Alone.{starts_null, alone_message, alone_refusal, alone_card};
+ghost use Rattle.sqlcard.specs.Group.{group_end, group_message, group_refusal, group_card, group_length};
+ghost use Rattle.sqlcard.specs.Sqldhgrp.{sqldhgrp_end};
 
 use outcome::Outcome;
 use strings::StringRead;
@@ -32,7 +32,7 @@ pub struct SqlCard {
 
 impl SqlCard {
     pub fn success() -> Self
-        ensures { result ≡ successCard }
+        ensures { result ≡ success_card }
     {
         SqlCard {
             is_null: true,
@@ -52,7 +52,7 @@ impl SqlCard {
 
 fn card_with(reply: &[u8], message: StringRead) -> SqlCard
     requires { 19 ≤ length reply.now }
-    ensures { result ≡ cardWith page037 reply.now message }
+    ensures { result ≡ card_with page037 reply.now message }
 {
     let mut sqlstate = [0u8; 5];
     sqlca::fixed_chars(&reply[5..10], &mut sqlstate);
@@ -78,7 +78,7 @@ fn card_with(reply: &[u8], message: StringRead) -> SqlCard
 }
 
 fn starts_null(reply: &[u8]) -> bool
-    ensures { result ≡ startsNull reply.now }
+    ensures { result ≡ starts_null reply.now }
 {
     if reply.len() == 0 {
         return false;
@@ -90,7 +90,7 @@ fn starts_null(reply: &[u8]) -> bool
 fn alone_message(reply: &[u8]) -> StringRead
     requires in_bounds { 19 ≤ length reply.now }
     requires reply_len_bound { length reply.now ≤ 65536 }
-    ensures { result ≡ aloneMessage page037 reply.now }
+    ensures { result ≡ alone_message page037 reply.now }
 {
     if !sqlca::is_extended(reply) {
         return strings::no_string(19);
@@ -106,7 +106,7 @@ fn alone_message(reply: &[u8]) -> StringRead
 fn group_message(reply: &[u8]) -> StringRead
     requires in_bounds { 19 ≤ length reply.now }
     requires reply_len_bound { length reply.now ≤ 65536 }
-    ensures { result ≡ groupMessage page037 reply.now }
+    ensures { result ≡ group_message page037 reply.now }
 {
     if reply[18] == 0xFF {
         return strings::no_string(19);
@@ -125,7 +125,7 @@ pub struct SqlcardAnswer {
 }
 
 fn without_card(outcome: Outcome) -> SqlcardAnswer
-    ensures { (result.outcome ≡ outcome) × (result.card ≡ successCard) }
+    ensures { (result.outcome ≡ outcome) × (result.card ≡ success_card) }
 {
     SqlcardAnswer {
         outcome,
@@ -135,8 +135,8 @@ fn without_card(outcome: Outcome) -> SqlcardAnswer
 
 // The entry status alone: an extension counts as far as it is there.
 pub fn parse_sqlcard_data(reply: &[u8]) -> SqlcardAnswer
-    ensures refuses { refusalOf result.outcome ≡ aloneRefusal reply.now }
-    ensures gives { result.card ≡ aloneCard page037 reply.now }
+    ensures refuses { refusal_of result.outcome ≡ alone_refusal reply.now }
+    ensures gives { result.card ≡ alone_card page037 reply.now }
 {
     if reply.len() > 65536 {
         return without_card(Outcome::ReplyTooLong);
@@ -167,7 +167,7 @@ pub struct GroupAnswer {
 }
 
 fn group_without_card(outcome: Outcome, length: usize) -> GroupAnswer
-    ensures { (result.outcome ≡ outcome) × (result.card ≡ successCard) × (result.length ≡ length) }
+    ensures { (result.outcome ≡ outcome) × (result.card ≡ success_card) × (result.length ≡ length) }
 {
     GroupAnswer {
         outcome,
@@ -178,9 +178,9 @@ fn group_without_card(outcome: Outcome, length: usize) -> GroupAnswer
 
 // The entry SQLCA group: an extension that is due must be there in full.
 pub fn consume_sqlca_group(reply: &[u8]) -> GroupAnswer
-    ensures refuses { refusalOf result.outcome ≡ groupRefusal reply.now }
-    ensures gives { result.card ≡ groupCard page037 reply.now }
-    ensures takes { result.length ≡ groupLength reply.now }
+    ensures refuses { refusal_of result.outcome ≡ group_refusal reply.now }
+    ensures gives { result.card ≡ group_card page037 reply.now }
+    ensures takes { result.length ≡ group_length reply.now }
 {
     let end = reply.len();
     if end > 65536 {
@@ -206,7 +206,7 @@ pub fn consume_sqlca_group(reply: &[u8]) -> GroupAnswer
 
 // Past the group, its status left unread: for the readings that start behind it.
 pub fn sqlca_end(reply: &[u8]) -> usize
-    ensures { result ≡ groupEnd reply.now }
+    ensures { result ≡ group_end reply.now }
 {
     let size = reply.len();
     if starts_null(reply) {
@@ -229,7 +229,7 @@ pub fn sqlca_end(reply: &[u8]) -> usize
 pub fn skip_sqldhgrp(reply: &[u8], offset: usize) -> usize
     requires offset_in_bounds { offset < length reply.now }
     requires reply_len_bound { length reply.now ≤ 65536 }
-    ensures { result ≡ sqldhgrpEnd reply.now offset }
+    ensures { result ≡ sqldhgrp_end reply.now offset }
 {
     if reply[offset] == 0xFF {
         return offset + 1;

@@ -2,8 +2,8 @@
 #![tactic(auto)]
 
 ghost use Rattle.std.specs.Prelude.{◌≡◌};
-ghost use Rattle.sqlda.specs.Types.{isKnown, searchedBase, rowFor, cap_of, type_of, length_of, code_of, sqldaType};
-ghost use Rattle.sqlda.specs.Codes.{value_of, typeWith, is_type};
+ghost use Rattle.sqlda.specs.Types.{is_known, searched_base, row_for, cap_of, type_of, length_of, code_of, sqlda_type};
+ghost use Rattle.sqlda.specs.Codes.{value_of, type_with, is_type};
 
 use types::{ColumnMetadata, Db2Type, Kind, TypeRow};
 
@@ -18,7 +18,7 @@ pub struct SqldaType {
 
 // Whether the base type has a row. Scans ask at every byte of a reply, so what the table cannot have is not searched for.
 pub fn is_known_sql_type(sql_type: u16) -> bool
-    ensures { result ≡ isKnown sql_type }
+    ensures { result ≡ is_known sql_type }
 {
     if (sql_type < 384) | (2437 < sql_type) {
         return false;
@@ -29,7 +29,7 @@ pub fn is_known_sql_type(sql_type: u16) -> bool
 
 // The base type to look up: CCSID 0 says that the characters are bytes, so the character types are the binary ones.
 fn searched_base(base: u16, ccsid: u16) -> u16
-    ensures { result ≡ searchedBase base ccsid }
+    ensures { result ≡ searched_base base ccsid }
 {
     let binary = ccsid == 0;
     if binary & ((base == 448) | (base == 456)) {
@@ -43,7 +43,7 @@ fn searched_base(base: u16, ccsid: u16) -> u16
 
 // The row that describes the column: 480 below raw length 8 is Real, which has no row of its own.
 fn row_for(sql_type: u16, raw: u64, ccsid: u16) -> TypeRow
-    ensures { result ≡ rowFor sql_type raw ccsid }
+    ensures { result ≡ row_for sql_type raw ccsid }
 {
     let base = sql_type - sql_type % 2;
     if (base == 480) & (raw < 8) {
@@ -129,7 +129,7 @@ fn length_for(kind: Kind, raw: u64, precision: u8) -> u16
 
 // One search of the table says all: nullable, SQLTYPE's low bit, adds 1 to the code.
 pub fn sqlda_type(sql_type: u16, raw: u64, precision: u8, scale: u8, ccsid: u16) -> SqldaType
-    ensures { result ≡ sqldaType sql_type raw precision scale ccsid }
+    ensures { result ≡ sqlda_type sql_type raw precision scale ccsid }
 {
     let row = row_for(sql_type, raw, ccsid);
     let kind = row.kind;
@@ -207,7 +207,7 @@ pub fn type_value(db2_type: Db2Type) -> u64
 
 // The type with this code, and what the value says of it. Codes that are none stand for Xml.
 pub fn type_with(code: u64, value: u16) -> Db2Type
-    ensures { result ≡ typeWith code value }
+    ensures { result ≡ type_with code value }
 {
     match code {
         0x04 => Db2Type::SmallInt,

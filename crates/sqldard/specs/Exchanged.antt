@@ -7,19 +7,19 @@ use Rattle.codepage.specs.Page.{Page}
 use Rattle.field.specs.declared.ByteOrder.{ByteOrder}
 use Rattle.field.specs.declared.ByteOrder.TheVariants.{BigEndian}
 use Rattle.text.specs.declared.Text.{Text}
-use Rattle.sqlcard.specs.Alone.{aloneCard}
-use Rattle.sqlcard.specs.Group.{groupBytes}
+use Rattle.sqlcard.specs.Alone.{alone_card}
+use Rattle.sqlcard.specs.Group.{group_bytes}
 use Rattle.types.specs.declared.ColumnMetadata.{ColumnMetadata}
-use Rattle.column.specs.Column.{hasNames}
-use Rattle.column.specs.Moved.{moveColumn, columnBytes, LiesAll}
-use Rattle.descriptor.specs.Descriptor.{columnAt, Complete}
+use Rattle.column.specs.Column.{has_names}
+use Rattle.column.specs.Moved.{move_column, column_bytes, LiesAll}
+use Rattle.descriptor.specs.Descriptor.{column_at, Complete}
 use Rattle.descriptor.specs.Reading.{start_of, standard}
-use Rattle.descriptor.specs.Exchange.{withColumn, exchange}
+use Rattle.descriptor.specs.Exchange.{with_column, exchange}
 use Rattle.plan.specs.Description.{description}
 
 -- the description of column k in the reply s is so many bytes (01, What each entry owes (e): the bytes that its descriptor takes there)
-abbrev pub oldBytes : ByteOrder → List ℕ → ℕ → ℕ
-oldBytes order s k = start_of order s (suc k) - start_of order s k
+abbrev pub old_bytes : ByteOrder → List ℕ → ℕ → ℕ
+old_bytes order s k = start_of order s (suc k) - start_of order s k
 
 -- t' is t moved by the difference, new − old bytes, which may be negative; a text without bytes stays (01, What each entry owes (e))
 pub record Moved (old new : ℕ) (t t' : Text) : Type 0 where
@@ -45,16 +45,16 @@ pub record MovedColumn (old new : ℕ) (c c' : ColumnMetadata) : Type 0 where
   pub schema : Moved old new c.schema_name c'.schema_name
 
 -- what d, read alone as one standard descriptor, gives under k, its texts that have bytes raised by the bytes before it (01, What each entry owes (e))
-abbrev pub newColumn : Page → ByteOrder → List ℕ → ℕ → List ℕ → ColumnMetadata
-newColumn page order s k d = moveColumn 0 (start_of order s k) (columnAt page order k d 0)
+abbrev pub new_column : Page → ByteOrder → List ℕ → ℕ → List ℕ → ColumnMetadata
+new_column page order s k d = move_column 0 (start_of order s k) (column_at page order k d 0)
 
 -- a later column, its texts that have bytes moved as far as the bytes behind the description are (01, What each entry owes (e))
-abbrev pub laterColumn : ByteOrder → List ℕ → ℕ → List ℕ → ColumnMetadata → ColumnMetadata
-laterColumn order s k d = moveColumn (start_of order s (suc k)) (start_of order s k + length d)
+abbrev pub later_column : ByteOrder → List ℕ → ℕ → List ℕ → ColumnMetadata → ColumnMetadata
+later_column order s k d = move_column (start_of order s (suc k)) (start_of order s k + length d)
 
 -- the old reading's list with column k exchanged and the later ones moved (01, What each entry owes (e): the new list)
-abbrev pub newColumns : Page → ByteOrder → List ℕ → ℕ → List ℕ → List ColumnMetadata
-newColumns page order s k d = exchange k (newColumn page order s k d) (laterColumn order s k d) (standard page order s)
+abbrev pub new_columns : Page → ByteOrder → List ℕ → ℕ → List ℕ → List ColumnMetadata
+new_columns page order s k d = exchange k (new_column page order s k d) (later_column order s k d) (standard page order s)
 
 -- what is asked of the reply s, the column's number k, the description d and the room that is lent (01, What each entry owes (e))
 pub record Exchangeable (page : Page) (room : ℕ) (s : List ℕ) (k : ℕ) (d : List ℕ) : Type 0 where
@@ -63,40 +63,40 @@ pub record Exchangeable (page : Page) (room : ℕ) (s : List ℕ) (k : ℕ) (d :
   -- d is a complete BE description
   pub complete : Complete BigEndian d
   -- the new reply is within 65,536 bytes
-  pub within : length (withColumn BigEndian s k d) ≤ 65536
+  pub within : length (with_column BigEndian s k d) ≤ 65536
   -- the list is long enough
   pub enough : length (standard page BigEndian s) ≤ room
   -- some name in the new list is other than COL and digits
-  pub named : hasNames page (withColumn BigEndian s k d) (newColumns page BigEndian s k d) ≡ true
+  pub named : has_names page (with_column BigEndian s k d) (new_columns page BigEndian s k d) ≡ true
 
 -- what a reading of the new reply gives, in either byte order; l is its list (01, What each entry owes (e))
 pub record ReadExchanged (page : Page) (order : ByteOrder) (s : List ℕ) (k : ℕ) (d : List ℕ) (l : List ColumnMetadata) : Type 0 where
   -- its list is the old reading's with exactly that column exchanged
-  pub columns : l ≡ newColumns page order s k d
+  pub columns : l ≡ new_columns page order s k d
   -- it is as long as before
   pub as_long : length l ≡ length (standard page order s)
   -- column k is what the new description says
-  pub exchanged : get_elem? l k ≡ some (newColumn page order s k d)
+  pub exchanged : get_elem? l k ≡ some (new_column page order s k d)
   -- the columns before it are the old ones
   pub earlier : (j : ℕ) → j < k → get_elem? l j ≡ get_elem? (standard page order s) j
   -- of those after it only places of texts that have bytes move, by the difference in bytes
   pub later : (j : ℕ) (c : ColumnMetadata) → k < j → get_elem? (standard page order s) j ≡ some c
-      → (get_elem? l j ≡ some (laterColumn order s k d c)) × MovedColumn (oldBytes order s k) (length d) c (laterColumn order s k d c)
+      → (get_elem? l j ≡ some (later_column order s k d c)) × MovedColumn (old_bytes order s k) (length d) c (later_column order s k d c)
   -- the bytes of all texts are the old ones, with those of column k exchanged for those that d holds
-  pub bytes : map (columnBytes (withColumn order s k d)) l
-      ≡ exchange k (columnBytes d (columnAt page order k d 0)) (λ x. x) (map (columnBytes s) (standard page order s))
+  pub bytes : map (column_bytes (with_column order s k d)) l
+      ≡ exchange k (column_bytes d (column_at page order k d 0)) (λ x. x) (map (column_bytes s) (standard page order s))
   -- all texts lie in the new reply
-  pub inside : (j : ℕ) (c : ColumnMetadata) → get_elem? l j ≡ some c → LiesAll 0 (length (withColumn order s k d)) c
+  pub inside : (j : ℕ) (c : ColumnMetadata) → get_elem? l j ≡ some c → LiesAll 0 (length (with_column order s k d)) c
 
 -- what the description entry answers to the new reply (01, What each entry owes (e))
 pub record Exchanged (page : Page) (room : ℕ) (s : List ℕ) (k : ℕ) (d : List ℕ) : Type 0 where
   -- it accepts the new reply
-  pub accepts : (description page room (withColumn BigEndian s k d)).refusal ≡ 0 ∷ []
+  pub accepts : (description page room (with_column BigEndian s k d)).refusal ≡ 0 ∷ []
   -- its list is the old reading's with exactly that column exchanged
-  pub reads : ReadExchanged page BigEndian s k d (description page room (withColumn BigEndian s k d)).columns
+  pub reads : ReadExchanged page BigEndian s k d (description page room (with_column BigEndian s k d)).columns
   -- the status record is the same: the one that the old group's own bytes give
-  pub status : (description page room (withColumn BigEndian s k d)).card ≡ aloneCard page (groupBytes s)
+  pub status : (description page room (with_column BigEndian s k d)).card ≡ alone_card page (group_bytes s)
 
 -- of what a record holds: code, length, precision, scale and CCSID (01, Answers: a record holds)
-abbrev pub attributesOf : ColumnMetadata → List ℕ
-attributesOf c = c.drda_type ∷ c.length ∷ c.precision ∷ c.scale ∷ c.ccsid ∷ []
+abbrev pub attributes_of : ColumnMetadata → List ℕ
+attributes_of c = c.drda_type ∷ c.length ∷ c.precision ∷ c.scale ∷ c.ccsid ∷ []

@@ -4,10 +4,10 @@
 ghost use Rattle.std.specs.Prelude.{◌≡◌, ◌≤◌, ◌*◌, ◌/◌, length};
 ghost use Rattle.search.specs.Search.{over};
 ghost use Rattle.codepage.specs.Page.{page037};
-ghost use Rattle.outcome.specs.Refusal.{refusalOf, inNumbers};
-ghost use Rattle.planned.specs.Planned.{columnsOf};
-ghost use Rattle.column_words.specs.Words.{allWords};
-ghost use Rattle.plan.specs.Description.{description, withCodePoint};
+ghost use Rattle.outcome.specs.Refusal.{refusal_of, in_numbers};
+ghost use Rattle.planned.specs.Planned.{columns_of};
+ghost use Rattle.column_words.specs.Words.{all_words};
+ghost use Rattle.plan.specs.Description.{description, with_code_point};
 
 use outcome::Refusal;
 use plan::SqldardAnswer;
@@ -24,7 +24,7 @@ pub struct SqldardResult {
 }
 
 fn result_of(answer: SqldardAnswer) -> SqldardResult
-    ensures { (result.refusal ≡ inNumbers (refusalOf answer.outcome)) × ((result.card ≡ answer.card) × (result.count ≡ answer.count)) }
+    ensures { (result.refusal ≡ in_numbers (refusal_of answer.outcome)) × ((result.card ≡ answer.card) × (result.count ≡ answer.count)) }
 {
     let outcome = answer.outcome;
     let card = answer.card;
@@ -39,9 +39,9 @@ fn result_of(answer: SqldardAnswer) -> SqldardResult
 // Writes a plan's columns as words.
 fn fill_words(reply: &[u8], plan: Plan, words: &mut [u64])
     requires limit_bound { plan.limit ≤ 65535 }
-    requires count_value { plan.count ≡ length (columnsOf page037 reply.now plan) }
+    requires count_value { plan.count ≡ length (columns_of page037 reply.now plan) }
     requires count_in_bounds { plan.count * 22 ≤ length words.old }
-    ensures { words.new ≡ over (allWords (columnsOf page037 reply.now plan)) words.old }
+    ensures { words.new ≡ over (all_words (columns_of page037 reply.now plan)) words.old }
 {
     let count = plan.count;
     let mut offset = plan.start;
@@ -59,10 +59,10 @@ fn fill_words(reply: &[u8], plan: Plan, words: &mut [u64])
 
 // The entry description, with room for a column in each 22 words. Nothing is written where it refuses.
 pub fn parse_sqldard_data(reply: &[u8], columns: &mut [u64]) -> SqldardResult
-    ensures refuses { result.refusal ≡ inNumbers (description page037 (length columns.old / 22) reply.now).refusal }
+    ensures refuses { result.refusal ≡ in_numbers (description page037 (length columns.old / 22) reply.now).refusal }
     ensures gives { result.card ≡ (description page037 (length columns.old / 22) reply.now).card }
     ensures counts { result.count ≡ length (description page037 (length columns.old / 22) reply.now).columns }
-    ensures fills { columns.new ≡ over (allWords (description page037 (length columns.old / 22) reply.now).columns) columns.old }
+    ensures fills { columns.new ≡ over (all_words (description page037 (length columns.old / 22) reply.now).columns) columns.old }
 {
     let decision = plan::decide(reply, columns.len() / 22);
     let plan = decision.plan;
@@ -73,10 +73,10 @@ pub fn parse_sqldard_data(reply: &[u8], columns: &mut [u64]) -> SqldardResult
 
 // The same with the reply's code point, which must be SQLDARD's.
 pub fn parse_sqldard(code_point: u16, reply: &[u8], columns: &mut [u64]) -> SqldardResult
-    ensures refuses { result.refusal ≡ inNumbers (withCodePoint page037 (length columns.old / 22) code_point reply.now).refusal }
-    ensures gives { result.card ≡ (withCodePoint page037 (length columns.old / 22) code_point reply.now).card }
-    ensures counts { result.count ≡ length (withCodePoint page037 (length columns.old / 22) code_point reply.now).columns }
-    ensures fills { columns.new ≡ over (allWords (withCodePoint page037 (length columns.old / 22) code_point reply.now).columns) columns.old }
+    ensures refuses { result.refusal ≡ in_numbers (with_code_point page037 (length columns.old / 22) code_point reply.now).refusal }
+    ensures gives { result.card ≡ (with_code_point page037 (length columns.old / 22) code_point reply.now).card }
+    ensures counts { result.count ≡ length (with_code_point page037 (length columns.old / 22) code_point reply.now).columns }
+    ensures fills { columns.new ≡ over (all_words (with_code_point page037 (length columns.old / 22) code_point reply.now).columns) columns.old }
 {
     let decision = plan::decide_at(code_point, reply, columns.len() / 22);
     let plan = decision.plan;

@@ -11,45 +11,45 @@ use Rattle.search.specs.Search.{pick}
 use Rattle.field.specs.declared.ByteOrder.TheVariants.{BigEndian}
 use Rattle.strings.specs.declared.StringRead.{StringRead}
 use Rattle.field.specs.Numbers.{number}
-use Rattle.strings.specs.Strings.{stringEnd, stringsEnd, noString, stringAt, chosen, pair_at}
+use Rattle.strings.specs.Strings.{string_end, strings_end, no_string, string_at, chosen, pair_at}
 
 -- ---- one string
 
 module _ (s : List ℕ) (p : ℕ) where
-  unread : (n : ℕ) → stringEnd s p ≡ n → length s < n → noString n ≡ stringAt s p
-  unfolding stringAt
+  unread : (n : ℕ) → string_end s p ≡ n → length s < n → no_string n ≡ string_at s p
+  unfolding string_at
   unread n e h = rw (e, lt-leb n (length s) h) refl
 
-  pub string-past : length s < p → noString p ≡ stringAt s p
-  unfolding stringEnd
-  string-past h = unread p (rw (lt-ltb (length s) p h) refl) h
+  pub string_past : length s < p → no_string p ≡ string_at s p
+  unfolding string_end
+  string_past h = unread p (rw (lt-ltb (length s) p h) refl) h
 
-  pub string-short : p ≤ length s → length s - p < 2 → noString (p + 2) ≡ stringAt s p
-  unfolding stringEnd
-  string-short l h =
+  pub string_short : p ≤ length s → length s - p < 2 → no_string (p + 2) ≡ string_at s p
+  unfolding string_end
+  string_short l h =
       let k : length s < p + 2 = omega arith in
       unread (p + 2) (rw (le-ltb (length s) p l, lt-ltb (length s) (p + 2) k) refl) k
 
   module _ (l : p ≤ length s) (h : 2 ≤ length s - p) (n : ℕ) (e : n ≡ number BigEndian 2 s p) where
-    pub end_known : stringEnd s p ≡ p + 2 + n
-    unfolding stringEnd
+    pub end_known : string_end s p ≡ p + 2 + n
+    unfolding string_end
     end_known =
         let k : p + 2 ≤ length s = omega arith in
         rw (le-ltb (length s) p l, le-ltb (length s) (p + 2) k, e) refl
 
-    pub string-cut : length s - (p + 2) < n → noString (p + 2 + n) ≡ stringAt s p
-    string-cut k = unread (p + 2 + n) end_known (omega arith)
+    pub string_cut : length s - (p + 2) < n → no_string (p + 2 + n) ≡ string_at s p
+    string_cut k = unread (p + 2 + n) end_known (omega arith)
 
-    pub string-full : n ≤ length s - (p + 2) → record { place = p + 2; length = n; next = p + 2 + n } ≡ stringAt s p
-    unfolding stringAt
-    string-full k =
+    pub string_full : n ≤ length s - (p + 2) → record { place = p + 2; length = n; next = p + 2 + n } ≡ string_at s p
+    unfolding string_at
+    string_full k =
         let m : p + 2 + n ≤ length s = omega arith in
         rw (end_known, le-leb (p + 2 + n) (length s) m, e) refl
 
   -- a string that is read ends where its length says
-  pub end-inside : stringEnd s p ≤ length s → (p + 2 ≤ length s) × (stringEnd s p ≡ p + 2 + number BigEndian 2 s p)
-  unfolding stringEnd
-  end-inside = go (ltb (length s) p) refl (ltb (length s) (p + 2)) refl
+  pub end_inside : string_end s p ≤ length s → (p + 2 ≤ length s) × (string_end s p ≡ p + 2 + number BigEndian 2 s p)
+  unfolding string_end
+  end_inside = go (ltb (length s) p) refl (ltb (length s) (p + 2)) refl
     where
       go : (t : Bool) → ltb (length s) p ≡ t → (u : Bool) → ltb (length s) (p + 2) ≡ u
           → pick t p (pick u (p + 2) (p + 2 + number BigEndian 2 s p)) ≤ length s
@@ -58,40 +58,40 @@ module _ (s : List ℕ) (p : ℕ) where
       go false e true f h = absurd (omega (arith, ltb-true (length s) (p + 2) f))
       go false e false f h = (ltb-false (length s) (p + 2) f, refl)
 
-  pub string-next : (stringAt s p).next ≡ stringEnd s p
-  unfolding stringAt
-  string-next = go (leb (stringEnd s p) (length s))
+  pub string_next : (string_at s p).next ≡ string_end s p
+  unfolding string_at
+  string_next = go (leb (string_end s p) (length s))
     where
       go : (b : Bool)
-          → (pick b (record { place = p + 2; length = number BigEndian 2 s p; next = stringEnd s p }) (noString (stringEnd s p))).next ≡ stringEnd s p
+          → (pick b (record { place = p + 2; length = number BigEndian 2 s p; next = string_end s p }) (no_string (string_end s p))).next ≡ string_end s p
       go true = refl
       go false = refl
 
   -- its bytes lie in the reply
-  pub string-inside : (stringAt s p).place + (stringAt s p).length ≤ length s
-  unfolding stringAt
-  string-inside = go (leb (stringEnd s p) (length s)) refl
+  pub string_inside : (string_at s p).place + (string_at s p).length ≤ length s
+  unfolding string_at
+  string_inside = go (leb (string_end s p) (length s)) refl
     where
-      go : (b : Bool) → leb (stringEnd s p) (length s) ≡ b
-          → (let r = pick b (record { place = p + 2; length = number BigEndian 2 s p; next = stringEnd s p }) (noString (stringEnd s p)) in
+      go : (b : Bool) → leb (string_end s p) (length s) ≡ b
+          → (let r = pick b (record { place = p + 2; length = number BigEndian 2 s p; next = string_end s p }) (no_string (string_end s p)) in
           r.place + r.length ≤ length s)
-      go true e = let i = end-inside (leb-true (stringEnd s p) (length s) e) in omega (arith, leb-true (stringEnd s p) (length s) e)
+      go true e = let i = end_inside (leb-true (string_end s p) (length s) e) in omega (arith, leb-true (string_end s p) (length s) e)
       go false e = omega arith
 
--- ---- several strings: t is the answer, `t ≡ stringsEnd left s next` the loop's invariant
+-- ---- several strings: t is the answer, `t ≡ strings_end left s next` the loop's invariant
 
-module _ (s : List ℕ) (left next t : ℕ) (e : t ≡ stringsEnd left s next) where
-  pub strings-more : (r : StringRead) → 0 < left → r ≡ stringAt s next → t ≡ stringsEnd (left - 1) s r.next
-  unfolding stringsEnd
-  strings-more r h f =
+module _ (s : List ℕ) (left next t : ℕ) (e : t ≡ strings_end left s next) where
+  pub strings_more : (r : StringRead) → 0 < left → r ≡ string_at s next → t ≡ strings_end (left - 1) s r.next
+  unfolding strings_end
+  strings_more r h f =
       let k : left ≡ suc (left - 1) = omega arith in
-      e ∙ ap (λ (n : ℕ). stringsEnd n s next) k ∙ ap (stringsEnd (left - 1) s) (sym (ap (λ (x : StringRead). x.next) f ∙ string-next s next))
+      e ∙ ap (λ (n : ℕ). strings_end n s next) k ∙ ap (strings_end (left - 1) s) (sym (ap (λ (x : StringRead). x.next) f ∙ string_next s next))
 
-  pub strings-done : left ≤ 0 → next ≡ t
-  unfolding stringsEnd
-  strings-done h =
+  pub strings_done : left ≤ 0 → next ≡ t
+  unfolding strings_end
+  strings_done h =
       let k : left ≡ 0 = omega arith in
-      sym (e ∙ ap (λ (n : ℕ). stringsEnd n s next) k)
+      sym (e ∙ ap (λ (n : ℕ). strings_end n s next) k)
 
 -- ---- two strings
 
@@ -99,42 +99,42 @@ module _ (m s : StringRead) where
   abbrev picked : Bool → StringRead
   picked b = pick b s (record { place = m.place; length = m.length; next = s.next })
 
-  pub chosen-second : m.length ≡ 0 → s ≡ chosen m s
+  pub chosen_second : m.length ≡ 0 → s ≡ chosen m s
   unfolding chosen
-  chosen-second z = sym (ap picked (eq-eqb m.length 0 z))
+  chosen_second z = sym (ap picked (eq-eqb m.length 0 z))
 
-  pub chosen-first : (m.length ≡ 0 → ⊥) → record { place = m.place; length = m.length; next = s.next } ≡ chosen m s
+  pub chosen_first : (m.length ≡ 0 → ⊥) → record { place = m.place; length = m.length; next = s.next } ≡ chosen m s
   unfolding chosen
-  chosen-first z = sym (ap picked (ne_eqb m.length 0 z))
+  chosen_first z = sym (ap picked (ne_eqb m.length 0 z))
 
-  pub chosen-next : (chosen m s).next ≡ s.next
+  pub chosen_next : (chosen m s).next ≡ s.next
   unfolding chosen
-  chosen-next = go (eqb m.length 0)
+  chosen_next = go (eqb m.length 0)
     where
       go : (b : Bool) → (picked b).next ≡ s.next
       go true = refl
       go false = refl
 
   -- the bytes of the string that counts lie where those of both do
-  pub chosen-inside : (n : ℕ) → m.place + m.length ≤ n → s.place + s.length ≤ n → (chosen m s).place + (chosen m s).length ≤ n
+  pub chosen_inside : (n : ℕ) → m.place + m.length ≤ n → s.place + s.length ≤ n → (chosen m s).place + (chosen m s).length ≤ n
   unfolding chosen
-  chosen-inside n h k = go (eqb m.length 0)
+  chosen_inside n h k = go (eqb m.length 0)
     where
       go : (b : Bool) → (picked b).place + (picked b).length ≤ n
       go true = k
       go false = h
 
 module _ (s : List ℕ) (p : ℕ) where
-  pub pair_is : (a b : StringRead) → a ≡ stringAt s p → b ≡ stringAt s a.next → chosen a b ≡ pair_at s p
+  pub pair_is : (a b : StringRead) → a ≡ string_at s p → b ≡ string_at s a.next → chosen a b ≡ pair_at s p
   unfolding pair_at
   pair_is a b e f =
-      let n : a.next ≡ stringEnd s p = ap (λ (x : StringRead). x.next) e ∙ string-next s p in
-      ap (λ (x : StringRead). chosen x b) e ∙ ap (chosen (stringAt s p)) (f ∙ ap (stringAt s) n)
+      let n : a.next ≡ string_end s p = ap (λ (x : StringRead). x.next) e ∙ string_next s p in
+      ap (λ (x : StringRead). chosen x b) e ∙ ap (chosen (string_at s p)) (f ∙ ap (string_at s) n)
 
-  pub pair-next : (pair_at s p).next ≡ stringsEnd 2 s p
-  unfolding pair_at stringsEnd
-  pair-next = chosen-next (stringAt s p) (stringAt s (stringEnd s p)) ∙ string-next s (stringEnd s p)
+  pub pair_next : (pair_at s p).next ≡ strings_end 2 s p
+  unfolding pair_at strings_end
+  pair_next = chosen_next (string_at s p) (string_at s (string_end s p)) ∙ string_next s (string_end s p)
 
   pub pair_inside : (pair_at s p).place + (pair_at s p).length ≤ length s
   unfolding pair_at
-  pair_inside = chosen-inside (stringAt s p) (stringAt s (stringEnd s p)) (length s) (string-inside s p) (string-inside s (stringEnd s p))
+  pair_inside = chosen_inside (string_at s p) (string_at s (string_end s p)) (length s) (string_inside s p) (string_inside s (string_end s p))

@@ -14,33 +14,33 @@ use Rattle.field.specs.declared.ByteOrder.{ByteOrder}
 use Rattle.field.specs.declared.ByteOrder.TheVariants.{BigEndian, LittleEndian}
 use Rattle.strings.specs.declared.StringRead.{StringRead}
 use Rattle.field.specs.Numbers.{number}
-use Rattle.strings.specs.Strings.{stringEnd, stringsEnd, stringAt, chosen, pair_at}
-use Rattle.strings.proofs.Strings.{end_known, end-inside, string-full}
+use Rattle.strings.specs.Strings.{string_end, strings_end, string_at, chosen, pair_at}
+use Rattle.strings.proofs.Strings.{end_known, end_inside, string_full}
 
 -- ---- positions do not go back
 
-pick-above : (t : Bool) (x y p : ℕ) → p ≤ x → p ≤ y → p ≤ pick t x y
-pick-above true x y p h k = h
-pick-above false x y p h k = k
+pick_above : (t : Bool) (x y p : ℕ) → p ≤ x → p ≤ y → p ≤ pick t x y
+pick_above true x y p h k = h
+pick_above false x y p h k = k
 
-pub stringEnd-grows : (s : List ℕ) (p : ℕ) → p ≤ stringEnd s p
-unfolding stringEnd
-stringEnd-grows s p =
-    pick-above (ltb (length s) p) _ _ p (le_refl p) (pick-above (ltb (length s) (p + 2)) _ _ p (omega arith) (omega arith))
+pub string_end_grows : (s : List ℕ) (p : ℕ) → p ≤ string_end s p
+unfolding string_end
+string_end_grows s p =
+    pick_above (ltb (length s) p) _ _ p (le_refl p) (pick_above (ltb (length s) (p + 2)) _ _ p (omega arith) (omega arith))
 
-pub stringsEnd-grows : (n : ℕ) (s : List ℕ) (p : ℕ) → p ≤ stringsEnd n s p
-unfolding stringsEnd
-stringsEnd-grows zero s p = le_refl p
-stringsEnd-grows (suc n) s p = le_trans (stringEnd-grows s p) (stringsEnd-grows n s (stringEnd s p))
+pub strings_end_grows : (n : ℕ) (s : List ℕ) (p : ℕ) → p ≤ strings_end n s p
+unfolding strings_end
+strings_end_grows zero s p = le_refl p
+strings_end_grows (suc n) s p = le_trans (string_end_grows s p) (strings_end_grows n s (string_end s p))
 
 -- c strings and then d of n
-pub stringsEnd-within : (c d n : ℕ) → c + d ≤ n → (s : List ℕ) (p : ℕ) → stringsEnd d s (stringsEnd c s p) ≤ stringsEnd n s p
-unfolding stringsEnd
-stringsEnd-within zero zero n h s p = stringsEnd-grows n s p
-stringsEnd-within zero (suc d) zero h s p = absurd (omega arith)
-stringsEnd-within zero (suc d) (suc n) h s p = stringsEnd-within zero d n (omega arith) s (stringEnd s p)
-stringsEnd-within (suc c) d zero h s p = absurd (omega arith)
-stringsEnd-within (suc c) d (suc n) h s p = stringsEnd-within c d n (omega arith) s (stringEnd s p)
+pub strings_end_within : (c d n : ℕ) → c + d ≤ n → (s : List ℕ) (p : ℕ) → strings_end d s (strings_end c s p) ≤ strings_end n s p
+unfolding strings_end
+strings_end_within zero zero n h s p = strings_end_grows n s p
+strings_end_within zero (suc d) zero h s p = absurd (omega arith)
+strings_end_within zero (suc d) (suc n) h s p = strings_end_within zero d n (omega arith) s (string_end s p)
+strings_end_within (suc c) d zero h s p = absurd (omega arith)
+strings_end_within (suc c) d (suc n) h s p = strings_end_within c d n (omega arith) s (string_end s p)
 
 -- ---- windows
 
@@ -65,19 +65,19 @@ pub record StringMoved (a b n : ℕ) (t t' : StringRead) : Type 0 where
 pub same_here : (p : ℕ) → Same 0 0 p p
 same_here p = omega arith
 
-pub same-plus : (a b c p q : ℕ) → Same a b p q → Same a b (p + c) (q + c)
-same-plus a b c p q h = omega arith
+pub same_plus : (a b c p q : ℕ) → Same a b p q → Same a b (p + c) (q + c)
+same_plus a b c p q h = omega arith
 
 -- ---- where windows come from
 
 -- a window is one in either direction
-pub window-back : (s : List ℕ) (a : ℕ) (s' : List ℕ) (b n : ℕ) → Window s a s' b n → Window s' b s a n
-window-back s a s' b n w =
+pub window_back : (s : List ℕ) (a : ℕ) (s' : List ℕ) (b n : ℕ) → Window s a s' b n → Window s' b s a n
+window_back s a s' b n w =
     record { bytes = λ p q h k. sym (w.bytes q p (omega arith) (omega arith)); inside = w.inside'; inside' = w.inside }
 
 -- two replies that start alike
-pub window-front : (s t : List ℕ) (n : ℕ) → take n s ≡ take n t → n ≤ length s → n ≤ length t → Window s 0 t 0 n
-window-front s t n e h k =
+pub window_front : (s t : List ℕ) (n : ℕ) → take n s ≡ take n t → n ≤ length s → n ≤ length t → Window s 0 t 0 n
+window_front s t n e h k =
     record {
       bytes = λ p q i j.
           let l : p < n = omega arith in
@@ -87,29 +87,29 @@ window-front s t n e h k =
       inside' = omega arith;
     }
 
-pub window-self : (s : List ℕ) (n : ℕ) → n ≤ length s → Window s 0 s 0 n
-window-self s n h = window-front s s n refl h h
+pub window_self : (s : List ℕ) (n : ℕ) → n ≤ length s → Window s 0 s 0 n
+window_self s n h = window_front s s n refl h h
 
-pub window-take : (s : List ℕ) (n : ℕ) → n ≤ length s → Window s 0 (take n s) 0 n
-window-take s n h = window-front s (take n s) n (sym (take-take n n s (le_refl n))) h (omega (arith, length-take-le n s h))
+pub window_take : (s : List ℕ) (n : ℕ) → n ≤ length s → Window s 0 (take n s) 0 n
+window_take s n h = window_front s (take n s) n (sym (take-take n n s (le_refl n))) h (omega (arith, length-take-le n s h))
 
-pub window-taken : (s : List ℕ) (n : ℕ) → n ≤ length s → Window (take n s) 0 s 0 n
-window-taken s n h = window-back s 0 (take n s) 0 n (window-take s n h)
+pub window_taken : (s : List ℕ) (n : ℕ) → n ≤ length s → Window (take n s) 0 s 0 n
+window_taken s n h = window_back s 0 (take n s) 0 n (window_take s n h)
 
 -- ---- moved strings
 
 -- where nothing moves, the string is the same
-pub string-still : (n : ℕ) (t t' : StringRead) → StringMoved 0 0 n t t' → t' ≡ t
-string-still n t t' m =
+pub string_still : (n : ℕ) (t t' : StringRead) → StringMoved 0 0 n t t' → t' ≡ t
+string_still n t t' m =
     let x : t'.place ≡ t.place = omega arith in
     let y : t'.next ≡ t.next = omega arith in
     λ i. record { place = x i; length = m.length i; next = y i }
 
 -- m is chosen in both or in neither
-chosen-moved : (a b n : ℕ) (t t' u u' : StringRead) → StringMoved a b n t t' → StringMoved a b n u u'
+chosen_moved : (a b n : ℕ) (t t' u u' : StringRead) → StringMoved a b n t t' → StringMoved a b n u u'
     → StringMoved a b n (chosen t u) (chosen t' u')
 unfolding chosen
-chosen-moved a b n t t' u u' x y =
+chosen_moved a b n t t' u u' x y =
     subst
     (λ (k : ℕ). StringMoved a b n (chosen t u) (pick (eqb k 0) u' (record { place = t'.place; length = t'.length; next = u'.next })))
     (sym x.length)
@@ -141,33 +141,33 @@ module _ (s : List ℕ) (a : ℕ) (s' : List ℕ) (b n : ℕ) (w : Window s a s'
       ext_get_or 0 _ _ (l ∙ sym l') (λ i j.
       let j' : i < c = omega arith in
       get_or-take c (drop p s) i 0 j' ∙ get_or-drop p s i 0
-      ∙ w.bytes (p + i) (q + i) (same-plus a b i p q h) (omega arith)
+      ∙ w.bytes (p + i) (q + i) (same_plus a b i p q h) (omega arith)
       ∙ sym (get_or-take c (drop q s') i 0 j' ∙ get_or-drop q s' i 0))
 
-  pub stringEnd-local : (p q : ℕ) → Same a b p q → stringEnd s p ≤ a + n → Same a b (stringEnd s p) (stringEnd s' q)
-  stringEnd-local p q h k =
-      let i = end-inside s p (omega (arith, w.inside)) in
+  pub string_end_local : (p q : ℕ) → Same a b p q → string_end s p ≤ a + n → Same a b (string_end s p) (string_end s' q)
+  string_end_local p q h k =
+      let i = end_inside s p (omega (arith, w.inside)) in
       let e = number_same BigEndian 2 p q h (omega arith) in
       let f = end_known s' q (omega (arith, w.inside')) (omega (arith, w.inside')) (number BigEndian 2 s p) e in
       omega arith
 
-  pub stringsEnd-local : (k p q : ℕ) → Same a b p q → stringsEnd k s p ≤ a + n → Same a b (stringsEnd k s p) (stringsEnd k s' q)
-  unfolding stringsEnd
-  stringsEnd-local zero p q h l = h
-  stringsEnd-local (suc k) p q h l =
-      stringsEnd-local k (stringEnd s p) (stringEnd s' q) (stringEnd-local p q h (le_trans (stringsEnd-grows k s (stringEnd s p)) l)) l
+  pub strings_end_local : (k p q : ℕ) → Same a b p q → strings_end k s p ≤ a + n → Same a b (strings_end k s p) (strings_end k s' q)
+  unfolding strings_end
+  strings_end_local zero p q h l = h
+  strings_end_local (suc k) p q h l =
+      strings_end_local k (string_end s p) (string_end s' q) (string_end_local p q h (le_trans (strings_end_grows k s (string_end s p)) l)) l
 
-  pub stringAt-same : (p q : ℕ) → Same a b p q → stringEnd s p ≤ a + n → StringMoved a b n (stringAt s p) (stringAt s' q)
-  stringAt-same p q h k =
-      let i = end-inside s p (omega (arith, w.inside)) in
+  pub string_at_same : (p q : ℕ) → Same a b p q → string_end s p ≤ a + n → StringMoved a b n (string_at s p) (string_at s' q)
+  string_at_same p q h k =
+      let i = end_inside s p (omega (arith, w.inside)) in
       let m = number BigEndian 2 s p in
       let e = number_same BigEndian 2 p q h (omega arith) in
-      let x = string-full s p (omega arith) (omega arith) m refl (omega (arith, w.inside)) in
-      let y = string-full s' q (omega (arith, w.inside')) (omega (arith, w.inside')) m e (omega (arith, w.inside')) in
+      let x = string_full s p (omega arith) (omega arith) m refl (omega (arith, w.inside)) in
+      let y = string_full s' q (omega (arith, w.inside')) (omega (arith, w.inside')) m e (omega (arith, w.inside')) in
       rw (← x, ← y) (record { length = refl; place = omega arith; next = omega arith; within = omega arith })
 
-  pub pairAt-same : (p q : ℕ) → Same a b p q → stringsEnd 2 s p ≤ a + n → StringMoved a b n (pair_at s p) (pair_at s' q)
-  unfolding pair_at stringsEnd
-  pairAt-same p q h k =
-      let l : stringEnd s p ≤ a + n = le_trans (stringEnd-grows s (stringEnd s p)) k in
-      chosen-moved a b n _ _ _ _ (stringAt-same p q h l) (stringAt-same (stringEnd s p) (stringEnd s' q) (stringEnd-local p q h l) k)
+  pub pair_at_same : (p q : ℕ) → Same a b p q → strings_end 2 s p ≤ a + n → StringMoved a b n (pair_at s p) (pair_at s' q)
+  unfolding pair_at strings_end
+  pair_at_same p q h k =
+      let l : string_end s p ≤ a + n = le_trans (string_end_grows s (string_end s p)) k in
+      chosen_moved a b n _ _ _ _ (string_at_same p q h l) (string_at_same (string_end s p) (string_end s' q) (string_end_local p q h l) k)

@@ -8,24 +8,24 @@ use Rattle.strings.specs.declared.StringRead.{StringRead}
 use Rattle.field.specs.Numbers.{number}
 
 -- past the string at p (01, Layouts: strings have a 16-bit BE length; 01, Numbers of refusal: 2, the expected length)
-unfoldable pub stringEnd : List ℕ → ℕ → ℕ
-stringEnd s p = pick (ltb (length s) p) p (pick (ltb (length s) (p + 2)) (p + 2) (p + 2 + number BigEndian 2 s p))
+unfoldable pub string_end : List ℕ → ℕ → ℕ
+string_end s p = pick (ltb (length s) p) p (pick (ltb (length s) (p + 2)) (p + 2) (p + 2 + number BigEndian 2 s p))
 
 -- past n strings, one after the other (01, Layouts: three, five, nine strings)
-unfoldable pub stringsEnd : ℕ → List ℕ → ℕ → ℕ
-stringsEnd zero s p = p
-stringsEnd (suc n) s p = stringsEnd n s (stringEnd s p)
+unfoldable pub strings_end : ℕ → List ℕ → ℕ → ℕ
+strings_end zero s p = p
+strings_end (suc n) s p = strings_end n s (string_end s p)
 
 -- a string that the reply ends in: no bytes; next is the length that was expected (01, Numbers of refusal: 2)
-abbrev pub noString : ℕ → StringRead
-noString next = record { place = 0; length = 0; next = next }
+abbrev pub no_string : ℕ → StringRead
+no_string next = record { place = 0; length = 0; next = next }
 
 -- the string at p: where its bytes lie, how many they are, and what is past it (01, Layouts)
-unfoldable pub stringAt : List ℕ → ℕ → StringRead
-stringAt s p =
-    pick (leb (stringEnd s p) (lib.ListN.length s))
-    (record { place = p + 2; length = number BigEndian 2 s p; next = stringEnd s p })
-    (noString (stringEnd s p))
+unfoldable pub string_at : List ℕ → ℕ → StringRead
+string_at s p =
+    pick (leb (string_end s p) (lib.ListN.length s))
+    (record { place = p + 2; length = number BigEndian 2 s p; next = string_end s p })
+    (no_string (string_end s p))
 
 -- of two strings the first that has bytes, and what is past both (DRDA V1: the pairs _m and _s; 01: m counts before s where not empty)
 unfoldable pub chosen : StringRead → StringRead → StringRead
@@ -33,4 +33,4 @@ chosen m s = pick (eqb m.length 0) s (record { place = m.place; length = m.lengt
 
 -- the pair of strings _m and _s at p (DRDA V1: as SQLNAME_m, SQLNAME_s)
 unfoldable pub pair_at : List ℕ → ℕ → StringRead
-pair_at s p = chosen (stringAt s p) (stringAt s (stringEnd s p))
+pair_at s p = chosen (string_at s p) (string_at s (string_end s p))

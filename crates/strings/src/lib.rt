@@ -3,7 +3,7 @@
 #![tactic(auto)]
 
 ghost use Rattle.std.specs.Prelude.{◌≡◌};
-ghost use Rattle.strings.specs.Strings.{noString, stringAt, stringsEnd, chosen, pair_at};
+ghost use Rattle.strings.specs.Strings.{no_string, string_at, strings_end, chosen, pair_at};
 
 use field::ByteOrder;
 
@@ -23,7 +23,7 @@ pub struct Walker<'a> {
 }
 
 pub fn no_string(next: usize) -> StringRead
-    ensures { result ≡ noString next }
+    ensures { result ≡ no_string next }
 {
     StringRead {
         place: 0,
@@ -33,7 +33,7 @@ pub fn no_string(next: usize) -> StringRead
 }
 
 fn string_at(reply: &[u8], offset: usize) -> StringRead
-    ensures { result ≡ stringAt reply.now offset }
+    ensures { result ≡ string_at reply.now offset }
 {
     let end = reply.len();
     if end < offset {
@@ -61,21 +61,21 @@ pub fn walker_at<'a>(reply: &'a [u8], offset: usize) -> Walker<'a>
 }
 
 pub fn string<'a>(walker: Walker<'a>) -> StringRead
-    ensures { result ≡ stringAt walker.entry.reply.now walker.entry.offset }
+    ensures { result ≡ string_at walker.entry.reply.now walker.entry.offset }
 {
     string_at(walker.reply, walker.offset)
 }
 
 // The string at a position: what every group of strings is read by.
 pub fn read_string(reply: &[u8], offset: usize) -> StringRead
-    ensures { result ≡ stringAt reply.now offset }
+    ensures { result ≡ string_at reply.now offset }
 {
     string(walker_at(reply, offset))
 }
 
 // Past `count` strings.
 pub fn skip_strings(reply: &[u8], offset: usize, count: usize) -> usize
-    ensures { result ≡ stringsEnd count reply.now offset }
+    ensures { result ≡ strings_end count reply.now offset }
 {
     let mut next = offset;
     let mut left = count;

@@ -11,9 +11,9 @@ use borrow.Author.Tests.{lt-ltb, le-ltb, eq-eqb, ne_eqb}
 use Rattle.search.specs.Search.{below, each}
 use Rattle.search.proofs.Over.{get_d_map}
 use Rattle.search.proofs.Tests.{agree, agree_same, below_at}
-use Rattle.codepage.specs.Page.{Page, table037, charIn}
-use Rattle.text.specs.Chars.{isDigit, charOf, chars, isDigitOf}
-use Rattle.text.specs.Generated.{startsCol, isGenerated}
+use Rattle.codepage.specs.Page.{Page, table037, char_in}
+use Rattle.text.specs.Chars.{is_digit, char_of, chars, is_digit_of}
+use Rattle.text.specs.Generated.{starts_col, is_generated}
 
 -- the table has character c at byte b and nowhere else
 abbrev spells : List ℕ → ℕ → ℕ → Bool
@@ -24,60 +24,60 @@ pub record SpellsColAsIn037 (t : List ℕ) : Type 0 where
   pub c : T (spells t 0x43 0xC3)
   pub o : T (spells t 0x4F 0xD6)
   pub l : T (spells t 0x4C 0xD3)
-  pub digits : T (below 256 (λ k. agree (isDigit (get_or t k 0)) (leb 0xF0 k && leb k 0xF9)))
+  pub digits : T (below 256 (λ k. agree (is_digit (get_or t k 0)) (leb 0xF0 k && leb k 0xF9)))
 
 -- page 037 does: computed
-pub spells-037 : SpellsColAsIn037 table037
+pub spells_037 : SpellsColAsIn037 table037
 unfolding table037
-spells-037 = record { c = tt; o = tt; l = tt; digits = tt }
+spells_037 = record { c = tt; o = tt; l = tt; digits = tt }
 
 -- ---- characters by bytes
 
-pub charOf-page : (page : Page) (a b : ℕ) → a ≡ page.alphabet → charIn page b ≡ charOf page a b
-unfolding charOf
-charOf-page page a b e = let t : eqb a page.alphabet ≡ true = eq-eqb a page.alphabet e in rw t refl
+pub char_of_page : (page : Page) (a b : ℕ) → a ≡ page.alphabet → char_in page b ≡ char_of page a b
+unfolding char_of
+char_of_page page a b e = let t : eqb a page.alphabet ≡ true = eq-eqb a page.alphabet e in rw t refl
 
-pub charOf-other : (page : Page) (a b : ℕ) → (a ≡ page.alphabet → ⊥) → b ≡ charOf page a b
-unfolding charOf
-charOf-other page a b e = let t : eqb a page.alphabet ≡ false = ne_eqb a page.alphabet e in rw t refl
+pub char_of_other : (page : Page) (a b : ℕ) → (a ≡ page.alphabet → ⊥) → b ≡ char_of page a b
+unfolding char_of
+char_of_other page a b e = let t : eqb a page.alphabet ≡ false = ne_eqb a page.alphabet e in rw t refl
 
-pub digit-other : (page : Page) (a b : ℕ) → (a ≡ page.alphabet → ⊥) → isDigit b ≡ isDigitOf page a b
-digit-other page a b e = ap isDigit (charOf-other page a b e)
+pub digit_other : (page : Page) (a b : ℕ) → (a ≡ page.alphabet → ⊥) → is_digit b ≡ is_digit_of page a b
+digit_other page a b e = ap is_digit (char_of_other page a b e)
 
 -- three characters in a row, each told by its byte
 three : (page : Page) (a : ℕ) (bs : List ℕ) → 3 < length bs → (p q r : Bool)
-    → p ≡ eqb (charOf page a (get_or bs 0 0)) 0x43 → q ≡ eqb (charOf page a (get_or bs 1 0)) 0x4F → r ≡ eqb (charOf page a (get_or bs 2 0)) 0x4C
-    → (p && q && r) ≡ startsCol (chars page a bs)
+    → p ≡ eqb (char_of page a (get_or bs 0 0)) 0x43 → q ≡ eqb (char_of page a (get_or bs 1 0)) 0x4F → r ≡ eqb (char_of page a (get_or bs 2 0)) 0x4C
+    → (p && q && r) ≡ starts_col (chars page a bs)
 three page a bs h p q r x y z =
-    let u = get_d_map (charOf page a) bs 0 0 0 (omega arith) in
-    let v = get_d_map (charOf page a) bs 1 0 0 (omega arith) in
-    let w = get_d_map (charOf page a) bs 2 0 0 (omega arith) in
+    let u = get_d_map (char_of page a) bs 0 0 0 (omega arith) in
+    let v = get_d_map (char_of page a) bs 1 0 0 (omega arith) in
+    let w = get_d_map (char_of page a) bs 2 0 0 (omega arith) in
     rw (u, v, w, x, y, z) refl
 
-pub col-other : (page : Page) (a : ℕ) (bs : List ℕ) → 3 < length bs → (a ≡ page.alphabet → ⊥)
-    → (eqb (get_or bs 0 0) 0x43 && eqb (get_or bs 1 0) 0x4F && eqb (get_or bs 2 0) 0x4C) ≡ startsCol (chars page a bs)
-col-other page a bs h e =
+pub col_other : (page : Page) (a : ℕ) (bs : List ℕ) → 3 < length bs → (a ≡ page.alphabet → ⊥)
+    → (eqb (get_or bs 0 0) 0x43 && eqb (get_or bs 1 0) 0x4F && eqb (get_or bs 2 0) 0x4C) ≡ starts_col (chars page a bs)
+col_other page a bs h e =
     three page a bs h _ _ _ (at 0 0x43) (at 1 0x4F) (at 2 0x4C)
   where
-    at : (k c : ℕ) → eqb (get_or bs k 0) c ≡ eqb (charOf page a (get_or bs k 0)) c
-    at k c = ap (λ (x : ℕ). eqb x c) (charOf-other page a (get_or bs k 0) e)
+    at : (k c : ℕ) → eqb (get_or bs k 0) c ≡ eqb (char_of page a (get_or bs k 0)) c
+    at k c = ap (λ (x : ℕ). eqb x c) (char_of_other page a (get_or bs k 0) e)
 
 -- a page that spells COL and the digits as page 037 does
 module _ (page : Page) (h : SpellsColAsIn037 page.table) (a : ℕ) (e : a ≡ page.alphabet) where
-  pub digit-page : (b : ℕ) → b < 256 → (leb 0xF0 b && leb b 0xF9) ≡ isDigitOf page a b
-  digit-page b m =
-      sym (agree_same (isDigit (charIn page b)) (leb 0xF0 b && leb b 0xF9)
-      (below_at 256 (λ k. agree (isDigit (get_or page.table k 0)) (leb 0xF0 k && leb k 0xF9)) h.digits b m))
-      ∙ ap isDigit (charOf-page page a b e)
+  pub digit_page : (b : ℕ) → b < 256 → (leb 0xF0 b && leb b 0xF9) ≡ is_digit_of page a b
+  digit_page b m =
+      sym (agree_same (is_digit (char_in page b)) (leb 0xF0 b && leb b 0xF9)
+      (below_at 256 (λ k. agree (is_digit (get_or page.table k 0)) (leb 0xF0 k && leb k 0xF9)) h.digits b m))
+      ∙ ap is_digit (char_of_page page a b e)
 
-  pub letter : (c b : ℕ) → T (spells page.table c b) → (k : ℕ) → k < 256 → eqb k b ≡ eqb (charOf page a k) c
+  pub letter : (c b : ℕ) → T (spells page.table c b) → (k : ℕ) → k < 256 → eqb k b ≡ eqb (char_of page a k) c
   letter c b t k m =
-      sym (agree_same (eqb (charIn page k) c) (eqb k b) (below_at 256 (λ j. agree (eqb (get_or page.table j 0) c) (eqb j b)) t k m))
-      ∙ ap (λ (x : ℕ). eqb x c) (charOf-page page a k e)
+      sym (agree_same (eqb (char_in page k) c) (eqb k b) (below_at 256 (λ j. agree (eqb (get_or page.table j 0) c) (eqb j b)) t k m))
+      ∙ ap (λ (x : ℕ). eqb x c) (char_of_page page a k e)
 
-  pub col-page : (bs : List ℕ) → 3 < length bs → ((k : ℕ) → get_or bs k 0 < 256)
-      → (eqb (get_or bs 0 0) 0xC3 && eqb (get_or bs 1 0) 0xD6 && eqb (get_or bs 2 0) 0xD3) ≡ startsCol (chars page a bs)
-  col-page bs n m =
+  pub col_page : (bs : List ℕ) → 3 < length bs → ((k : ℕ) → get_or bs k 0 < 256)
+      → (eqb (get_or bs 0 0) 0xC3 && eqb (get_or bs 1 0) 0xD6 && eqb (get_or bs 2 0) 0xD3) ≡ starts_col (chars page a bs)
+  col_page bs n m =
       three page a bs n _ _ _ (letter 0x43 0xC3 h.c (get_or bs 0 0) (m 0)) (letter 0x4F 0xD6 h.o (get_or bs 1 0) (m 1))
       (letter 0x4C 0xD3 h.l (get_or bs 2 0) (m 2))
 
@@ -87,30 +87,30 @@ pub each_map : (g : ℕ → Bool) (f : ℕ → ℕ) (l : List ℕ) → each g (m
 each_map g f [] = refl
 each_map g f (x ∷ xs) = ap (λ (b : Bool). g (f x) && b) (each_map g f xs)
 
-pub drop-map : (f : ℕ → ℕ) (n : ℕ) (l : List ℕ) → drop n (map f l) ≡ map f (drop n l)
-drop-map f zero l = refl
-drop-map f (suc n) [] = refl
-drop-map f (suc n) (x ∷ xs) = drop-map f n xs
+pub drop_map : (f : ℕ → ℕ) (n : ℕ) (l : List ℕ) → drop n (map f l) ≡ map f (drop n l)
+drop_map f zero l = refl
+drop_map f (suc n) [] = refl
+drop_map f (suc n) (x ∷ xs) = drop_map f n xs
 
 module _ (page : Page) (a : ℕ) (bs : List ℕ) where
-  pub generated-short : length bs ≤ 3 → false ≡ isGenerated (chars page a bs)
-  unfolding isGenerated
-  generated-short h =
-      let e : ltb 3 (length (chars page a bs)) ≡ false = le-ltb 3 (length (chars page a bs)) (omega (arith, length-map bs (charOf page a))) in
+  pub generated_short : length bs ≤ 3 → false ≡ is_generated (chars page a bs)
+  unfolding is_generated
+  generated_short h =
+      let e : ltb 3 (length (chars page a bs)) ≡ false = le-ltb 3 (length (chars page a bs)) (omega (arith, length-map bs (char_of page a))) in
       rw e refl
 
   long : 3 < length bs → ltb 3 (length (chars page a bs)) ≡ true
-  long h = lt-ltb 3 (length (chars page a bs)) (omega (arith, length-map bs (charOf page a)))
+  long h = lt-ltb 3 (length (chars page a bs)) (omega (arith, length-map bs (char_of page a)))
 
-  pub generated-other : 3 < length bs → startsCol (chars page a bs) ≡ false → false ≡ isGenerated (chars page a bs)
-  unfolding isGenerated
-  generated-other h e = rw (long h, e) refl
+  pub generated_other : 3 < length bs → starts_col (chars page a bs) ≡ false → false ≡ is_generated (chars page a bs)
+  unfolding is_generated
+  generated_other h e = rw (long h, e) refl
 
   -- the digits are those of the bytes from the fourth on, as the code lends them
-  pub generated-digits : (b : Bool) → 3 < length bs → startsCol (chars page a bs) ≡ true
-      → b ≡ each (isDigitOf page a) (take (length bs - 3) (drop 3 bs)) → b ≡ isGenerated (chars page a bs)
-  unfolding isGenerated
-  generated-digits b h e d =
+  pub generated_digits : (b : Bool) → 3 < length bs → starts_col (chars page a bs) ≡ true
+      → b ≡ each (is_digit_of page a) (take (length bs - 3) (drop 3 bs)) → b ≡ is_generated (chars page a bs)
+  unfolding is_generated
+  generated_digits b h e d =
       let w : take (length bs - 3) (drop 3 bs) ≡ drop 3 bs = take_all (length bs - 3) (drop 3 bs) (omega (arith, length-drop 3 bs)) in
-      d ∙ ap (each (isDigitOf page a)) w ∙ sym (each_map isDigit (charOf page a) (drop 3 bs)) ∙ ap (each isDigit) (sym (drop-map (charOf page a) 3 bs))
+      d ∙ ap (each (is_digit_of page a)) w ∙ sym (each_map is_digit (char_of page a) (drop 3 bs)) ∙ ap (each is_digit) (sym (drop_map (char_of page a) 3 bs))
       ∙ sym (rw (long h, e) refl)

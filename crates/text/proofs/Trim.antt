@@ -10,36 +10,36 @@ use lib.Seq.{take-suc, length-take-le}
 use lib.Dec.{T, eqb, eqb-suc-zero}
 use borrow.Author.Tests.{eqb-true}
 use Rattle.search.specs.Search.{pick, each}
-use Rattle.search.proofs.Each.{drop-next}
+use Rattle.search.proofs.Each.{drop_next}
 use Rattle.text.specs.Text.{leading, kept}
 
 -- ---- from the front: t is the answer, `t ≡ i + leading f (drop i l)` the loop's invariant
 
 module _ (f : ℕ → Bool) (l : List ℕ) (i t : ℕ) (e : t ≡ i + leading f (drop i l)) where
-  pub leading-more : i < length l → f (get_or l i 0) ≡ true → t ≡ i + 1 + leading f (drop (i + 1) l)
+  pub leading_more : i < length l → f (get_or l i 0) ≡ true → t ≡ i + 1 + leading f (drop (i + 1) l)
   unfolding leading
-  leading-more h g =
-      let z : leading f (drop i l) ≡ suc (leading f (drop (i + 1) l)) = ap (leading f) (drop-next l i 0 h) ∙ rw g refl in
+  leading_more h g =
+      let z : leading f (drop i l) ≡ suc (leading f (drop (i + 1) l)) = ap (leading f) (drop_next l i 0 h) ∙ rw g refl in
       omega arith
 
-  pub leading-stop : i < length l → f (get_or l i 0) ≡ false → i ≡ t
+  pub leading_stop : i < length l → f (get_or l i 0) ≡ false → i ≡ t
   unfolding leading
-  leading-stop h g =
-      let z : leading f (drop i l) ≡ 0 = ap (leading f) (drop-next l i 0 h) ∙ rw g refl in
+  leading_stop h g =
+      let z : leading f (drop i l) ≡ 0 = ap (leading f) (drop_next l i 0 h) ∙ rw g refl in
       omega arith
 
-  pub leading-done : length l ≤ i → i ≡ t
+  pub leading_done : length l ≤ i → i ≡ t
   unfolding leading
-  leading-done h =
+  leading_done h =
       let z : leading f (drop i l) ≡ 0 = ap (leading f) (drop_of_length-le l h) in
       omega arith
 
 -- ---- from the end: t is the answer, `t ≡ kept f (take n l)` the loop's invariant
 
-kept-snoc : (f : ℕ → Bool) (xs : List ℕ) (x : ℕ) → kept f (xs ++ (x ∷ [])) ≡ pick (f x) (kept f xs) (suc (length xs))
+kept_snoc : (f : ℕ → Bool) (xs : List ℕ) (x : ℕ) → kept f (xs ++ (x ∷ [])) ≡ pick (f x) (kept f xs) (suc (length xs))
 unfolding kept
-kept-snoc f [] x = refl
-kept-snoc f (y ∷ ys) x = rw (kept-snoc f ys x) (go (f x))
+kept_snoc f [] x = refl
+kept_snoc f (y ∷ ys) x = rw (kept_snoc f ys x) (go (f x))
   where
     go : (b : Bool)
         → pick (eqb (pick b (kept f ys) (suc (length ys))) 0) (pick (f y) 0 1) (suc (pick b (kept f ys) (suc (length ys))))
@@ -53,27 +53,27 @@ module _ (f : ℕ → Bool) (l : List ℕ) (n t : ℕ) (e : t ≡ kept f (take n
       let k : n ≡ suc (n - 1) = omega arith in
       let m : suc (length (take (n - 1) l)) ≡ n = ap suc (length-take-le (n - 1) l (omega arith)) ∙ sym k in
       e ∙ ap (λ (j : ℕ). kept f (take j l)) k ∙ ap (kept f) (take-suc l (n - 1) 0 (omega arith))
-      ∙ kept-snoc f (take (n - 1) l) (get_or l (n - 1) 0)
+      ∙ kept_snoc f (take (n - 1) l) (get_or l (n - 1) 0)
       ∙ ap (pick (f (get_or l (n - 1) 0)) (kept f (take (n - 1) l))) m
 
   pub kept_less : 0 < n → n ≤ length l → f (get_or l (n - 1) 0) ≡ true → t ≡ kept f (take (n - 1) l)
   kept_less z h g = turn z h ∙ rw g refl
 
-  pub kept-stop : 0 < n → n ≤ length l → f (get_or l (n - 1) 0) ≡ false → n ≡ t
-  kept-stop z h g = sym (turn z h ∙ rw g refl)
+  pub kept_stop : 0 < n → n ≤ length l → f (get_or l (n - 1) 0) ≡ false → n ≡ t
+  kept_stop z h g = sym (turn z h ∙ rw g refl)
 
-  pub kept-done : n ≤ 0 → 0 ≡ t
+  pub kept_done : n ≤ 0 → 0 ≡ t
   unfolding kept
-  kept-done h =
+  kept_done h =
       let k : n ≡ 0 = omega arith in
       sym (e ∙ ap (λ (j : ℕ). kept f (take j l)) k)
 
 -- ---- bounds
 
-pub kept-le : (f : ℕ → Bool) (xs : List ℕ) → kept f xs ≤ length xs
+pub kept_le : (f : ℕ → Bool) (xs : List ℕ) → kept f xs ≤ length xs
 unfolding kept
-kept-le f [] = le_refl 0
-kept-le f (x ∷ xs) = go (eqb (kept f xs) 0) (f x) (kept-le f xs)
+kept_le f [] = le_refl 0
+kept_le f (x ∷ xs) = go (eqb (kept f xs) 0) (f x) (kept_le f xs)
   where
     go : (t u : Bool) → kept f xs ≤ length xs → pick t (pick u 0 1) (suc (kept f xs)) ≤ suc (length xs)
     go true true h = omega arith
@@ -90,10 +90,10 @@ leading_le f (x ∷ xs) = go (f x) (leading_le f xs)
     go false h = omega arith
 
 -- where every element that passes f passes g too, and not all pass g, something is kept
-pub kept-some : (f g : ℕ → Bool) → ((x : ℕ) → f x ≡ true → g x ≡ true) → (xs : List ℕ) → each g xs ≡ false → leading f xs < kept f xs
+pub kept_some : (f g : ℕ → Bool) → ((x : ℕ) → f x ≡ true → g x ≡ true) → (xs : List ℕ) → each g xs ≡ false → leading f xs < kept f xs
 unfolding leading kept
-kept-some f g h [] e = absurd (subst T e tt)
-kept-some f g h (x ∷ xs) e = go (f x) refl (eqb (kept f xs) 0) refl (kept-some f g h xs)
+kept_some f g h [] e = absurd (subst T e tt)
+kept_some f g h (x ∷ xs) e = go (f x) refl (eqb (kept f xs) 0) refl (kept_some f g h xs)
   where
     go : (b : Bool) → f x ≡ b → (z : Bool) → eqb (kept f xs) 0 ≡ z → (each g xs ≡ false → leading f xs < kept f xs)
         → pick b (suc (leading f xs)) 0 < pick z (pick b 0 1) (suc (kept f xs))

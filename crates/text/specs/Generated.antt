@@ -3,21 +3,21 @@ use Rattle.std.specs.Prelude.{Bool, ◌&&◌, ◌||◌, List, ℕ, eqb, ltb, len
 use Rattle.search.specs.Search.{each}
 use Rattle.codepage.specs.Page.{Page}
 use Rattle.text.specs.declared.Text.{Text}
-use Rattle.text.specs.Chars.{isDigit, chars}
+use Rattle.text.specs.Chars.{is_digit, chars}
 use Rattle.text.specs.Text.{bytes_of}
 
 -- COL in front (01, Parts 2)
-abbrev pub startsCol : List ℕ → Bool
-startsCol cs = eqb (get_or cs 0 0) 0x43 && eqb (get_or cs 1 0) 0x4F && eqb (get_or cs 2 0) 0x4C
+abbrev pub starts_col : List ℕ → Bool
+starts_col cs = eqb (get_or cs 0 0) 0x43 && eqb (get_or cs 1 0) 0x4F && eqb (get_or cs 2 0) 0x4C
 
 -- COL and one or more digits (01, Parts 2: a generated name)
-unfoldable pub isGenerated : List ℕ → Bool
-isGenerated cs = ltb 3 (length cs) && startsCol cs && each isDigit (drop 3 cs)
+unfoldable pub is_generated : List ℕ → Bool
+is_generated cs = ltb 3 (length cs) && starts_col cs && each is_digit (drop 3 cs)
 
 -- the characters of a text that lies in the reply s (01, Answers: place, length, alphabet)
-abbrev pub textChars : Page → List ℕ → Text → List ℕ
-textChars page s t = chars page t.alphabet (bytes_of s t)
+abbrev pub text_chars : Page → List ℕ → Text → List ℕ
+text_chars page s t = chars page t.alphabet (bytes_of s t)
 
 -- a name that the reader gave itself, alphabet 0, or one that reads like it (01, Answers: 0 generated; 01, Parts 2: a generated name)
-unfoldable pub isGeneratedText : Page → List ℕ → Text → Bool
-isGeneratedText page s t = eqb t.alphabet 0 || isGenerated (textChars page s t)
+unfoldable pub is_generated_text : Page → List ℕ → Text → Bool
+is_generated_text page s t = eqb t.alphabet 0 || is_generated (text_chars page s t)

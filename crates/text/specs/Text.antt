@@ -3,21 +3,21 @@ use Rattle.std.specs.Prelude.{Bool, List, [], ◌∷◌, ℕ, suc, ◌+◌, ◌-
 use lib.ListN.{take, drop}
 use Rattle.search.specs.Search.{pick}
 use Rattle.codepage.specs.Page.{Page}
-use Rattle.codepage.specs.Blank.{isBlankIn}
-use Rattle.text.specs.Chars.{isAscii}
+use Rattle.codepage.specs.Blank.{is_blank_in}
+use Rattle.text.specs.Chars.{is_ascii}
 use Rattle.text.specs.declared.Text.{Text}
 
 -- a text is place, length, alphabet (01, Answers)
-abbrev pub textIs : ℕ → ℕ → ℕ → Text
-textIs p n a = record { place = p; length = n; alphabet = a }
+abbrev pub text_is : ℕ → ℕ → ℕ → Text
+text_is p n a = record { place = p; length = n; alphabet = a }
 
 -- an empty one is 0, 0, 1 (01, Answers)
-abbrev pub emptyText : Text
-emptyText = textIs 0 0 1
+abbrev pub empty_text : Text
+empty_text = text_is 0 0 1
 
 -- a text without bytes is the empty one (01, Answers)
 unfoldable pub placed : ℕ → ℕ → ℕ → Text
-placed p n a = pick (eqb n 0) emptyText (textIs p n a)
+placed p n a = pick (eqb n 0) empty_text (text_is p n a)
 
 -- the bytes of a text of the reply s (01, Answers: place, length)
 abbrev pub bytes_of : List ℕ → Text → List ℕ
@@ -34,19 +34,19 @@ kept f [] = 0
 kept f (x ∷ xs) = pick (eqb (kept f xs) 0) (pick (f x) 0 1) (suc (kept f xs))
 
 -- what trimming leaves: neither at the front nor at the end one that passes the test (01, Parts 2)
-abbrev pub trimmedOf : (ℕ → Bool) → List ℕ → List ℕ
-trimmedOf f xs = take (kept f xs - leading f xs) (drop (leading f xs) xs)
+abbrev pub trimmed_of : (ℕ → Bool) → List ℕ → List ℕ
+trimmed_of f xs = take (kept f xs - leading f xs) (drop (leading f xs) xs)
 
 -- what trimming leaves of bytes of the page (01, Parts 2: decode_text)
 unfoldable pub trimmed : Page → List ℕ → List ℕ
-trimmed page bs = trimmedOf (isBlankIn page) bs
+trimmed page bs = trimmed_of (is_blank_in page) bs
 
 -- the text of bytes that start at p: ASCII untrimmed, else of the page and trimmed (01, Parts 2: decode_text)
-unfoldable pub textOn : Page → List ℕ → ℕ → Text
-textOn page bs p =
-    let first = leading (isBlankIn page) bs in
-    pick (isAscii bs) (placed p (lib.ListN.length bs) 1) (placed (p + first) (kept (isBlankIn page) bs - first) page.alphabet)
+unfoldable pub text_on : Page → List ℕ → ℕ → Text
+text_on page bs p =
+    let first = leading (is_blank_in page) bs in
+    pick (is_ascii bs) (placed p (lib.ListN.length bs) 1) (placed (p + first) (kept (is_blank_in page) bs - first) page.alphabet)
 
 -- the text of the n bytes of s from p on (01, Answers: the length of what trimming leaves)
 abbrev pub text_of : Page → List ℕ → ℕ → ℕ → Text
-text_of page s p n = textOn page (take n (drop p s)) p
+text_of page s p n = text_on page (take n (drop p s)) p

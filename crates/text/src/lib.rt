@@ -5,7 +5,7 @@ ghost use Rattle.std.specs.Prelude.{◌&&◌, ◌≡◌, ◌+◌, ◌/◌, ◌%�
 ghost use lib.ListN.{length};
 ghost use Rattle.search.specs.Search.{each};
 ghost use Rattle.codepage.specs.Page.{page037};
-ghost use Rattle.text.specs.Chars.{isAscii, isNameChar, isNameOf, isBlankOf};
+ghost use Rattle.text.specs.Chars.{is_ascii, is_name_char, is_name_of, is_blank_of};
 ghost use Rattle.text.specs.Text.{leading, kept, text_of};
 
 // Place and length of what trimming leaves; alphabet 0 is a generated name, 1 ASCII, 2 page 037. An empty text is 0, 0, 1.
@@ -18,7 +18,7 @@ pub struct Text {
 
 // A bit for each of 64 characters, those below 64 or the next: whether it is a name character.
 fn name_bits(character: u8) -> u64
-    ensures { (ltb character 128 && eqb (result / 2 ^ (character % 64) % 2) 1) ≡ isNameChar character }
+    ensures { (ltb character 128 && eqb (result / 2 ^ (character % 64) % 2) 1) ≡ is_name_char character }
 {
     if character < 64 {
         0x03FF_0018_0000_0000
@@ -29,7 +29,7 @@ fn name_bits(character: u8) -> u64
 
 // By bits: in a loop over a name, a chain of tests would go now this way, now that.
 fn is_name_char(character: u8) -> bool
-    ensures { result ≡ isNameChar character }
+    ensures { result ≡ is_name_char character }
 {
     let bit = (character % 64) as u64;
     (character < 128) & ((name_bits(character) >> bit) % 2 == 1)
@@ -37,7 +37,7 @@ fn is_name_char(character: u8) -> bool
 
 // This and the tests below tell characters of page 037 by their bytes: naming its table would copy it at each call.
 fn is_name_char_in(byte: u8, alphabet: u8) -> bool
-    ensures { result ≡ isNameOf page037 alphabet byte }
+    ensures { result ≡ is_name_of page037 alphabet byte }
 {
     if alphabet == 2 {
         (byte >= 0xC1) & (byte <= 0xC9)
@@ -57,7 +57,7 @@ fn is_name_char_in(byte: u8, alphabet: u8) -> bool
 }
 
 pub fn all_name_chars(bytes: &[u8], alphabet: u8) -> bool
-    ensures { result ≡ each (isNameOf page037 alphabet) bytes.now }
+    ensures { result ≡ each (is_name_of page037 alphabet) bytes.now }
 {
     let mut i = 0;
     while i < bytes.len() {
@@ -70,7 +70,7 @@ pub fn all_name_chars(bytes: &[u8], alphabet: u8) -> bool
 }
 
 pub fn is_ascii(bytes: &[u8]) -> bool
-    ensures { result ≡ isAscii bytes.now }
+    ensures { result ≡ is_ascii bytes.now }
 {
     let mut i = 0;
     while i < bytes.len() {
@@ -83,7 +83,7 @@ pub fn is_ascii(bytes: &[u8]) -> bool
 }
 
 fn is_blank_in(byte: u8, alphabet: u8) -> bool
-    ensures { result ≡ isBlankOf page037 alphabet byte }
+    ensures { result ≡ is_blank_of page037 alphabet byte }
 {
     if alphabet == 2 {
         codepage::is_blank_byte(byte)
@@ -93,7 +93,7 @@ fn is_blank_in(byte: u8, alphabet: u8) -> bool
 }
 
 pub fn leading_blanks(bytes: &[u8], alphabet: u8) -> usize
-    ensures { result ≡ leading (isBlankOf page037 alphabet) bytes.now }
+    ensures { result ≡ leading (is_blank_of page037 alphabet) bytes.now }
 {
     let mut i = 0;
     while i < bytes.len() {
@@ -106,7 +106,7 @@ pub fn leading_blanks(bytes: &[u8], alphabet: u8) -> usize
 }
 
 pub fn kept_bytes(bytes: &[u8], alphabet: u8) -> usize
-    ensures { result ≡ kept (isBlankOf page037 alphabet) bytes.now }
+    ensures { result ≡ kept (is_blank_of page037 alphabet) bytes.now }
 {
     let mut end = bytes.len();
     while 0 < end {

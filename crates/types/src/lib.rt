@@ -4,7 +4,7 @@
 mod table;
 
 ghost use Rattle.std.specs.Prelude.{◌≡◌};
-ghost use Rattle.types.specs.Rows.{typeRows, lookup};
+ghost use Rattle.types.specs.Rows.{type_rows, lookup};
 
 use field::ByteOrder;
 use table::TYPES;
@@ -138,7 +138,7 @@ pub struct TypeRow {
 
 // The rows, by a function of their own: a proof over a literal array writes it out at every step.
 fn type_rows() -> [TypeRow; 24]
-    ensures { result ≡ typeRows }
+    ensures { result ≡ type_rows }
 {
     TYPES
 }

@@ -2,9 +2,9 @@
 use Rattle.std.specs.Prelude.{ℕ}
 
 -- the most bytes of a value: a length of 65,535, twice (02, T-02)
-abbrev pub mostValue : ℕ
-mostValue = 131070
+abbrev pub most_value : ℕ
+most_value = 131070
 
 -- the most bytes of a column: those, 1 and 2 (02, T-02)
-abbrev pub mostWidth : ℕ
-mostWidth = 131073
+abbrev pub most_width : ℕ
+most_width = 131073

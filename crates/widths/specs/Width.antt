@@ -6,27 +6,27 @@ use Rattle.types.specs.declared.Db2Type.{Db2Type}
 use Rattle.sqlda.specs.Types.{code_of}
 
 -- two types are the same but for length, digits, precision and scale: their code is one (01, Types and lengths: code)
-abbrev pub sameCode : Db2Type → Db2Type → Bool
-sameCode t u = eqb (code_of t) (code_of u)
+abbrev pub same_code : Db2Type → Db2Type → Bool
+same_code t u = eqb (code_of t) (code_of u)
 
 -- Blob, Clob, DbClob or Xml: a row with one has no widest (01, Numbers of refusal: widest row)
-abbrev pub isLarge : Db2Type → Bool
-isLarge t = sameCode t Db2Type.Blob || (sameCode t Db2Type.Clob || (sameCode t Db2Type.DbClob || sameCode t Db2Type.Xml))
+abbrev pub is_large : Db2Type → Bool
+is_large t = same_code t Db2Type.Blob || (same_code t Db2Type.Clob || (same_code t Db2Type.DbClob || same_code t Db2Type.Xml))
 
 -- VarChar, VarBinary, VarGraphic or RowId: two bytes of length stand before the value (01, Answers: widest row)
-abbrev pub isVarying : Db2Type → Bool
-isVarying t =
-    sameCode t (Db2Type.VarChar 0)
-    || (sameCode t (Db2Type.VarBinary 0) || (sameCode t (Db2Type.VarGraphic 0) || sameCode t (Db2Type.RowId 0)))
+abbrev pub is_varying : Db2Type → Bool
+is_varying t =
+    same_code t (Db2Type.VarChar 0)
+    || (same_code t (Db2Type.VarBinary 0) || (same_code t (Db2Type.VarGraphic 0) || same_code t (Db2Type.RowId 0)))
 
 -- Graphic or VarGraphic: the length counts double-byte characters (02, T-02; IBM's SQLDA)
-abbrev pub isGraphic : Db2Type → Bool
-isGraphic t = sameCode t (Db2Type.Graphic 0) || sameCode t (Db2Type.VarGraphic 0)
+abbrev pub is_graphic : Db2Type → Bool
+is_graphic t = same_code t (Db2Type.Graphic 0) || same_code t (Db2Type.VarGraphic 0)
 
 -- the bytes of a column's value at most: twice its length for these two types (02, T-02)
-unfoldable pub valueWidth : ColumnMetadata → ℕ
-valueWidth c = pick (isGraphic c.db2_type) (2 * c.length) c.length
+unfoldable pub value_width : ColumnMetadata → ℕ
+value_width c = pick (is_graphic c.db2_type) (2 * c.length) c.length
 
 -- these, 1 more if nullable, 2 more for a varying type (01, Answers: widest row; 02, T-02)
-unfoldable pub columnWidth : ColumnMetadata → ℕ
-columnWidth c = valueWidth c + pick c.nullable 1 0 + pick (isVarying c.db2_type) 2 0
+unfoldable pub column_width : ColumnMetadata → ℕ
+column_width c = value_width c + pick c.nullable 1 0 + pick (is_varying c.db2_type) 2 0

@@ -3,14 +3,14 @@
 
 ghost use Rattle.std.specs.Prelude.{◌≡◌, ◌≤◌};
 ghost use Rattle.search.specs.Search.{pick};
-ghost use Rattle.widths.specs.Width.{isLarge, isVarying, isGraphic, valueWidth, columnWidth};
-ghost use Rattle.widths.specs.Inside.{mostValue, mostWidth};
+ghost use Rattle.widths.specs.Width.{is_large, is_varying, is_graphic, value_width, column_width};
+ghost use Rattle.widths.specs.Inside.{most_value, most_width};
 
 use types::{ColumnMetadata, Db2Type};
 
 // A row with a column of such a type has no widest.
 fn is_large(db2_type: Db2Type) -> bool
-    ensures { result ≡ isLarge db2_type }
+    ensures { result ≡ is_large db2_type }
 {
     match db2_type {
         Db2Type::SmallInt => false,
@@ -40,7 +40,7 @@ fn is_large(db2_type: Db2Type) -> bool
 
 // Two bytes of length stand before a value of such a type.
 fn is_varying(db2_type: Db2Type) -> bool
-    ensures { result ≡ isVarying db2_type }
+    ensures { result ≡ is_varying db2_type }
 {
     match db2_type {
         Db2Type::SmallInt => false,
@@ -70,7 +70,7 @@ fn is_varying(db2_type: Db2Type) -> bool
 
 // Lengths of such a type count double-byte characters.
 fn is_graphic(db2_type: Db2Type) -> bool
-    ensures { result ≡ isGraphic db2_type }
+    ensures { result ≡ is_graphic db2_type }
 {
     match db2_type {
         Db2Type::SmallInt => false,
@@ -99,7 +99,7 @@ fn is_graphic(db2_type: Db2Type) -> bool
 }
 
 pub fn is_large_column(column: ColumnMetadata) -> bool
-    ensures { result ≡ isLarge column.db2_type }
+    ensures { result ≡ is_large column.db2_type }
 {
     let db2_type = column.db2_type;
     is_large(db2_type)
@@ -114,7 +114,7 @@ fn bytes_if(holds: bool, count: usize) -> usize
 
 // The bytes that a column's value can take.
 fn value_width(column: ColumnMetadata) -> usize
-    ensures { (result ≡ valueWidth column) × (result ≤ mostValue) }
+    ensures { (result ≡ value_width column) × (result ≤ most_value) }
 {
     let db2_type = column.db2_type;
     let length = column.length as usize;
@@ -127,8 +127,8 @@ fn value_width(column: ColumnMetadata) -> usize
 
 // The bytes that a column can take in a row.
 pub fn column_width(column: ColumnMetadata) -> usize
-    ensures value { result ≡ columnWidth column }
-    ensures upper_bound { result ≤ mostWidth }
+    ensures value { result ≡ column_width column }
+    ensures upper_bound { result ≤ most_width }
 {
     let db2_type = column.db2_type;
     let varying = is_varying(db2_type);

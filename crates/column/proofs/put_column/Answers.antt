@@ -1,7 +1,7 @@
 -- The numbers by what the callees give; each fits its field, as the descriptor's and the texts' fields do.
 use Rattle.std.proofs.Common.{drop, arith}
 use Rattle.codepage.specs.Page.{page037}
-use Rattle.column.proofs.Numbers.{put_is, put-fits}
+use Rattle.column.proofs.Numbers.{put_is, put_fits}
 use Rattle.column.proofs.put_column.Goals as goal
 
 pub returns : goal.returns
@@ -21,7 +21,7 @@ returns c =
           put_is page037 s n d order.result name.result label.result base.result schema.result rest all.new.numbers all.ensures
           order.ensures name.ensures label.ensures base.ensures schema.ensures;
       fits =
-          put-fits page037 s n d order.result name.result label.result base.result schema.result rest all.new.numbers all.ensures
+          put_fits page037 s n d order.result name.result label.result base.result schema.result rest all.new.numbers all.ensures
           (omega arith) (omega arith) (omega arith) (omega arith) (omega arith)
           (omega arith) (omega arith) (omega arith) (omega arith);
     }

@@ -1,8 +1,8 @@
 -- The five comparisons are the definition's, byte orders as numbers.
 use Rattle.std.proofs.Common.{refl}
-use Rattle.columns.specs.Cut.{coarseColumn}
+use Rattle.columns.specs.Cut.{coarse_column}
 use Rattle.columns.proofs.coarse_column.Goals as goal
 
 pub returns : goal.returns
-unfolding coarseColumn
+unfolding coarse_column
 returns c = rw (c.order_number.ensures, c.order_number-2.ensures) refl

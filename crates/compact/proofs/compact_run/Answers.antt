@@ -1,13 +1,13 @@
 -- The reply or the descriptor is too short, one more is read, or `count` of them are.
 use Rattle.std.proofs.Common.{rules, arith}
 use Rattle.codepage.specs.Page.{page037}
-use Rattle.compact.proofs.Names.{name-inside}
-use Rattle.compact.proofs.Runs.{run_more, run-stop, run_short, run-done}
-use Rattle.search.proofs.Walks.{walking-none}
+use Rattle.compact.proofs.Names.{name_inside}
+use Rattle.compact.proofs.Runs.{run_more, run_stop, run_short, run_done}
+use Rattle.search.proofs.Walks.{walking_none}
 use Rattle.compact.proofs.compact_run.Goals as goal
 
 pub loop-i-init : goal.loop-i-init
-loop-i-init c = record { in_range = search rules; walk = walking-none _ _ _ _ }
+loop-i-init c = record { in_range = search rules; walk = walking_none _ _ _ _ }
 
 pub returns-then-reply-start-lt16-clause-value : goal.returns-then-reply-start-lt16-clause-value
 returns-then-reply-start-lt16-clause-value c =
@@ -15,11 +15,11 @@ returns-then-reply-start-lt16-clause-value c =
 
 pub returns-then-end-start-clause-value : goal.returns-then-end-start-clause-value
 returns-then-end-start-clause-value c =
-    run-stop page037 _ _ _ _ _ _ _ c.loop-i.invariant.walk _ c.loop-i-test.true c.compact_end-end.ensures.value c.if-end-start.true
+    run_stop page037 _ _ _ _ _ _ _ c.loop-i.invariant.walk _ c.loop-i-test.true c.compact_end-end.ensures.value c.if-end-start.true
 
 pub one_if_named-named-requires : goal.one_if_named-named-requires
 one_if_named-named-requires c =
-    name-inside _ _ _ c.if-end-start.false c.compact_end-end.ensures.upper_bound _ c.extract_column_name-name.ensures
+    name_inside _ _ _ c.if-end-start.false c.compact_end-end.ensures.upper_bound _ c.extract_column_name-name.ensures
 
 pub loop-i-preserved : goal.loop-i-preserved
 loop-i-preserved c =
@@ -30,4 +30,4 @@ loop-i-preserved c =
     }
 
 pub returns-clause-value : goal.returns-clause-value
-returns-clause-value c = run-done page037 _ _ _ _ _ _ _ c.loop-i.invariant.walk c.loop-i-test.false
+returns-clause-value c = run_done page037 _ _ _ _ _ _ _ c.loop-i.invariant.walk c.loop-i-test.false

@@ -1,18 +1,18 @@
 -- The three ways out: in neither alphabet, in ASCII, in the page.
 use Rattle.std.proofs.Common.{◌+◌, ◌-◌, take, drop, sym, arith}
 use Rattle.codepage.specs.Page.{page037}
-use Rattle.codepage.proofs.Pages.{rearranged-037, blanks-037}
-use Rattle.text.proofs.Generated.{spells-037}
-use Rattle.identifier.proofs.Spaces.{spaces-left}
-use Rattle.identifier.proofs.Identifiers.{at_first, at_second, at-neither}
+use Rattle.codepage.proofs.Pages.{rearranged_037, blanks_037}
+use Rattle.text.proofs.Generated.{spells_037}
+use Rattle.identifier.proofs.Spaces.{spaces_left}
+use Rattle.identifier.proofs.Identifiers.{at_first, at_second, at_neither}
 use Rattle.identifier.proofs.is_identifier_at.Goals as goal
 
 pub returns-then-not-in_ascii-in_page : goal.returns-then-not-in_ascii-in_page
 returns-then-not-in_ascii-in_page c =
-    at-neither page037 rearranged-037 blanks-037 spells-037 (λ e. omega (arith, e)) c.args.reply.now c.args.start c.args.length c.requires
+    at_neither page037 rearranged_037 blanks_037 spells_037 (λ e. omega (arith, e)) c.args.reply.now c.args.start c.args.length c.requires
     c.is_identifier_trimmed-in_ascii.result
     c.is_identifier_trimmed-in_page.result
-    (spaces-left page037 1 (λ e. omega (arith, e)) (take (c.args.start + c.args.length - c.args.start) (drop c.args.start c.args.reply.now))
+    (spaces_left page037 1 (λ e. omega (arith, e)) (take (c.args.start + c.args.length - c.args.start) (drop c.args.start c.args.reply.now))
     c.leading_spaces-spaces.result
     c.leading_spaces-spaces.ensures.1
     c.is_identifier_trimmed-in_ascii.result
@@ -22,10 +22,10 @@ returns-then-not-in_ascii-in_page c =
 
 pub returns-then-is_ascii : goal.returns-then-is_ascii
 returns-then-is_ascii c =
-    at_first page037 rearranged-037 blanks-037 spells-037 (λ e. omega (arith, e)) c.args.reply.now c.args.start c.args.length c.requires
+    at_first page037 rearranged_037 blanks_037 spells_037 (λ e. omega (arith, e)) c.args.reply.now c.args.start c.args.length c.requires
     c.is_identifier_trimmed-in_ascii.result
     c.is_identifier_trimmed-in_page.result
-    (spaces-left page037 1 (λ e. omega (arith, e)) (take (c.args.start + c.args.length - c.args.start) (drop c.args.start c.args.reply.now))
+    (spaces_left page037 1 (λ e. omega (arith, e)) (take (c.args.start + c.args.length - c.args.start) (drop c.args.start c.args.reply.now))
     c.leading_spaces-spaces.result
     c.leading_spaces-spaces.ensures.1
     c.is_identifier_trimmed-in_ascii.result
@@ -35,10 +35,10 @@ returns-then-is_ascii c =
 
 pub returns : goal.returns
 returns c =
-    at_second page037 rearranged-037 blanks-037 spells-037 (λ e. omega (arith, e)) c.args.reply.now c.args.start c.args.length c.requires
+    at_second page037 rearranged_037 blanks_037 spells_037 (λ e. omega (arith, e)) c.args.reply.now c.args.start c.args.length c.requires
     c.is_identifier_trimmed-in_ascii.result
     c.is_identifier_trimmed-in_page.result
-    (spaces-left page037 1 (λ e. omega (arith, e)) (take (c.args.start + c.args.length - c.args.start) (drop c.args.start c.args.reply.now))
+    (spaces_left page037 1 (λ e. omega (arith, e)) (take (c.args.start + c.args.length - c.args.start) (drop c.args.start c.args.reply.now))
     c.leading_spaces-spaces.result
     c.leading_spaces-spaces.ensures.1
     c.is_identifier_trimmed-in_ascii.result

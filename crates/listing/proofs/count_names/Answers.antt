@@ -1,8 +1,8 @@
 -- One candidate more is counted by each rule where it is listed; the view goes one on.
 use Rattle.std.proofs.Common.{◌<◌, length, sym, subst, arith}
 use Rattle.candidates.specs.declared.View.{View}
-use Rattle.candidates.specs.View.{inView}
-use Rattle.listing.proofs.Lists.{in-view-less, counting-none, counting_more, counting-few, counting-done}
+use Rattle.candidates.specs.View.{in_view}
+use Rattle.listing.proofs.Lists.{in_view_less, counting_none, counting_more, counting_few, counting_done}
 use Rattle.listing.proofs.count_names.Goals as goal
 
 pub loop-view-init : goal.loop-view-init
@@ -10,24 +10,24 @@ loop-view-init c =
     let view = c.first_view-start.ensures in
     record {
       within = view.1;
-      by_returning = counting-none _ _ _ _ view.0 view.1.first c.no_listing-of_returning.ensures;
-      by_before = counting-none _ _ _ _ view.0 view.1.first c.no_listing-of_before.ensures;
+      by_returning = counting_none _ _ _ _ view.0 view.1.first c.no_listing-of_returning.ensures;
+      by_before = counting_none _ _ _ _ view.0 view.1.first c.no_listing-of_before.ensures;
     }
 
 pub overflow_add-returning : goal.overflow_add-returning
 overflow_add-returning c =
     let i = c.loop-view.invariant in
-    omega (arith, counting-few _ _ _ _ _ i.by_returning _ (sym c.loop-view-test.ensures) i.within.next c.list_step-one.ensures.0)
+    omega (arith, counting_few _ _ _ _ _ i.by_returning _ (sym c.loop-view-test.ensures) i.within.next c.list_step-one.ensures.0)
 
 pub overflow_add-before_first : goal.overflow_add-before_first
 overflow_add-before_first c =
     let i = c.loop-view.invariant in
-    omega (arith, counting-few _ _ _ _ _ i.by_before _ (sym c.loop-view-test.ensures) i.within.next c.list_step-two.ensures.0)
+    omega (arith, counting_few _ _ _ _ _ i.by_before _ (sym c.loop-view-test.ensures) i.within.next c.list_step-two.ensures.0)
 
 pub loop-view-smaller : goal.loop-view-smaller
 loop-view-smaller c =
-    subst (λ (v : View). length (inView c.args.reply.now v) < length (inView c.args.reply.now c.loop-view.view)) (sym c.next_view-view.ensures.0)
-    (in-view-less c.args.reply.now c.loop-view.view (sym c.loop-view-test.ensures) c.loop-view.invariant.within.next)
+    subst (λ (v : View). length (in_view c.args.reply.now v) < length (in_view c.args.reply.now c.loop-view.view)) (sym c.next_view-view.ensures.0)
+    (in_view_less c.args.reply.now c.loop-view.view (sym c.loop-view-test.ensures) c.loop-view.invariant.within.next)
 
 pub loop-view-preserved : goal.loop-view-preserved
 loop-view-preserved c =
@@ -46,4 +46,4 @@ pub returns : goal.returns
 returns c =
     let i = c.loop-view.invariant in
     let over = sym c.loop-view-test.ensures in
-    ((counting-done _ _ _ _ _ i.by_returning over, counting-done _ _ _ _ _ i.by_before over), c.first_view-start.ensures)
+    ((counting_done _ _ _ _ _ i.by_returning over, counting_done _ _ _ _ _ i.by_before over), c.first_view-start.ensures)

@@ -1,6 +1,6 @@
 -- The view lies in the reply, and what each rule has counted and has still to list is all that it lists.
 use Rattle.std.proofs.Common.{length}
-use Rattle.candidates.specs.View.{inView, Within}
+use Rattle.candidates.specs.View.{in_view, Within}
 use Rattle.listing.specs.declared.Rule.TheVariants.{Returning, BeforeFirst}
 use Rattle.listing.proofs.Lists.{Counting}
 use Rattle.listing.proofs.count_names.Given as goal
@@ -13,4 +13,4 @@ invariant-loop-view l = record {
 }
 
 abbrev pub decreases-loop-view : goal.decreases-loop-view
-decreases-loop-view l = length (inView l.reply l.view)
+decreases-loop-view l = length (in_view l.reply l.view)

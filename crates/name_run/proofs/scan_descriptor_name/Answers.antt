@@ -1,22 +1,22 @@
 -- The ways out: no room for the option flag, FF, a layout that cannot be read, one without a name, and its name.
 use Rattle.std.proofs.Common.{arith}
 use Rattle.codepage.specs.Page.{page037}
-use Rattle.name_run.proofs.Layouts.{named-short, named-null, read-inside, named-cut, named_none, named_some}
+use Rattle.name_run.proofs.Layouts.{named_short, named_null, read_inside, named_cut, named_none, named_some}
 use Rattle.name_run.proofs.scan_descriptor_name.Goals as goal
 
 pub returns-then-end-offset-lt17 : goal.returns-then-end-offset-lt17
 returns-then-end-offset-lt17 c =
-    named-short page037 c.args.reply.now c.args.offset c.no_name.result c.no_name.ensures c.if-end-offset-lt17.true
+    named_short page037 c.args.reply.now c.args.offset c.no_name.result c.no_name.ensures c.if-end-offset-lt17.true
 
 pub returns-then-reply-offset : goal.returns-then-reply-offset
 returns-then-reply-offset c =
-    named-null page037 c.args.reply.now c.args.offset c.no_name-then-reply-offset.result c.no_name-then-reply-offset.ensures
+    named_null page037 c.args.reply.now c.args.offset c.no_name-then-reply-offset.result c.no_name-then-reply-offset.ensures
     (omega (arith, c.if-end-offset-lt17.false))
     c.if-reply-offset.true
 
 pub returns-then-end-extension : goal.returns-then-end-extension
 returns-then-end-extension c =
-    named-cut page037 c.args.reply.now c.args.offset (omega (arith, c.if-end-offset-lt17.false)) c.if-reply-offset.false
+    named_cut page037 c.args.reply.now c.args.offset (omega (arith, c.if-end-offset-lt17.false)) c.if-reply-offset.false
     c.read_string-m.result
     c.read_string-s.result
     c.skip_strings-comments_end.result
@@ -33,7 +33,7 @@ returns-then-end-extension c =
 
 pub first_name-name-requires : goal.first_name-name-requires
 first_name-name-requires c =
-    read-inside page037 c.args.reply.now c.args.offset (omega (arith, c.if-end-offset-lt17.false)) c.if-reply-offset.false
+    read_inside page037 c.args.reply.now c.args.offset (omega (arith, c.if-end-offset-lt17.false)) c.if-reply-offset.false
     c.read_string-m.result
     c.read_string-s.result
     c.skip_strings-comments_end.result

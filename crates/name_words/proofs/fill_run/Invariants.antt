@@ -2,15 +2,15 @@
 use Rattle.std.proofs.Common.{◌≡◌, ◌*◌, ◌≤◌, ◌-◌}
 use Rattle.search.proofs.Filling.{FillingBy}
 use Rattle.codepage.specs.Page.{page037}
-use Rattle.name_run.specs.Run.{nameWalk, runLimit}
-use Rattle.name_words.specs.Texts.{wordsOfText}
+use Rattle.name_run.specs.Run.{name_walk, run_limit}
+use Rattle.name_words.specs.Texts.{words_of_text}
 use Rattle.name_words.proofs.fill_run.Given as goal
 
 abbrev pub invariant-loop-i : goal.invariant-loop-i
 invariant-loop-i l =
     (l.i ≤ l.count)
     × ((l.at ≡ l.i * 3)
-    × FillingBy wordsOfText (nameWalk page037 l.reply) (runLimit l.count) l.initial.offset l.fn.words l.words l.i l.at l.offset)
+    × FillingBy words_of_text (name_walk page037 l.reply) (run_limit l.count) l.initial.offset l.fn.words l.words l.i l.at l.offset)
 
 abbrev pub decreases-loop-i : goal.decreases-loop-i
 decreases-loop-i l = l.count - l.i

@@ -2,7 +2,7 @@
 use Rattle.std.proofs.Common.{arith, refl, subst}
 use Rattle.codepage.specs.Page.{page037}
 use Rattle.names.specs.Decision.{Decides}
-use Rattle.names.proofs.Deciding.{too_long, too_short, in-room}
+use Rattle.names.proofs.Deciding.{too_long, too_short, in_room}
 use Rattle.names.proofs.decide.Goals as goal
 
 pub returns-then-reply-gt65536 : goal.returns-then-reply-gt65536
@@ -18,5 +18,5 @@ returns-then-room-count c =
 pub returns : goal.returns
 returns c =
     let plan = c.plan_names-plan.ensures in
-    subst (Decides page037 c.args.room c.args.reply.now _) (in-room _ _ _ c.if-reply-gt65536.false _ plan.counts c.if-room-count.false)
+    subst (Decides page037 c.args.room c.args.reply.now _) (in_room _ _ _ c.if-reply-gt65536.false _ plan.counts c.if-room-count.false)
     (record { refuses = refl; counts = plan.counts; plans = plan; fits = omega (arith, plan.counts, c.if-room-count.false) })

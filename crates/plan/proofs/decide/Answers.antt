@@ -2,8 +2,8 @@
 use Rattle.std.proofs.Common.{[], ◌∷◌, refl, ap, subst, ◌∙◌, arith}
 use Rattle.codepage.specs.Page.{page037}
 use Rattle.plan.specs.Decision.{Decides}
-use Rattle.plan.specs.Description.{refusedWith}
-use Rattle.plan.proofs.Deciding.{too_long, not-read, too_short, in-room}
+use Rattle.plan.specs.Description.{refused_with}
+use Rattle.plan.proofs.Deciding.{too_long, not_read, too_short, in_room}
 use Rattle.plan.proofs.decide.Goals as goal
 
 pub returns-then-reply-gt65536 : goal.returns-then-reply-gt65536
@@ -14,7 +14,7 @@ pub returns-then-is_refused : goal.returns-then-is_refused
 returns-then-is_refused c =
     let r = c.refused-then-is_refused in
     subst (Decides page037 c.args.room c.args.reply.now r.result)
-    (not-read _ _ _ _ c.if-reply-gt65536.false c.plan_reply-plan.ensures.plans _ c.is_refused.ensures c.if-is_refused.true)
+    (not_read _ _ _ _ c.if-reply-gt65536.false c.plan_reply-plan.ensures.plans _ c.is_refused.ensures c.if-is_refused.true)
     (r.ensures _ _)
 
 pub returns-then-room-count : goal.returns-then-room-count
@@ -22,7 +22,7 @@ returns-then-room-count c =
     let r = c.refused-then-room-count in
     let n = c.plan_reply-plan.ensures.counts.count in
     subst (Decides page037 c.args.room c.args.reply.now r.result)
-    (ap (λ m. refusedWith (6 ∷ m ∷ [])) n ∙ too_short _ _ _ _ c.if-reply-gt65536.false c.plan_reply-plan.ensures.plans _ c.is_refused.ensures
+    (ap (λ m. refused_with (6 ∷ m ∷ [])) n ∙ too_short _ _ _ _ c.if-reply-gt65536.false c.plan_reply-plan.ensures.plans _ c.is_refused.ensures
     c.if-is_refused.false (omega (arith, n, c.if-room-count.true)))
     (r.ensures _ _)
 
@@ -30,7 +30,7 @@ pub returns : goal.returns
 returns c =
     let n = c.plan_reply-plan.ensures.counts.count in
     subst (Decides page037 c.args.room c.args.reply.now _)
-    (in-room _ _ _ _ c.if-reply-gt65536.false c.plan_reply-plan.ensures.plans _ c.is_refused.ensures
+    (in_room _ _ _ _ c.if-reply-gt65536.false c.plan_reply-plan.ensures.plans _ c.is_refused.ensures
     c.if-is_refused.false (omega (arith, n, c.if-room-count.false)))
     (record {
       refuses = refl;

@@ -1,7 +1,7 @@
 -- The plan is of no columns, whatever the reply and the room.
 use Rattle.std.proofs.Common.{◌≡◌, refl, ap, arith}
 use Rattle.planned.specs.declared.Plan.{Plan}
-use Rattle.plan.proofs.Deciding.{no-columns}
+use Rattle.plan.proofs.Deciding.{no_columns_by_limit}
 use Rattle.plan.proofs.refused.Goals as goal
 
 pub returns : goal.returns
@@ -12,7 +12,7 @@ returns c =
       refuses = refl;
       gives = c.success.ensures;
       counts = refl;
-      plans = no-columns _ s plan.result none;
+      plans = no_columns_by_limit _ s plan.result none;
       planned = ap (λ (p : Plan). p.count) plan.ensures;
       fits = omega arith;
       bounded = omega arith;

@@ -3,12 +3,12 @@ use Rattle.std.proofs.Common.{ap, ◌∙◌}
 use Rattle.search.specs.Walks.{keep}
 use Rattle.codepage.specs.Page.{page037}
 use Rattle.scan.specs.Scan.{better}
-use Rattle.scan.proofs.Scans.{start-passed}
+use Rattle.scan.proofs.Scans.{start_passed}
 use Rattle.scan.proofs.best_with_start.Goals as goal
 
 pub returns-then-not-is_known_sql_type : goal.returns-then-not-is_known_sql_type
 returns-then-not-is_known_sql_type c = (
-  start-passed page037 _ _ _ c.requires.start_in_bounds _ c.u16_at.ensures _ c.is_known_sql_type.ensures
+  start_passed page037 _ _ _ c.requires.start_in_bounds _ c.u16_at.ensures _ c.is_known_sql_type.ensures
       c.if-not-is_known_sql_type.true _ c.requires.in_hand,
   c.requires.in_hand,
 )

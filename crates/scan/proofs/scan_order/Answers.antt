@@ -1,16 +1,16 @@
 -- A reply without starts keeps the run in hand; the loop's ways out and its turn are laws of the best of a walk.
 use Rattle.std.proofs.Common.{refl, arith}
-use Rattle.search.proofs.Best.{best-more, best-done}
+use Rattle.search.proofs.Best.{best_more, best_done}
 use Rattle.codepage.specs.Page.{page037}
-use Rattle.scan.specs.Scan.{scanOrder}
-use Rattle.scan.proofs.Scans.{scan-short}
+use Rattle.scan.specs.Scan.{scan_order}
+use Rattle.scan.proofs.Scans.{scan_short}
 use Rattle.scan.proofs.scan_order.Goals as goal
 
 pub returns-then-reply-lt18 : goal.returns-then-reply-lt18
-returns-then-reply-lt18 c = (scan-short page037 _ _ _ c.if-reply-lt18.true, c.requires)
+returns-then-reply-lt18 c = (scan_short page037 _ _ _ c.if-reply-lt18.true, c.requires)
 
 pub loop-start-init : goal.loop-start-init
-unfolding scanOrder
+unfolding scan_order
 loop-start-init c = record { within = omega arith; in_hand = c.requires; best_of_all = refl }
 
 pub loop-start-preserved : goal.loop-start-preserved
@@ -18,9 +18,9 @@ loop-start-preserved c = record {
   within = omega arith;
   in_hand = c.best_with_start-best.ensures.1;
   best_of_all =
-      best-more _ _ _ _ _ _ c.loop-start.invariant.best_of_all _ _ c.loop-start-test.true refl c.best_with_start-best.ensures.0;
+      best_more _ _ _ _ _ _ c.loop-start.invariant.best_of_all _ _ c.loop-start-test.true refl c.best_with_start-best.ensures.0;
 }
 
 pub returns : goal.returns
 returns c =
-    (best-done _ _ _ _ _ _ c.loop-start.invariant.best_of_all c.loop-start-test.false, c.loop-start.invariant.in_hand)
+    (best_done _ _ _ _ _ _ c.loop-start.invariant.best_of_all c.loop-start-test.false, c.loop-start.invariant.in_hand)

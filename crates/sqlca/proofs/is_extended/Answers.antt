@@ -1,8 +1,8 @@
 -- The tests are the definition's.
 use Rattle.std.proofs.Common.{refl}
-use Rattle.sqlca.specs.Extension.{isExtended}
+use Rattle.sqlca.specs.Extension.{is_extended}
 use Rattle.sqlca.proofs.is_extended.Goals as goal
 
 pub returns : goal.returns
-unfolding isExtended
+unfolding is_extended
 returns c = refl

@@ -1,10 +1,10 @@
 -- What was decided is written, and answered.
-use Rattle.plan.proofs.Deciding.{can-fill, filled}
+use Rattle.plan.proofs.Deciding.{can_fill, filled}
 use Rattle.sqldard.proofs.parse_sqldard_data.Goals as goal
 
 pub fill_columns-requires : goal.fill_columns-requires
 fill_columns-requires c =
-    let t = can-fill c.decide-decision.ensures in
+    let t = can_fill c.decide-decision.ensures in
     record { limit_bound = t.0; count_value = t.1.0; count_in_bounds = t.1.1 }
 
 pub returns : goal.returns

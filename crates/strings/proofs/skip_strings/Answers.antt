@@ -1,10 +1,10 @@
 -- One string more is read, or none is left.
-use Rattle.strings.proofs.Strings.{strings-more, strings-done}
+use Rattle.strings.proofs.Strings.{strings_more, strings_done}
 use Rattle.strings.proofs.skip_strings.Goals as goal
 
 pub loop-left-preserved : goal.loop-left-preserved
 loop-left-preserved c =
-    strings-more _ _ _ _ c.loop-left.invariant c.read_string-next.result c.loop-left-test.true c.read_string-next.ensures
+    strings_more _ _ _ _ c.loop-left.invariant c.read_string-next.result c.loop-left-test.true c.read_string-next.ensures
 
 pub returns : goal.returns
-returns c = strings-done _ _ _ _ c.loop-left.invariant c.loop-left-test.false
+returns c = strings_done _ _ _ _ c.loop-left.invariant c.loop-left-test.false

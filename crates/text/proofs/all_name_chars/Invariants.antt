@@ -2,11 +2,11 @@
 use Rattle.std.proofs.Common.{◌≡◌, ◌-◌, length, drop}
 use Rattle.search.specs.Search.{each}
 use Rattle.codepage.specs.Page.{page037}
-use Rattle.text.specs.Chars.{isNameOf}
+use Rattle.text.specs.Chars.{is_name_of}
 use Rattle.text.proofs.all_name_chars.Given as goal
 
 abbrev pub invariant-loop-i : goal.invariant-loop-i
-invariant-loop-i l = each (isNameOf page037 l.alphabet) l.bytes ≡ each (isNameOf page037 l.alphabet) (drop l.i l.bytes)
+invariant-loop-i l = each (is_name_of page037 l.alphabet) l.bytes ≡ each (is_name_of page037 l.alphabet) (drop l.i l.bytes)
 
 abbrev pub decreases-loop-i : goal.decreases-loop-i
 decreases-loop-i l = length l.bytes - l.i
