@@ -1,16 +1,18 @@
 -- Same cut and the rule before it are equivalences of lists; so is what the entry answers, of lists that it does not refuse.
 use mathlib.Core.Path.{◌≡◌, refl, sym, ◌∙◌}
-use mathlib.Core.Bool.{Bool, true, false, false≢true, and-eq-true_iff}
+use mathlib.Core.Bool.{Bool, true, false, ◌||◌, false≢true, and-eq-true_iff}
 use mathlib.Core.List.{List, [], ◌∷◌}
 use Prim.Native.Nat.{ℕ, ◌≤◌}
 use lib.Dec.{eqb, ltb}
 use lib.ListN.{length}
 use borrow.Author.Tests.{eqb-true, eqb-false, eq-eqb, ne_eqb, ltb-false, le-ltb}
+use Rattle.search.specs.Search.{pick}
 use Rattle.search.proofs.Alike.{alike_refl, alike_sym, alike_trans}
+use Rattle.outcome.specs.Refusal.{is_refused}
 use Rattle.types.specs.declared.ColumnMetadata.{ColumnMetadata}
 use Rattle.column.specs.Numbers.{order_number}
 use Rattle.columns.specs.Cut.{most_columns, coarse_column, same_ccsid, same_column, same_cut, cut_refusal, cut_answer}
-use Rattle.columns.specs.Finer.{coarse_cut, Equivalence}
+use Rattle.columns.specs.Finer.{coarse_cut, coarse_answer, Equivalence}
 use Rattle.columns.proofs.Cutting.{cut_accepted, cut_refused}
 
 -- ---- two columns, by the rule so far
@@ -122,38 +124,84 @@ coarse_equivalence =
       transitive = alike_trans coarse_column coarse_trans;
     }
 
--- ---- the entry's answer
+-- ---- the entry's answer, by whichever rule
+
+-- lists of at most 4,095 records are not refused
+accepted : (a b : List ColumnMetadata) → length a ≤ most_columns → length b ≤ most_columns → cut_refusal a b ≡ 0 ∷ []
+accepted a b h k = sym (cut_accepted a b (rw (le-ltb most_columns (length a) h) (le-ltb most_columns (length b) k)) (same_cut a b) refl).0
+
+module _ (same : List ColumnMetadata → List ColumnMetadata → Bool) where
+  abbrev answer_by : List ColumnMetadata → List ColumnMetadata → Bool
+  answer_by a b = pick (is_refused (cut_refusal a b)) false (same a b)
+
+  -- so the answer is the rule's
+  answered_by : (a b : List ColumnMetadata) → length a ≤ most_columns → length b ≤ most_columns → answer_by a b ≡ same a b
+  answered_by a b h k = rw (accepted a b h k) refl
+
+  -- a yes says that neither list is too long, and that the rule says yes
+  yes_by : (a b : List ColumnMetadata) → answer_by a b ≡ true → (length a ≤ most_columns) × ((length b ≤ most_columns) × (same a b ≡ true))
+  yes_by a b e = go (ltb most_columns (length a)) refl (ltb most_columns (length b)) refl
+    where
+      no : (ltb most_columns (length a) || ltb most_columns (length b)) ≡ true → answer_by a b ≡ false
+      no t = rw (sym (cut_refused a b t).0) refl
+
+      go : (s : Bool) → ltb most_columns (length a) ≡ s → (t : Bool) → ltb most_columns (length b) ≡ t
+          → (length a ≤ most_columns) × ((length b ≤ most_columns) × (same a b ≡ true))
+      go true p t q = absurd (false≢true (sym (no (rw p refl)) ∙ e))
+      go false p true q = absurd (false≢true (sym (no (rw (p, q) refl)) ∙ e))
+      go false p false q =
+          let h = ltb-false most_columns (length a) p in
+          let k = ltb-false most_columns (length b) q in
+          (h, (k, sym (answered_by a b h k) ∙ e))
+
+  module _ (e : Equivalence same) where
+    refl_by : (a : List ColumnMetadata) → length a ≤ most_columns → answer_by a a ≡ true
+    refl_by a h = answered_by a a h h ∙ e.reflexive a
+
+    sym_by : (a b : List ColumnMetadata) → answer_by a b ≡ true → answer_by b a ≡ true
+    sym_by a b y =
+        let t = yes_by a b y in
+        answered_by b a t.1.0 t.0 ∙ e.symmetric b a ∙ t.1.1
+
+    trans_by : (a b c : List ColumnMetadata) → answer_by a b ≡ true → answer_by b c ≡ true → answer_by a c ≡ true
+    trans_by a b c y z =
+        let t = yes_by a b y in
+        let u = yes_by b c z in
+        answered_by a c t.0 u.1.0 ∙ e.transitive a b c t.1.1 u.1.1
 
 -- lists of at most 4,095 records are not refused, and the answer is whether they make the same cut
 pub cut_answered : (a b : List ColumnMetadata) → length a ≤ most_columns → length b ≤ most_columns
     → (cut_refusal a b ≡ 0 ∷ []) × (cut_answer a b ≡ same_cut a b)
-cut_answered a b h k =
-    let t = cut_accepted a b (rw (le-ltb most_columns (length a) h) (le-ltb most_columns (length b) k)) (same_cut a b) refl in
-    (sym t.0, sym t.1)
+unfolding cut_answer
+cut_answered a b h k = (accepted a b h k, answered_by same_cut a b h k)
 
 -- a yes says that neither list is too long, and that they make the same cut
 pub cut_yes : (a b : List ColumnMetadata) → cut_answer a b ≡ true → (length a ≤ most_columns) × ((length b ≤ most_columns) × (same_cut a b ≡ true))
-cut_yes a b e = go (ltb most_columns (length a)) refl (ltb most_columns (length b)) refl
-  where
-    go : (s : Bool) → ltb most_columns (length a) ≡ s → (t : Bool) → ltb most_columns (length b) ≡ t
-        → (length a ≤ most_columns) × ((length b ≤ most_columns) × (same_cut a b ≡ true))
-    go true p t q = absurd (false≢true ((cut_refused a b (rw p refl)).1 ∙ e))
-    go false p true q = absurd (false≢true ((cut_refused a b (rw (p, q) refl)).1 ∙ e))
-    go false p false q =
-        let h = ltb-false most_columns (length a) p in
-        let k = ltb-false most_columns (length b) q in
-        (h, (k, sym (cut_answered a b h k).1 ∙ e))
+unfolding cut_answer
+cut_yes a b e = yes_by same_cut a b e
 
 pub cut_refl : (a : List ColumnMetadata) → length a ≤ most_columns → cut_answer a a ≡ true
-cut_refl a h = (cut_answered a a h h).1 ∙ same_cut_refl a
+unfolding cut_answer
+cut_refl a h = refl_by same_cut cut_equivalence a h
 
 pub cut_sym : (a b : List ColumnMetadata) → cut_answer a b ≡ true → cut_answer b a ≡ true
-cut_sym a b e =
-    let t = cut_yes a b e in
-    (cut_answered b a t.1.0 t.0).1 ∙ same_cut_sym b a ∙ t.1.1
+unfolding cut_answer
+cut_sym a b e = sym_by same_cut cut_equivalence a b e
 
 pub cut_trans : (a b c : List ColumnMetadata) → cut_answer a b ≡ true → cut_answer b c ≡ true → cut_answer a c ≡ true
-cut_trans a b c d e =
-    let t = cut_yes a b d in
-    let u = cut_yes b c e in
-    (cut_answered a c t.0 u.1.0).1 ∙ same_cut_trans a b c t.1.1 u.1.1
+unfolding cut_answer
+cut_trans a b c d e = trans_by same_cut cut_equivalence a b c d e
+
+-- the same of what the entry answered by the rule before T-05
+
+pub coarse_answer_refl : (a : List ColumnMetadata) → length a ≤ most_columns → coarse_answer a a ≡ true
+unfolding coarse_answer
+coarse_answer_refl a h = refl_by coarse_cut coarse_equivalence a h
+
+pub coarse_answer_sym : (a b : List ColumnMetadata) → coarse_answer a b ≡ true → coarse_answer b a ≡ true
+unfolding coarse_answer
+coarse_answer_sym a b e = sym_by coarse_cut coarse_equivalence a b e
+
+pub coarse_answer_trans : (a b c : List ColumnMetadata) → coarse_answer a b ≡ true → coarse_answer b c ≡ true → coarse_answer a c ≡ true
+unfolding coarse_answer
+coarse_answer_trans a b c d e = trans_by coarse_cut coarse_equivalence a b c d e

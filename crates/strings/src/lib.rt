@@ -87,6 +87,7 @@ pub fn skip_strings(reply: &[u8], offset: usize, count: usize) -> usize
 }
 
 // Of two strings, m and s, the first that has bytes; `next` is past both.
+#[tactic(auto, using(crate::proofs::Strings::chosen_first, crate::proofs::Strings::chosen_second))]
 pub fn choose(m: StringRead, s: StringRead) -> StringRead
     ensures { result ≡ chosen m s }
 {
