@@ -1,93 +1,94 @@
 // The entries that list columns: D, L, P and d.
-use crate::{cards, column_list, lent, puts};
-use field::ByteOrder;
+use crate::cases::Print;
+use crate::instead::{Instead, accepted};
+use crate::lent::{Lent, MARKED_WORD, untouched};
+use crate::payload::Payload;
+use crate::{cards, column_list};
 use sqldard_words::SqldardResult;
-use std::io;
 use std::io::Write;
 
 // The records that are lent at most.
 const RECORDS: u16 = 4096;
 
-fn described(entry: u8, code_point: u16, reply: &[u8], words: &mut [u64]) -> SqldardResult {
-    if entry == b'P' {
-        return entries::description::parse_sqldard(code_point, reply, words);
-    }
-    entries::description::parse_sqldard_data(reply, words)
-}
-
-// `OK n=COUNT`, then the status and the columns, or the places of their texts; or the refusal.
+// `OK n=COUNT`, then the status and the columns, or the places of their texts.
 fn put_described(
     out: &mut impl Write,
-    entry: u8,
+    print: Print,
     reply: &[u8],
     answer: SqldardResult,
     words: &[u64],
     room: &mut [u8],
-) -> io::Result<()> {
-    let refusal = answer.refusal;
-    let card = answer.card;
+) -> Result<(), Instead> {
     let count = answer.count;
-    puts::put_count(out, refusal, count, column_list::are_kept(words, count))?;
-    if refusal.number != 0 {
-        return Ok(());
+    let used = count.checked_mul(22).ok_or(Instead::Touched)?;
+    untouched(words, used, MARKED_WORD)?;
+    accepted(answer.refusal)?;
+    write!(out, "OK n={count}")?;
+    match print {
+        Print::Places => column_list::put_all_places(out, words, count)?,
+        Print::Characters => {
+            cards::put_status(out, reply, answer.card, room)?;
+            column_list::put_columns(out, reply, words, count, room)?;
+        }
     }
-    if entry == b'd' {
-        return column_list::put_all_places(out, words, count);
-    }
-    cards::put_status(out, reply, card, room)?;
-    column_list::put_columns(out, reply, words, count, room)
+    Ok(())
 }
 
-// A description for which all of `words` is lent.
-fn put_lent(
-    out: &mut impl Write,
-    entry: u8,
-    code_point: u16,
-    reply: &[u8],
-    room: &mut [u8],
-    words: &mut [u64],
-) -> io::Result<()> {
-    lent::mark_words(words);
-    let answer = described(entry, code_point, reply, words);
-    put_described(out, entry, reply, answer, words, room)
+// The words of as many records, marked.
+fn marked(words: &mut [u64], records: u16) -> Result<&mut [u64], Instead> {
+    if RECORDS < records {
+        return Err(Instead::Bad);
+    }
+    let end = 22 * usize::from(records);
+    let words = words.get_mut(..end).ok_or(Instead::Bad)?;
+    words.fill(MARKED_WORD);
+    Ok(words)
 }
 
-// One for which as many records are lent.
+// A description for which as many records are lent.
 fn put_list(
     out: &mut impl Write,
-    entry: u8,
-    code_point: u16,
+    print: Print,
     reply: &[u8],
     records: u16,
-    room: &mut [u8],
-    words: &mut [u64],
-) -> io::Result<bool> {
-    let end = 22 * records as usize;
-    if RECORDS < records {
-        return puts::put_bad(out);
-    }
-    if words.len() < end {
-        return puts::put_bad(out);
-    }
-    put_lent(out, entry, code_point, reply, room, &mut words[0..end])?;
-    Ok(true)
+    lent: &mut Lent,
+) -> Result<(), Instead> {
+    let words = marked(&mut lent.words, records)?;
+    let answer = entries::description::parse_sqldard_data(reply, words);
+    put_described(out, print, reply, answer, words, &mut lent.text)
 }
 
-// D and d: the reply. L: how many records are lent, and the reply. P: the code point, and the reply.
+// D and d: the reply.
 pub(crate) fn put_description(
     out: &mut impl Write,
-    entry: u8,
+    print: Print,
+    reply: &[u8],
+    lent: &mut Lent,
+) -> Result<(), Instead> {
+    put_list(out, print, reply, RECORDS, lent)
+}
+
+// L: how many records are lent, and the reply.
+pub(crate) fn put_short_list(
+    out: &mut impl Write,
     payload: &[u8],
-    room: &mut [u8],
-    words: &mut [u64],
-) -> io::Result<bool> {
-    if (entry == b'D') | (entry == b'd') {
-        return put_list(out, entry, 0, payload, RECORDS, room, words);
-    }
-    if payload.len() < 2 {
-        return puts::put_bad(out);
-    }
-    let number = field::u16_at(payload, 0, ByteOrder::BigEndian);
-    let records = if entry == b'L' { number } else { RECORDS };
-    put_list(out, entry, number, &payload[2..], records, room, words)
+    lent: &mut Lent,
+) -> Result<(), Instead> {
+    let mut payload = Payload::new(payload);
+    let records = payload.u16()?;
+    put_list(out, Print::Characters, payload.rest, records, lent)
+}
+
+// P: the code point, and the reply.
+pub(crate) fn put_with_code_point(
+    out: &mut impl Write,
+    payload: &[u8],
+    lent: &mut Lent,
+) -> Result<(), Instead> {
+    let mut payload = Payload::new(payload);
+    let code_point = payload.u16()?;
+    let reply = payload.rest;
+    let words = marked(&mut lent.words, RECORDS)?;
+    let answer = entries::description::parse_sqldard(code_point, reply, words);
+    put_described(out, Print::Characters, reply, answer, words, &mut lent.text)
 }

@@ -1,27 +1,37 @@
-// What is lent is marked beforehand, so that it is seen where more was written than the answer.
+// What is lent to the entries. It is marked beforehand, so that it is seen where more was written than the answer.
+use crate::instead::Instead;
+use std::alloc::{AllocError, Global};
 
-const MARK: u8 = 0xAA;
+pub(crate) const MARK: u8 = 0xAA;
 
-const MARKED_WORD: u64 = 0xAAAA_AAAA_AAAA_AAAA;
+pub(crate) const MARKED_WORD: u64 = 0xAAAA_AAAA_AAAA_AAAA;
 
-pub(crate) fn mark(lent: &mut [u8]) {
-    for byte in lent.iter_mut() {
-        *byte = MARK;
+#[derive(Drop)]
+pub(crate) struct Lent {
+    // What M and T lend, and where a text is written to be printed.
+    pub text: Vec<u8>,
+    // 8,400 columns of 22 words: as many records as a payload can hold, and more than the 4,096 columns of each of two replies.
+    pub words: Vec<u64>,
+}
+
+impl Lent {
+    pub(crate) fn new(alloc: Global) -> Result<Self, AllocError> {
+        let text = vec![in alloc; 0u8; 65_536]?;
+        let words = vec![in alloc; 0u64; 184_800]?;
+        Ok(Lent { text, words })
     }
 }
 
-// Whether all from `start` on is as `mark` left it.
-pub(crate) fn is_marked(lent: &[u8], start: usize) -> bool {
-    lent.iter().skip(start).all(|byte| *byte == MARK)
-}
-
-pub(crate) fn mark_words(lent: &mut [u64]) {
-    for word in lent.iter_mut() {
-        *word = MARKED_WORD;
+// Whether all behind the first `count` elements is as it was marked.
+pub(crate) fn untouched<T: PartialEq + Copy>(
+    lent: &[T],
+    count: usize,
+    mark: T,
+) -> Result<(), Instead> {
+    let rest = lent.get(count..).ok_or(Instead::Touched)?;
+    if rest.iter().all(|element| *element == mark) {
+        Ok(())
+    } else {
+        Err(Instead::Touched)
     }
-}
-
-// Whether all from `start` on is as `mark_words` left it.
-pub(crate) fn are_marked(lent: &[u64], start: usize) -> bool {
-    lent.iter().skip(start).all(|word| *word == MARKED_WORD)
 }

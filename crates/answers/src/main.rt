@@ -6,76 +6,82 @@ mod cards;
 mod cases;
 mod column_list;
 mod descriptions;
+mod instead;
 mod lent;
 mod lists;
 mod name_list;
-mod puts;
+mod payload;
 mod records;
 mod texts;
 mod type_values;
 
-use cases::Next;
+use cases::{Case, Entry};
+use instead::Instead;
+use lent::Lent;
 use std::io;
 use std::io::{BufReader, BufWriter, Read, Write};
 
-// Answers a case, false where it is malformed: an entry is a function and an arm. `room` is lent for texts, `words` for lists.
-fn put_answer(
-    out: &mut impl Write,
-    entry: u8,
-    payload: &[u8],
-    room: &mut [u8],
-    words: &mut [u64],
-) -> io::Result<bool> {
-    match entry {
-        b'D' | b'd' | b'L' | b'P' => descriptions::put_description(
-            out, entry, payload, room, words,
-        ),
-        b'S' | b's' => cards::put_status_alone(out, entry, payload, room),
-        b'G' => cards::put_group(out, payload, room),
-        b'N' | b'n' => name_list::put_names(out, entry, payload, room, words),
-        b'M' => texts::put_message_text(out, payload, room),
-        b'T' => texts::put_name_text(out, payload, room),
-        b'U' => texts::put_name_part(out, payload),
-        b'C' => lists::put_same_cut(out, payload, words),
-        b'W' => lists::put_widest_row(out, payload, words),
-        b'Q' => lists::put_same_cut_of_records(out, payload, words),
-        b'R' => lists::put_widest_row_of_records(out, payload, words),
-        _ => puts::put_bad(out),
+// Answers a case: an entry is a function and an arm.
+fn put_answer(out: &mut impl Write, case: Case, lent: &mut Lent) -> Result<(), Instead> {
+    let payload = case.payload;
+    match case.entry {
+        Entry::Description(print) => descriptions::put_description(out, print, payload, lent),
+        Entry::ShortList => descriptions::put_short_list(out, payload, lent),
+        Entry::CodePoint => descriptions::put_with_code_point(out, payload, lent),
+        Entry::Status => cards::put_status_alone(out, payload, lent),
+        Entry::MessagePlace => cards::put_message_place(out, payload),
+        Entry::Group => cards::put_group(out, payload, lent),
+        Entry::Names(print) => name_list::put_names(out, print, payload, lent),
+        Entry::MessageText => texts::put_message_text(out, payload, lent),
+        Entry::NameText => texts::put_name_text(out, payload, lent),
+        Entry::NamePart => texts::put_name_part(out, payload),
+        Entry::SameCut => lists::put_same_cut(out, payload, lent),
+        Entry::WidestRow => lists::put_widest_row(out, payload, lent),
+        Entry::RecordsCut => lists::put_same_cut_of_records(out, payload, lent),
+        Entry::RecordsRow => lists::put_widest_row_of_records(out, payload, lent),
     }
 }
 
-// The next case, read and answered by a line. No other follows where the input ends, and after BAD: false.
-fn one_case(
+// The next case, read and answered; whether there was one.
+fn put_next(
     input: &mut impl Read,
     out: &mut impl Write,
-    payload: &mut [u8],
     room: &mut [u8],
-    words: &mut [u64],
-) -> io::Result<bool> {
-    let case = cases::next_case(input, payload)?;
-    match case.next {
-        Next::End => Ok(false),
-        Next::Bad => puts::put_bad(out),
-        Next::Case => {
-            let answered = put_answer(out, case.entry, &payload[0..case.count], room, words)?;
-            if answered {
-                output::put_byte(out, b'\n')?;
-            }
-            Ok(answered)
+    lent: &mut Lent,
+) -> Result<bool, Instead> {
+    let Some(case) = cases::next_case(input, room)? else {
+        return Ok(false);
+    };
+    put_answer(out, case, lent)?;
+    Ok(true)
+}
+
+// The rest of the line of a case. No other follows where the input ends, and after BAD: false.
+fn end_line(out: &mut impl Write, answered: Result<bool, Instead>) -> io::Result<bool> {
+    match answered {
+        Ok(false) => return Ok(false),
+        Ok(true) => writeln!(out)?,
+        Err(Instead::Refusal(refusal)) => writeln!(out, "{refusal}")?,
+        Err(Instead::Touched) => writeln!(out, "TOUCHED")?,
+        Err(Instead::Bad) => {
+            writeln!(out, "BAD")?;
+            return Ok(false);
         }
+        Err(Instead::Error(error)) => return Err(error),
     }
+    Ok(true)
 }
 
 // Each case's line is out before the next case is read.
-fn all_cases(
+fn put_all(
     input: &mut impl Read,
     out: &mut impl Write,
-    payload: &mut [u8],
     room: &mut [u8],
-    words: &mut [u64],
+    lent: &mut Lent,
 ) -> io::Result<()> {
     for _ in 0..u64::MAX {
-        let goes_on = one_case(input, out, payload, room, words)?;
+        let answered = put_next(input, out, room, lent);
+        let goes_on = end_line(out, answered)?;
         out.flush()?;
         if !goes_on {
             break;
@@ -89,10 +95,7 @@ fn main(rt: HostRuntime) -> io::Result<()> {
     let mut input = BufReader::new(alloc, rt.reader())?;
     let mut out = BufWriter::new(alloc, io::writer(&rt))?;
     // The longest payload that is taken.
-    let mut payload = vec![in alloc; 0u8; 420_000]?;
-    // What M and T lend, and where a text is written to be printed.
-    let mut room = vec![in alloc; 0u8; 65_536]?;
-    // 8,400 columns of 22 words: as many records as a payload can hold, and more than the 4,096 columns of each of two replies.
-    let mut words = vec![in alloc; 0u64; 184_800]?;
-    all_cases(&mut input, &mut out, &mut payload, &mut room, &mut words)
+    let mut room = vec![in alloc; 0u8; 420_000]?;
+    let mut lent = Lent::new(alloc)?;
+    put_all(&mut input, &mut out, &mut room, &mut lent)
 }

@@ -1,84 +1,56 @@
 // The entries that scan for names: N and n.
-use crate::{lent, puts};
-use std::io;
+use crate::cases::Print;
+use crate::instead::{Instead, accepted};
+use crate::lent::{Lent, MARKED_WORD, untouched};
+use crate::texts::{self, Place};
 use std::io::Write;
 use text::Text;
 
 // The words of the 8,192 texts that are lent.
-const WORDS: u16 = 24_576;
+const WORDS: usize = 24_576;
 
-// The text at a place of a list in words, an empty one where there is none.
-fn name_in(words: &[u64], i: usize) -> Text {
-    if i >= words.len() / 3 {
-        return output::text_in(words, words.len());
-    }
-    output::text_in(words, i * 3)
-}
-
-// Whether the words past the first `count` texts are as they were marked.
-fn are_kept(words: &[u64], count: usize) -> bool {
-    if words.len() / 3 < count {
-        return false;
-    }
-    lent::are_marked(words, count * 3)
-}
-
-// A name as its characters, or as its place.
-fn put_name(
-    out: &mut impl Write,
-    entry: u8,
-    reply: &[u8],
-    name: Text,
-    room: &mut [u8],
-) -> io::Result<()> {
-    if entry == b'n' {
-        return puts::put_text_place(out, name);
-    }
-    puts::put_text(out, reply, name, 0, room)
-}
-
-fn put_all(
-    out: &mut impl Write,
-    entry: u8,
-    reply: &[u8],
-    words: &[u64],
-    count: usize,
-    room: &mut [u8],
-) -> io::Result<()> {
-    for i in 0..count {
-        put_name(out, entry, reply, name_in(words, i), room)?;
-    }
-    Ok(())
-}
-
-// A name scan for which all of `words` is lent.
-fn put_lent(
-    out: &mut impl Write,
-    entry: u8,
-    reply: &[u8],
-    room: &mut [u8],
-    words: &mut [u64],
-) -> io::Result<()> {
-    lent::mark_words(words);
-    let answer = entries::name_scan::scan_column_names(reply, words);
-    let refusal = answer.refusal;
-    let count = answer.count;
-    puts::put_count(out, refusal, count, are_kept(words, count))?;
-    put_all(out, entry, reply, words, count, room)
+// The text of three words; none where its alphabet is no byte.
+fn text_of(words: &[u64]) -> Option<Text> {
+    let [place, length, alphabet] = *words else {
+        return None;
+    };
+    Some(Text {
+        place: place as usize,
+        length: length as usize,
+        alphabet: u8::try_from(alphabet).ok()?,
+    })
 }
 
 // N: the names. n: where they stand in the reply.
 pub(crate) fn put_names(
     out: &mut impl Write,
-    entry: u8,
+    print: Print,
     reply: &[u8],
-    room: &mut [u8],
-    words: &mut [u64],
-) -> io::Result<bool> {
-    let end = WORDS as usize;
-    if words.len() < end {
-        return puts::put_bad(out);
+    lent: &mut Lent,
+) -> Result<(), Instead> {
+    let words = lent
+        .words
+        .as_mut_slice()
+        .get_mut(..WORDS)
+        .ok_or(Instead::Bad)?;
+    words.fill(MARKED_WORD);
+    let answer = entries::name_scan::scan_column_names(reply, words);
+    let count = answer.count;
+    let used = count.checked_mul(3).ok_or(Instead::Touched)?;
+    untouched(words, used, MARKED_WORD)?;
+    accepted(answer.refusal)?;
+    write!(out, "OK n={count}")?;
+    for name in words.chunks_exact(3).take(count).filter_map(text_of) {
+        match print {
+            Print::Places => write!(out, " {}", Place(name))?,
+            Print::Characters => {
+                write!(
+                    out,
+                    " {}",
+                    texts::characters(reply, 0, name, &mut lent.text)
+                )?;
+            }
+        }
     }
-    put_lent(out, entry, reply, room, &mut words[0..end])?;
-    Ok(true)
+    Ok(())
 }

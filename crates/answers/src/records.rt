@@ -1,107 +1,78 @@
 // Records in a payload, 50 bytes each, as docs/ANSWERS.md lays them out: their 22 fields are the 22 words of a column
 // that no reply needs to hold.
-use field::ByteOrder;
+use crate::instead::Instead;
+use crate::payload::Payload;
 
-// Where each field starts, and how many bytes it has.
-const STARTS: [u8; 22] = [
-    0, 2, 3, 5, 6, 8, 9, 10, 11, 13, 14, 18, 22, 23, 27, 31, 32, 36, 40, 41, 45, 49,
-];
+// The bytes of a record, and the words of a column.
+const RECORD: usize = 50;
 
-const WIDTHS: [u8; 22] = [
-    2, 1, 2, 1, 2, 1, 1, 1, 2, 1, 4, 4, 1, 4, 4, 1, 4, 4, 1, 4, 4, 1,
-];
-
-fn wide(byte: u8) -> u64 {
-    byte as u64
-}
-
-fn place(start: u8) -> usize {
-    start as usize
-}
-
-// A number of 1, 2 or 4 bytes, 0 where it would not lie inside.
-fn number_at(bytes: &[u8], at: usize, width: u8) -> u64 {
-    if bytes.len() <= at {
-        return 0;
-    }
-    if width == 1 {
-        return wide(bytes[at]);
-    }
-    if bytes.len() - at < 2 {
-        return 0;
-    }
-    if width == 2 {
-        return field::u16_at(bytes, at, ByteOrder::BigEndian) as u64;
-    }
-    if bytes.len() - at < 4 {
-        return 0;
-    }
-    field::u32_at(bytes, at, ByteOrder::BigEndian) as u64
-}
+const COLUMN: usize = 22;
 
 // What the type with this code takes of a value: nothing where it has none, the low 8 bits for DecFloat.
-fn value_taken(code: u64, value: u64) -> u64 {
-    let db2_type = sqlda::type_with(code, (value % 65536) as u16);
-    sqlda::type_value(db2_type)
+fn value_taken(code: u8, value: u16) -> u64 {
+    sqlda::type_value(sqlda::type_with(u64::from(code), value))
 }
 
-// Field `i` of a record.
-fn field_in(record: &[u8], i: usize) -> u64 {
-    let starts = STARTS;
-    let widths = WIDTHS;
-    if i >= 22 {
-        return 0;
-    }
-    number_at(record, place(starts[i]), widths[i])
+// The three words of a text.
+fn text_words(record: &mut Payload) -> Result<[u64; 3], Instead> {
+    let place = record.u32()?;
+    let length = record.u32()?;
+    let alphabet = record.u8()?;
+    Ok([u64::from(place), u64::from(length), u64::from(alphabet)])
 }
 
-// The fields of a record as they stand.
-fn fill_fields(record: &[u8], words: &mut [u64]) {
-    for i in 0..words.len() {
-        words[i] = field_in(record, i);
-    }
+// The words of the fields in front of the texts.
+fn number_words(record: &mut Payload) -> Result<[u64; 10], Instead> {
+    let number = record.u16()?;
+    let code = record.u8()?;
+    let value = record.u16()?;
+    Ok([
+        u64::from(number),
+        u64::from(code),
+        value_taken(code, value),
+        u64::from(record.u8()?),
+        u64::from(record.u16()?),
+        u64::from(record.u8()?),
+        u64::from(record.u8()?),
+        u64::from(record.u8()?),
+        u64::from(record.u16()?),
+        u64::from(record.u8()?),
+    ])
 }
 
 // One record's words. Whether they are a column's is seen afterwards.
-fn fill_record(record: &[u8], words: &mut [u64]) {
-    fill_fields(record, words);
-    if 2 < words.len() {
-        words[2] = value_taken(words[1], words[2]);
+fn fill_record(record: &[u8], words: &mut [u64]) -> Result<(), Instead> {
+    let mut record = Payload::new(record);
+    let (numbers, texts) = words.split_at_mut_checked(10).ok_or(Instead::Bad)?;
+    for (word, number) in numbers.iter_mut().zip(number_words(&mut record)?) {
+        *word = number;
     }
+    for words in texts.chunks_exact_mut(3) {
+        let text = text_words(&mut record)?;
+        words.copy_from_slice(&text);
+    }
+    Ok(())
 }
 
-// The words of record `i` of many.
-fn fill_at(bytes: &[u8], words: &mut [u64], i: usize) {
-    if bytes.len() / 50 <= i {
-        return;
+// The records' words at the front of `words`, and the words behind them, where the bytes are those of records.
+pub(crate) fn fill_records<'a>(
+    bytes: &[u8],
+    words: &'a mut [u64],
+) -> Result<(&'a [u64], &'a mut [u64]), Instead> {
+    if bytes.len() % RECORD != 0 {
+        return Err(Instead::Bad);
     }
-    if words.len() / 22 <= i {
-        return;
+    let end = bytes.len() / RECORD * COLUMN;
+    let (columns, rest) = words.split_at_mut_checked(end).ok_or(Instead::Bad)?;
+    for (record, column) in bytes
+        .chunks_exact(RECORD)
+        .zip(columns.chunks_exact_mut(COLUMN))
+    {
+        fill_record(record, column)?;
     }
-    let at = i * 50;
-    let to = i * 22;
-    fill_record(&bytes[at..at + 50], &mut words[to..to + 22]);
-}
-
-fn fill_all(bytes: &[u8], words: &mut [u64], count: usize) {
-    for i in 0..count {
-        fill_at(bytes, words, i);
+    if column_words::are_columns(columns) {
+        Ok((columns, rest))
+    } else {
+        Err(Instead::Bad)
     }
-}
-
-// The records' words at the front of `words`, and how many they are; more than there are, where the bytes are not those of records.
-pub(crate) fn fill_records(bytes: &[u8], words: &mut [u64]) -> usize {
-    let count = bytes.len() / 50;
-    if bytes.len() % 50 != 0 {
-        return usize::MAX;
-    }
-    if words.len() / 22 < count {
-        return usize::MAX;
-    }
-    fill_all(bytes, words, count);
-    let end = count * 22;
-    if column_words::are_columns(&words[0..end]) {
-        return end;
-    }
-    usize::MAX
 }

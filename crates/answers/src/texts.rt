@@ -1,133 +1,154 @@
-// The entries that give a text, written into what they are lent, or a part of the reply: M, T and U.
-use crate::{lent, puts};
-use entries::{CountResult, PartResult};
-use field::ByteOrder;
-use std::io;
+// Texts in lines, and the entries that give a text, written into what they are lent, or a part of the reply: M, T and U.
+use crate::instead::{Instead, accepted};
+use crate::lent::{Lent, MARK, untouched};
+use crate::payload::Payload;
+use entries::CountResult;
+use output::Hex;
+use std::fmt;
 use std::io::Write;
+use text::Text;
 
-// The text in what was lent and marked, or the refusal; `TOUCHED` where more than the text was written.
-fn put_lent(out: &mut impl Write, lent: &[u8], answer: CountResult) -> io::Result<()> {
-    let refusal = answer.refusal;
-    if !lent::is_marked(lent, answer.count) {
-        return output::put_bytes(out, b"TOUCHED");
+// Bytes in hex, `?` where there are none to be had.
+#[derive(Clone, Copy)]
+pub(crate) struct HexIfAny<'a>(pub Option<&'a [u8]>);
+
+impl fmt::Display for HexIfAny<'_> {
+    fn fmt<W: fmt::Write>(&self, f: &mut fmt::Formatter<W>) -> fmt::Result {
+        match self.0 {
+            Some(bytes) => write!(f, "{}", Hex(bytes)),
+            None => f.write_str("?"),
+        }
     }
-    if refusal.number != 0 {
-        return output::put_refusal(out, refusal);
-    }
-    output::put_bytes(out, b"OK ")?;
-    puts::put_hex_first(out, lent, answer.count)
 }
 
-fn put_message(
-    out: &mut impl Write,
+// `place/length/alphabet`.
+#[derive(Clone, Copy)]
+pub(crate) struct Place(pub Text);
+
+impl fmt::Display for Place {
+    fn fmt<W: fmt::Write>(&self, f: &mut fmt::Formatter<W>) -> fmt::Result {
+        let place = self.0.place;
+        let length = self.0.length;
+        let alphabet = self.0.alphabet;
+        write!(f, "{place}/{length}/{alphabet}")
+    }
+}
+
+// What an entry wrote to the front of `room`; nothing where it refused.
+fn written(answer: CountResult, room: &[u8]) -> HexIfAny<'_> {
+    if answer.refusal.is_refused() {
+        return HexIfAny(None);
+    }
+    HexIfAny(room.get(..answer.count))
+}
+
+// A text's characters. `number` is its column's, for a generated name; `room` is for the text.
+pub(crate) fn characters<'a>(
+    reply: &[u8],
+    number: u16,
+    text: Text,
+    room: &'a mut [u8],
+) -> HexIfAny<'a> {
+    let answer = entries::texts::name_text(
+        reply,
+        number,
+        text.place,
+        text.length,
+        text.alphabet,
+        room,
+    );
+    written(answer, room)
+}
+
+// A message's characters.
+pub(crate) fn message<'a>(
     reply: &[u8],
     place: usize,
-    count: usize,
-    lent: &mut [u8],
-) -> io::Result<()> {
-    lent::mark(lent);
-    let answer = entries::texts::message_text(reply, place, count, lent);
-    put_lent(out, lent, answer)
+    length: usize,
+    room: &'a mut [u8],
+) -> HexIfAny<'a> {
+    let answer = entries::texts::message_text(reply, place, length, room);
+    written(answer, room)
+}
+
+// The text in what was lent and marked.
+fn put_lent(out: &mut impl Write, lent: &[u8], answer: CountResult) -> Result<(), Instead> {
+    untouched(lent, answer.count, MARK)?;
+    accepted(answer.refusal)?;
+    write!(out, "OK {}", HexIfAny(lent.get(..answer.count)))?;
+    Ok(())
 }
 
 // M: a message's text. In front of the reply stand its place, its length and how many bytes are lent.
 pub(crate) fn put_message_text(
     out: &mut impl Write,
     payload: &[u8],
-    room: &mut [u8],
-) -> io::Result<bool> {
-    if payload.len() < 10 {
-        return puts::put_bad(out);
-    }
-    let place = field::u32_at(payload, 0, ByteOrder::BigEndian) as usize;
-    let count = field::u32_at(payload, 4, ByteOrder::BigEndian) as usize;
-    let lent = field::u16_at(payload, 8, ByteOrder::BigEndian) as usize;
-    if room.len() < lent {
-        return puts::put_bad(out);
-    }
-    put_message(out, &payload[10..], place, count, &mut room[0..lent])?;
-    Ok(true)
+    lent: &mut Lent,
+) -> Result<(), Instead> {
+    let mut payload = Payload::new(payload);
+    let place = payload.u32()? as usize;
+    let length = payload.u32()? as usize;
+    let count = usize::from(payload.u16()?);
+    let room = lent
+        .text
+        .as_mut_slice()
+        .get_mut(..count)
+        .ok_or(Instead::Bad)?;
+    room.fill(MARK);
+    let answer = entries::texts::message_text(payload.rest, place, length, room);
+    put_lent(out, room, answer)
 }
 
-// Where a case says that a name stands, and in which alphabet.
-#[derive(Clone, Copy)]
-struct Named {
-    number: u16,
-    place: usize,
-    count: usize,
-    alphabet: u8,
-}
-
-// The number of a column, and its name's place, length and alphabet: what stands in front of the reply, or in front of the room lent.
-fn named_in(payload: &[u8]) -> Named {
-    if payload.len() < 11 {
-        return Named {
-            number: 0,
-            place: 0,
-            count: 0,
-            alphabet: 0,
-        };
-    }
-    Named {
-        number: field::u16_at(payload, 0, ByteOrder::BigEndian),
-        place: field::u32_at(payload, 2, ByteOrder::BigEndian) as usize,
-        count: field::u32_at(payload, 6, ByteOrder::BigEndian) as usize,
-        alphabet: payload[10],
-    }
-}
-
-fn put_name(out: &mut impl Write, reply: &[u8], named: Named, lent: &mut [u8]) -> io::Result<()> {
-    lent::mark(lent);
-    let answer = entries::texts::name_text(
-        reply,
-        named.number,
-        named.place,
-        named.count,
-        named.alphabet,
-        lent,
-    );
-    put_lent(out, lent, answer)
+// The number of a column, and its name's place, length and alphabet.
+fn named(payload: &mut Payload) -> Result<(u16, Text), Instead> {
+    let number = payload.u16()?;
+    let place = payload.u32()? as usize;
+    let length = payload.u32()? as usize;
+    let alphabet = payload.u8()?;
+    Ok((
+        number,
+        Text {
+            place,
+            length,
+            alphabet,
+        },
+    ))
 }
 
 // T: a name's text. In front of the reply stand the column's number, its name's place, length and alphabet, and how many bytes are lent.
 pub(crate) fn put_name_text(
     out: &mut impl Write,
     payload: &[u8],
-    room: &mut [u8],
-) -> io::Result<bool> {
-    if payload.len() < 13 {
-        return puts::put_bad(out);
-    }
-    let named = named_in(payload);
-    let lent = field::u16_at(payload, 11, ByteOrder::BigEndian) as usize;
-    if room.len() < lent {
-        return puts::put_bad(out);
-    }
-    put_name(out, &payload[13..], named, &mut room[0..lent])?;
-    Ok(true)
-}
-
-fn put_part(out: &mut impl Write, answer: PartResult) -> io::Result<()> {
-    let refusal = answer.refusal;
-    if refusal.number != 0 {
-        return output::put_refusal(out, refusal);
-    }
-    output::put_bytes(out, b"OK ")?;
-    puts::put_place(out, answer.place, answer.length)
+    lent: &mut Lent,
+) -> Result<(), Instead> {
+    let mut payload = Payload::new(payload);
+    let (number, name) = named(&mut payload)?;
+    let count = usize::from(payload.u16()?);
+    let room = lent
+        .text
+        .as_mut_slice()
+        .get_mut(..count)
+        .ok_or(Instead::Bad)?;
+    room.fill(MARK);
+    let answer = entries::texts::name_text(
+        payload.rest,
+        number,
+        name.place,
+        name.length,
+        name.alphabet,
+        room,
+    );
+    put_lent(out, room, answer)
 }
 
 // U: a name's own bytes. In front of the reply stand the column's number, and its name's place, length and alphabet.
-pub(crate) fn put_name_part(out: &mut impl Write, payload: &[u8]) -> io::Result<bool> {
-    if payload.len() < 11 {
-        return puts::put_bad(out);
-    }
-    let named = named_in(payload);
-    let answer = entries::texts::name_part(
-        &payload[11..],
-        named.place,
-        named.count,
-        named.alphabet,
-    );
-    put_part(out, answer)?;
-    Ok(true)
+pub(crate) fn put_name_part(out: &mut impl Write, payload: &[u8]) -> Result<(), Instead> {
+    let mut payload = Payload::new(payload);
+    let (_, name) = named(&mut payload)?;
+    let answer = entries::texts::name_part(payload.rest, name.place, name.length, name.alphabet);
+    accepted(answer.refusal)?;
+    let place = answer.place;
+    let length = answer.length;
+    write!(out, "OK {place}/{length}")?;
+    Ok(())
 }

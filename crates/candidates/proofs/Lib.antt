@@ -1,2 +1,2 @@
-pub mod Candidates
-pub mod Views
+pub mod Steps
+pub mod Inside

@@ -1,226 +1,192 @@
 // Candidates for names: strings of the reply by their 16-bit length, whatever they stand in. They are found one at a time, with five in view.
 #![tactic(auto)]
 
-ghost use Rattle.std.specs.Prelude.{false, not, ◌&&◌, ◌≡◌, ℕ, ◌≤◌, ◌<◌, eqb, length};
-ghost use Rattle.search.specs.Search.{alike};
-ghost use Rattle.text.specs.Text.{empty_text};
-ghost use Rattle.candidates.specs.Candidates.{same_text, is_candidate, candidate_at, is_near_repeat, candidates};
-ghost use Rattle.candidates.specs.View.{Inside, next_candidate, shifted, in_view, Within};
+ghost use Rattle.std.specs.Prelude.{false, ◌≡◌, ◌+◌, ◌≤◌, length};
+ghost use Rattle.std.specs.Iterator.{item_count};
+ghost use Rattle.text.specs.Text.{bytes_of};
+ghost use Rattle.candidates.specs.Candidates.{same_text, repeats, is_candidate, is_near_repeat, kept_at, candidates};
+ghost use Rattle.candidates.specs.View.{left, YieldsCandidate, text_at, reply_of, behind, in_view};
 
 use field::ByteOrder;
 use text::Text;
 
-fn same_bytes(a: &[u8], b: &[u8]) -> bool
-    ensures { result ≡ alike eqb a.now b.now }
+// A text's bytes, those of them that lie in the reply.
+#[inline(always)]
+fn bytes_of(reply: &[u8], text: Text) -> &[u8]
+    ensures { result.now ≡ bytes_of reply.now text }
 {
-    if a.len() != b.len() {
-        return false;
-    }
-    let mut i = 0;
-    while i < a.len() {
-        if a[i] != b[i] {
-            return false;
-        }
-        i += 1;
-    }
-    true
+    let rest = reply.get(text.place..).unwrap_or(&[]);
+    rest.get(..text.length).unwrap_or(rest)
 }
 
 // Whether two texts of ASCII are equal.
+#[tactic(auto, unfolding(crate::specs::Candidates::same_text))]
+#[inline(always)]
 pub fn same_text(reply: &[u8], a: Text, b: Text) -> bool
-    requires a_inside { Inside reply.now a }
-    requires b_inside { Inside reply.now b }
     ensures { result ≡ same_text reply.now a b }
 {
-    let first = a.place;
-    let second = b.place;
-    let first_end = first + a.length;
-    let second_end = second + b.length;
-    same_bytes(&reply[first..first_end], &reply[second..second_end])
+    bytes_of(reply, a) == bytes_of(reply, b)
 }
 
-pub fn no_text() -> Text
-    ensures { result ≡ empty_text }
+// Whether a text is equal to another, if there is one.
+#[inline(always)]
+pub fn repeats(reply: &[u8], text: Text, other: Option<Text>) -> bool
+    ensures { result ≡ repeats reply.now text other }
 {
-    Text {
-        place: 0,
-        length: 0,
-        alphabet: 1,
-    }
-}
-
-// The candidate whose length stands at `offset`; an empty text where there is none.
-fn candidate_at(reply: &[u8], offset: usize) -> Text
-    requires { offset ≤ length reply.now }
-    ensures { (result ≡ candidate_at reply.now offset) × (Inside reply.now result) }
-{
-    if reply.len() - offset < 2 {
-        return no_text();
-    }
-    let length = field::u16_at(reply, offset, ByteOrder::BigEndian) as usize;
-    if length < 2 {
-        return no_text();
-    }
-    let place = offset + 2;
-    if reply.len() - place < length {
-        return no_text();
-    }
-    if !identifier::is_identifier(&reply[place..place + length]) {
-        return no_text();
-    }
-    Text {
-        place,
-        length,
-        alphabet: 1,
+    match other {
+        Some(other) => same_text(reply, text, other),
+        None => false,
     }
 }
 
 // Whether a candidate repeats the last one kept, less than 8 bytes on.
-fn is_near_repeat(reply: &[u8], last: Text, text: Text) -> bool
-    requires last_inside { Inside reply.now last }
-    requires text_inside { Inside reply.now text }
+fn is_near_repeat(reply: &[u8], last: Option<Text>, text: Text) -> bool
     ensures { result ≡ is_near_repeat reply.now last text }
 {
-    if last.place + 8 <= text.place {
-        return false;
+    match last {
+        Some(last) => text.place.saturating_sub(last.place) < 8 && same_text(reply, text, last),
+        None => false,
     }
-    same_text(reply, text, last)
 }
 
-// Whether there is a candidate, and it is kept.
-fn is_kept(reply: &[u8], last: Text, text: Text) -> bool
-    requires last_inside { Inside reply.now last }
-    requires text_inside { Inside reply.now text }
-    ensures { result ≡ not (eqb text.length 0) && not (is_near_repeat reply.now last text) }
+// The candidate whose length stands at `offset`, if it is one and is kept.
+#[tactic(auto, unfolding(crate::specs::Candidates::kept_at, crate::specs::Candidates::is_kept, crate::specs::Candidates::is_candidate), using(std::proofs::Common::tests))]
+fn kept_at(reply: &[u8], last: Option<Text>, offset: usize) -> Option<Text>
+    requires { offset + 2 ≤ length reply.now }
+    ensures { result ≡ kept_at reply.now last offset }
 {
-    if text.length == 0 {
-        return false;
+    let place = offset + 2;
+    let length = field::u16_at(reply, offset, ByteOrder::BigEndian) as usize;
+    let text = Text {
+        place,
+        length,
+        alphabet: 1,
+    };
+    let is_candidate = 2 <= length
+        && length <= reply.len() - place
+        && identifier::is_identifier(&reply[place..place + length]);
+    if is_candidate && !is_near_repeat(reply, last, text) {
+        Some(text)
+    } else {
+        None
     }
-    !is_near_repeat(reply, last, text)
 }
 
-// From `from` on, the first position where a length of 2 to 128 stands; past the reply where there is none. No candidate is passed over: its
-// length is tested before anything else is read.
-fn next_length(reply: &[u8], from: usize) -> usize
-    requires { from ≤ length reply.now }
-    ensures { ((from ≤ result) × (result ≤ length reply.now))
-        × ((p : ℕ) → from ≤ p → p < result → is_candidate reply.now p ≡ false) }
+// Whether a length of 2 to 128 stands at `offset`. Where not, there is no candidate, and nothing else is read. By the two bytes: this is asked
+// at every byte of a reply.
+#[tactic(auto, unfolding(crate::specs::Candidates::is_candidate, identifier::specs::Identifier::is_identifier), using(crate::proofs::Steps::length_at, std::proofs::Common::tests, std::proofs::lemmas::Grind::common_steps))]
+fn may_start(reply: &[u8], offset: usize) -> bool
+    requires { offset + 2 ≤ length reply.now }
+    ensures { result ≡ false → is_candidate reply.now offset ≡ false }
 {
-    let end = reply.len();
-    if end < 2 {
-        return end;
-    }
-    let mut offset = from;
-    while offset < end - 1 {
-        let length = field::u16_at(reply, offset, ByteOrder::BigEndian);
-        if (2 <= length) & (length <= 128) {
-            return offset;
-        }
-        offset += 1;
-    }
-    end
+    reply[offset] == 0 && matches!(reply[offset + 1], 2..=128)
 }
 
-// A candidate, and the position from which to look for the next one. An empty text: there is none.
+// The candidates of a reply, in order: where the search goes on, and the last one kept.
 #[derive(Clone, Copy)]
-pub struct Candidate {
-    pub text: Text,
-    pub next: usize,
+pub struct Candidates<'a> {
+    reply: &'a [u8],
+    last: Option<Text>,
+    next: usize,
 }
 
-fn next_candidate(reply: &[u8], last: Text, from: usize) -> Candidate
-    requires last_inside { Inside reply.now last }
-    requires from_in_bounds { from ≤ length reply.now }
-    ensures { (result ≡ next_candidate reply.now last from)
-        × ((Inside reply.now result.text) × (result.next ≤ length reply.now)) }
-{
-    let mut offset = next_length(reply, from);
-    while offset < reply.len() {
-        let text = candidate_at(reply, offset);
-        if is_kept(reply, last, text) {
-            return Candidate {
-                text,
-                next: offset + 1,
-            };
+impl<'a> Candidates<'a> {
+    #[tactic(auto, unfolding(crate::specs::Candidates::candidates))]
+    pub fn of(reply: &'a [u8]) -> Self
+        ensures left { left result ≡ candidates reply.now }
+        ensures same_reply { result.reply.now ≡ reply.now }
+    {
+        Candidates {
+            reply,
+            last: None,
+            next: 0,
         }
-        offset = next_length(reply, offset + 1);
-    }
-    Candidate {
-        text: no_text(),
-        next: offset,
     }
 }
 
-// Five candidates that follow each other, and the position from which to look for the next one. An empty text: there is none, and none after it.
+impl<'a> Iterator for Candidates<'a> {
+    type Item = Text;
+
+    ghost next_gives = { YieldsCandidate };
+
+    ghost remaining = { item_count left };
+
+    #[tactic(auto, using(crate::proofs::Steps::none_at, crate::proofs::Steps::none_kept, crate::proofs::Steps::one_kept, crate::proofs::Steps::none_left))]
+    fn next(&mut self) -> Option<Text> {
+        let reply = self.reply;
+        let end = reply.len();
+        for offset in self.next..end.saturating_sub(1) {
+            if may_start(reply, offset) {
+                if let Some(text) = kept_at(reply, self.last, offset) {
+                    self.last = Some(text);
+                    self.next = offset + 1;
+                    return Some(text);
+                }
+            }
+        }
+        self.next = end;
+        None
+    }
+}
+
+// Five candidates that follow each other, and those after them. Where there is none, there is none after it.
+// What works on them is inlined, here and in `listing`: called, the search for 1323 names takes 1.11 times the instructions.
 #[derive(Clone, Copy)]
-pub struct View {
-    pub first: Text,
-    pub second: Text,
-    pub third: Text,
-    pub fourth: Text,
-    pub fifth: Text,
-    pub next: usize,
+pub struct View<'a> {
+    texts: [Option<Text>; 5],
+    rest: Candidates<'a>,
 }
 
-// The view of a reply's first candidates.
-pub fn first_view(reply: &[u8]) -> View
-    ensures { (in_view reply.now result ≡ candidates reply.now) × (Within reply.now result) }
-{
-    let one = next_candidate(reply, no_text(), 0);
-    let first = one.text;
-    let two = next_candidate(reply, first, one.next);
-    let second = two.text;
-    let three = next_candidate(reply, second, two.next);
-    let third = three.text;
-    let four = next_candidate(reply, third, three.next);
-    let fourth = four.text;
-    let five = next_candidate(reply, fourth, four.next);
-    let fifth = five.text;
-    View {
-        first,
-        second,
-        third,
-        fourth,
-        fifth,
-        next: five.next,
+impl<'a> View<'a> {
+    // The view of a reply's first candidates.
+    #[tactic(auto, using(crate::proofs::Steps::left_next), unfolding(crate::specs::View::in_view, crate::specs::View::behind))]
+    pub fn of(reply: &'a [u8]) -> Self
+        ensures in_view { in_view result ≡ candidates reply.now }
+        ensures same_reply { reply_of result ≡ reply.now }
+    {
+        let mut rest = Candidates::of(reply);
+        let texts = [
+            rest.next(),
+            rest.next(),
+            rest.next(),
+            rest.next(),
+            rest.next(),
+        ];
+        View { texts, rest }
     }
-}
 
-// The same text, field by field: a part of a struct that is handed on by its address keeps all of the struct in memory.
-fn copied(text: Text) -> Text
-    ensures { result ≡ text }
-{
-    Text {
-        place: text.place,
-        length: text.length,
-        alphabet: text.alphabet,
+    #[inline(always)]
+    pub fn reply(&self) -> &'a [u8]
+        ensures { result.now ≡ reply_of self.now }
+    {
+        self.rest.reply
     }
-}
 
-// The view one candidate on.
-pub fn next_view(reply: &[u8], view: View) -> View
-    requires { Within reply.now view }
-    ensures { (result ≡ shifted reply.now view) × (Within reply.now result) }
-{
-    let first = view.second;
-    let second = view.third;
-    let third = view.fourth;
-    let fourth = view.fifth;
-    let found = next_candidate(reply, copied(fourth), view.next);
-    let fifth = found.text;
-    View {
-        first,
-        second,
-        third,
-        fourth,
-        fifth,
-        next: found.next,
+    #[inline(always)]
+    pub fn texts(&self) -> [Option<Text>; 5]
+        ensures { result ≡ self.now.texts }
+    {
+        self.texts
     }
-}
 
-// Whether no candidate is in view.
-pub fn is_over(view: View) -> bool
-    ensures { result ≡ eqb view.first.length 0 }
-{
-    view.first.length == 0
+    // The first candidate in view.
+    #[inline(always)]
+    pub fn first(&self) -> Option<Text>
+        ensures { result ≡ text_at self.now 0 }
+    {
+        self.texts[0]
+    }
+
+    // One candidate on.
+    #[tactic(auto, using(crate::proofs::Steps::left_next), unfolding(crate::specs::View::in_view, crate::specs::View::behind))]
+    #[inline(always)]
+    pub fn shift(&mut self)
+        ensures in_view { in_view self.new ≡ behind self.old }
+        ensures same_reply { reply_of self.new ≡ reply_of self.old }
+    {
+        // Looked for first: the others need not wait in memory until it is found.
+        let found = self.rest.next();
+        let [_, second, third, fourth, fifth] = self.texts;
+        self.texts = [second, third, fourth, fifth, found];
+    }
 }

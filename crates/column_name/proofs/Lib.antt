@@ -1,5 +1,3 @@
-pub mod Part
 pub mod Written
 pub mod Letters
-pub mod Answer
 pub mod Cases

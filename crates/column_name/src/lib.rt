@@ -1,147 +1,126 @@
 // The name of a column: its own bytes, which are a part of the reply, and its text, which is written to a lent buffer.
 #![tactic(auto)]
 
-ghost use Rattle.std.specs.Prelude.{◌≡◌, false, [], ◌∷◌, ◌≤◌, length, drop};
+ghost use Rattle.std.specs.Prelude.{◌≡◌, ◌≤◌, length, drop, IfOk};
 ghost use Rattle.codepage.specs.Page.{page037};
-ghost use Rattle.outcome.specs.Refusal.{refusal_of, is_refused};
-ghost use Rattle.text.specs.Chars.{chars};
-ghost use Rattle.column_name.specs.Part.{part_refusal, own_bytes, part_of};
-ghost use Rattle.column_name.specs.Name.{generated_name, given_refusal, given_length, given_written, name_refusal, name_length, name_written};
+ghost use Rattle.outcome.specs.Refusal.{refusal_in};
 ghost use Rattle.outcome.specs.Room.{room_refusal, room_length, room_written};
+ghost use Rattle.text.specs.Chars.{chars};
+ghost use Rattle.column_name.specs.Part.{part_refusal, part_of};
+ghost use Rattle.column_name.specs.Name.{generated_name, given_refusal, given_length, given_written, name_refusal, name_length, name_written};
 
-use outcome::Outcome;
+use outcome::Refusal;
 use text::Text;
 use types::ColumnMetadata;
 
-// Whether the name's bytes can be had of the reply, and why not. No sum is made of place and length: it might not fit.
-fn part_outcome(reply: &[u8], name: Text) -> Outcome
-    ensures { refusal_of result ≡ part_refusal reply.now name }
+// The bytes of a name in the reply: a generated one has none, whatever its place and length.
+#[tactic(auto, unfolding(crate::specs::Part::part_refusal, crate::specs::Part::part_of))]
+fn part_bytes<'a>(reply: &'a [u8], name: Text) -> Result<&'a [u8], Refusal>
+    ensures refuses { refusal_in result ≡ part_refusal reply.now name }
+    ensures gives { IfOk result (λ part. part.now ≡ part_of reply.now name) }
 {
     if reply.len() > 65536 {
-        return Outcome::ReplyTooLong;
+        return Err(Refusal::ReplyTooLong);
     }
     if name.alphabet > 2 {
-        return Outcome::OutsideReply;
+        return Err(Refusal::OutsideReply);
     }
-    if reply.len() < name.place {
-        return Outcome::OutsideReply;
-    }
-    if reply.len() - name.place < name.length {
-        return Outcome::OutsideReply;
-    }
-    Outcome::Accepted
-}
-
-// The bytes of a name that is not refused. A generated one has none, whatever its place and length.
-fn own_bytes<'a>(reply: &'a [u8], name: Text) -> &'a [u8]
-    requires { is_refused (part_refusal reply.now name) ≡ false }
-    ensures { result.now ≡ own_bytes reply.now name }
-{
+    let Some(bytes) = reply
+        .get(name.place..)
+        .and_then(|rest| rest.get(..name.length))
+    else {
+        return Err(Refusal::OutsideReply);
+    };
     if name.alphabet == 0 {
-        return &reply[0..0];
+        return Ok(&reply[..0]);
     }
-    let place = name.place;
-    let length = name.length;
-    let end = place + length;
-    &reply[place..end]
+    Ok(bytes)
 }
 
-// The entry name part. The number of the refusal goes to `refusal`: 0 where the part is given; the part is empty where it is not.
-pub fn name_part<'a>(reply: &'a [u8], column: ColumnMetadata, refusal: &mut u8) -> &'a [u8]
-    ensures refuses { refusal.new ∷ [] ≡ part_refusal reply.now column.name }
-    ensures gives { result.now ≡ part_of reply.now column.name }
+// The entry name part.
+pub fn name_part<'a>(reply: &'a [u8], column: ColumnMetadata) -> Result<&'a [u8], Refusal>
+    ensures refuses { refusal_in result ≡ part_refusal reply.now column.name }
+    ensures gives { IfOk result (λ part. part.now ≡ part_of reply.now column.name) }
 {
-    let name = column.name;
-    let number = outcome::refusal_of(part_outcome(reply, name)).number;
-    *refusal = number;
-    if number != 0 {
-        return &reply[0..0];
-    }
-    own_bytes(reply, name)
+    part_bytes(reply, column.name)
 }
 
 // The generated name of a column: its characters end where the array ends.
-#[derive(Clone, Copy)]
-pub struct Generated {
-    pub characters: [u8; 24],
-    pub start: usize,
+#[derive(Clone, Copy, Debug, PartialEq, Eq)]
+struct Generated {
+    characters: [u8; 24],
+    start: usize,
+    ghost within: { start ≤ length characters },
 }
 
+impl Generated {
+    fn as_bytes(&self) -> &[u8]
+        ensures { result.now ≡ drop self.now.start self.now.characters }
+    {
+        &self.characters[self.start..]
+    }
+}
+
+#[tactic(auto, using(crate::proofs::Letters::col_before))]
 fn generated_name(number: u16) -> Generated
-    ensures within { (result.start ≤ 24) × (length result.characters ≡ 24) }
-    ensures ends { drop result.start result.characters ≡ generated_name number }
+    ensures { drop result.start result.characters ≡ generated_name number }
 {
     let digits = decimal::digits_of(number as u64 + 1);
     let start = digits.start;
     let mut characters = digits.characters;
-    characters[start - 1] = 0x4C;
-    characters[start - 2] = 0x4F;
-    characters[start - 3] = 0x43;
+    characters[start - 1] = b'L';
+    characters[start - 2] = b'O';
+    characters[start - 3] = b'C';
     Generated {
         characters,
         start: start - 3,
     }
 }
 
-// How long the text is; 0 where the outcome is a refusal.
-#[derive(Clone, Copy)]
-pub struct NameText {
-    pub outcome: Outcome,
-    pub length: usize,
-}
-
-fn refused(outcome: Outcome) -> NameText
-    ensures { (result.outcome ≡ outcome) × (result.length ≡ 0) }
-{
-    NameText { outcome, length: 0 }
-}
-
-// Writes the characters of a text over the buffer's front, where there is room for them.
-fn write_text(bytes: &[u8], alphabet: u8, buffer: &mut [u8]) -> NameText
-    ensures refuses { refusal_of result.outcome ≡ room_refusal (chars page037 alphabet bytes.now) (length buffer.old) }
-    ensures gives { result.length ≡ room_length (chars page037 alphabet bytes.now) (length buffer.old) }
+// Writes the characters of a text over the buffer's front, where there is room for them, and says how many they are.
+#[tactic(auto, unfolding(outcome::specs::Room::room_refusal, outcome::specs::Room::room_length, outcome::specs::Room::room_written), using(crate::proofs::Written::chars_length, crate::proofs::Written::chars_page, crate::proofs::Written::chars_other))]
+fn write_text(bytes: &[u8], alphabet: u8, buffer: &mut [u8]) -> Result<usize, Refusal>
+    ensures refuses { refusal_in result ≡ room_refusal (chars page037 alphabet bytes.now) (length buffer.old) }
+    ensures gives { IfOk result (λ n. n ≡ room_length (chars page037 alphabet bytes.now) (length buffer.old)) }
     ensures leaves { buffer.new ≡ room_written (chars page037 alphabet bytes.now) buffer.old }
 {
-    let n = bytes.len();
-    if buffer.len() < n {
-        return refused(Outcome::RoomTooShort(n));
+    let needed = bytes.len();
+    if buffer.len() < needed {
+        return Err(Refusal::RoomTooShort { needed });
     }
     if alphabet == 2 {
         codepage::write_chars(bytes, buffer);
     } else {
-        buffer[0..n].copy_from_slice(bytes);
+        buffer[..needed].copy_from_slice(bytes);
     }
-    NameText {
-        outcome: Outcome::Accepted,
-        length: n,
-    }
+    Ok(needed)
 }
 
-// The text of a column of this number, for callers who have no record. Nothing is written where it refuses.
-pub fn given_text(reply: &[u8], number: u16, text: Text, buffer: &mut [u8]) -> NameText
-    ensures refuses { refusal_of result.outcome ≡ given_refusal page037 reply.now number text (length buffer.old) }
-    ensures gives { result.length ≡ given_length page037 reply.now number text (length buffer.old) }
+// The text of a column of this number, for callers who have no record, and its length. Nothing is written where it refuses.
+#[tactic(auto, unfolding(crate::specs::Name::given_refusal, crate::specs::Name::given_length, crate::specs::Name::given_written, crate::specs::Name::given_text, crate::specs::Part::part_of), using(crate::proofs::Written::chars_other))]
+pub fn given_text(
+    reply: &[u8],
+    number: u16,
+    text: Text,
+    buffer: &mut [u8],
+) -> Result<usize, Refusal>
+    ensures refuses { refusal_in result ≡ given_refusal page037 reply.now number text (length buffer.old) }
+    ensures gives { IfOk result (λ n. n ≡ given_length page037 reply.now number text (length buffer.old)) }
     ensures leaves { buffer.new ≡ given_written page037 reply.now number text buffer.old }
 {
-    let found = part_outcome(reply, text);
-    if outcome::is_refused(found) {
-        return refused(found);
-    }
+    let bytes = part_bytes(reply, text)?;
     if text.alphabet == 0 {
-        let made = generated_name(number);
-        let characters = made.characters;
-        let start = made.start;
-        return write_text(&characters[start..], 1, buffer);
+        return write_text(generated_name(number).as_bytes(), 1, buffer);
     }
-    write_text(own_bytes(reply, text), text.alphabet, buffer)
+    write_text(bytes, text.alphabet, buffer)
 }
 
 // The entry name text.
-pub fn name_text(reply: &[u8], column: ColumnMetadata, buffer: &mut [u8]) -> NameText
-    ensures refuses { refusal_of result.outcome ≡ name_refusal page037 reply.now column (length buffer.old) }
-    ensures gives { result.length ≡ name_length page037 reply.now column (length buffer.old) }
+#[tactic(auto, unfolding(crate::specs::Name::name_refusal, crate::specs::Name::name_length, crate::specs::Name::name_written))]
+pub fn name_text(reply: &[u8], column: ColumnMetadata, buffer: &mut [u8]) -> Result<usize, Refusal>
+    ensures refuses { refusal_in result ≡ name_refusal page037 reply.now column (length buffer.old) }
+    ensures gives { IfOk result (λ n. n ≡ name_length page037 reply.now column (length buffer.old)) }
     ensures leaves { buffer.new ≡ name_written page037 reply.now column buffer.old }
 {
-    let name = column.name;
-    given_text(reply, column.number, name, buffer)
+    given_text(reply, column.number, column.name, buffer)
 }

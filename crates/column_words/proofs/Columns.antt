@@ -1,20 +1,12 @@
 -- What words of columns say.
-use mathlib.Core.Bool.{true, false, ◌&&◌, and-eq-true_iff}
-use mathlib.Core.Path.{◌≡◌, refl, sym, ap, ◌∙◌}
+use mathlib.Core.Bool.{true, and-eq-true_iff}
+use mathlib.Core.Path.{◌≡◌, refl, ap}
 use mathlib.Core.List.{List}
-use Prim.Native.Nat.{ℕ, zero, suc, ◌+◌, ◌*◌, ◌-◌, ◌/◌, ◌%◌, ◌≤◌, ◌<◌}
-use native.Mathlib.Nat.{add_assoc}
-use native.Mathlib.Omega.{arith}
-use lib.Dec.{eqb}
+use Prim.Native.Nat.{ℕ, zero, suc, ◌+◌, ◌/◌, ◌<◌}
 use lib.ListN.{length, get_or}
-use borrow.Author.Tests.{ltb-true, eq-eqb, ne_eqb}
-use Rattle.field.specs.declared.ByteOrder.{ByteOrder}
-use Rattle.text.specs.declared.Text.{Text}
-use Rattle.types.specs.declared.ColumnMetadata.{ColumnMetadata}
-use Rattle.types.specs.declared.Db2Type.{Db2Type}
-use Rattle.sqlda.specs.Codes.{type_with, is_type}
-use Rattle.column.specs.Numbers.{order_of, text_from}
-use Rattle.column_words.specs.Columns.{numbers_fit, alphabets_fit, column_in, is_column, columns_from, are_from, columns_in, are_columns}
+use borrow.Author.Tests.{ltb-true}
+use Rattle.sqlda.specs.Codes.{is_type}
+use Rattle.column_words.specs.Columns.{numbers_fit, alphabets_fit, is_column, columns_from, columns_in}
 
 -- the fields of a record that words from `at` on fit
 pub record FitsAt (w : List ℕ) (at : ℕ) : Type 0 where
@@ -64,7 +56,7 @@ fits_at w at e =
       schema = ltb-true _ _ base.1;
     }
 
--- ---- the columns of words, by their places
+-- ---- how many columns words have
 
 module _ (w : List ℕ) where
   from_length : (k at : ℕ) → length (columns_from w k at) ≡ k
@@ -72,111 +64,6 @@ module _ (w : List ℕ) where
   from_length zero at = refl
   from_length (suc k) at = ap suc (from_length k (at + 22))
 
-  from_at : (k at i : ℕ) (d : ColumnMetadata) → i < k → get_or (columns_from w k at) i d ≡ column_in w (at + i * 22)
-  unfolding columns_from
-  from_at zero at i d h = absurd (omega arith)
-  from_at (suc k) at zero d h = let e : at ≡ at + 0 * 22 = omega arith in ap (column_in w) e
-  from_at (suc k) at (suc i) d h =
-      let e : at + 22 + i * 22 ≡ at + suc i * 22 = omega arith in
-      from_at k (at + 22) i d (omega arith) ∙ ap (column_in w) e
-
-  fits_from : (k at i : ℕ) → are_from w k at ≡ true → i < k → is_column w (at + i * 22) ≡ true
-  unfolding are_from
-  fits_from zero at i t h = absurd (omega arith)
-  fits_from (suc k) at zero t h =
-      let e : at ≡ at + 0 * 22 = omega arith in
-      ap (is_column w) (sym e) ∙ ((and-eq-true_iff (is_column w at) (are_from w k (at + 22))).0 t).0
-  fits_from (suc k) at (suc i) t h =
-      let e : at + suc i * 22 ≡ at + 22 + i * 22 = omega arith in
-      ap (is_column w) e ∙ fits_from k (at + 22) i ((and-eq-true_iff (is_column w at) (are_from w k (at + 22))).0 t).1 (omega arith)
-
   pub columns_length : length (columns_in w) ≡ length w / 22
   unfolding columns_in
   columns_length = from_length (length w / 22) 0
-
-  -- column i is the one whose words start at 22 times i
-  pub columns_at : (i : ℕ) (d : ColumnMetadata) → i < length w / 22 → get_or (columns_in w) i d ≡ column_in w (i * 22)
-  unfolding columns_in
-  columns_at i d h = let e : 0 + i * 22 ≡ i * 22 = omega arith in from_at (length w / 22) 0 i d h ∙ ap (column_in w) e
-
-  -- and they fit, where all do
-  pub columns_fit : are_columns w ≡ true → (i : ℕ) → i < length w / 22 → is_column w (i * 22) ≡ true
-  unfolding are_columns
-  columns_fit t i h =
-      let e : i * 22 ≡ 0 + i * 22 = omega arith in
-      ap (is_column w) e ∙ fits_from (length w / 22) 0 i ((and-eq-true_iff (eqb (length w % 22) 0) (are_from w (length w / 22) 0)).0 t).1 h
-
-  -- ---- the loop that looks at one record after the other: i are seen, and the next starts at `at`
-
-  module _ (n i at : ℕ) (t : are_from w n 0 ≡ are_from w (n - i) at) where
-    turn : i < n → are_from w n 0 ≡ (is_column w at && are_from w (n - (i + 1)) (at + 22))
-    unfolding are_from
-    turn h = let k : n - i ≡ suc (n - (i + 1)) = omega arith in t ∙ ap (λ (j : ℕ). are_from w j at) k
-
-    pub are_more : i < n → is_column w at ≡ true → are_from w n 0 ≡ are_from w (n - (i + 1)) (at + 22)
-    are_more h e = turn h ∙ rw e refl
-
-    are_not : i < n → is_column w at ≡ false → are_from w n 0 ≡ false
-    are_not h e = turn h ∙ rw e refl
-
-    are_all : n ≤ i → are_from w n 0 ≡ true
-    unfolding are_from
-    are_all h = let k : n - i ≡ 0 = omega arith in t ∙ ap (λ (j : ℕ). are_from w j at) k
-
-  module _ (i at : ℕ) (t : are_from w (length w / 22) 0 ≡ are_from w (length w / 22 - i) at) (h : length w % 22 ≡ 0) where
-    pub are_no : i < length w / 22 → is_column w at ≡ false → false ≡ are_columns w
-    unfolding are_columns
-    are_no k e = rw (eq-eqb (length w % 22) 0 h, are_not (length w / 22) i at t k e) refl
-
-    pub are_yes : length w / 22 ≤ i → true ≡ are_columns w
-    unfolding are_columns
-    are_yes k = rw (eq-eqb (length w % 22) 0 h, are_all (length w / 22) i at t k) refl
-
-  pub are_cut : (length w % 22 ≡ 0 → ⊥) → false ≡ are_columns w
-  unfolding are_columns
-  are_cut h = rw (ne_eqb (length w % 22) 0 h) refl
-
--- ---- a record by its parts, as `column_at` has them
-
-text_from_regrouped : (w : List ℕ) (at k : ℕ) (t : Text) → t ≡ text_from w (at + k) (at + k + 1) (at + k + 2) → t ≡ text_from w (at + k) (at + (k + 1)) (at + (k + 2))
-text_from_regrouped w at k t e = e ∙ rw (add_assoc at k 1, add_assoc at k 2) refl
-
-pub column_is : (w : List ℕ) (at : ℕ) (t : Db2Type) (o : ByteOrder) (a b c d : Text) → t ≡ type_with (get_or w (at + 1) 0) (get_or w (at + 2) 0)
-    → o ≡ order_of (get_or w (at + 9) 0) → a ≡ text_from w (at + 10) (at + 10 + 1) (at + 10 + 2) → b ≡ text_from w (at + 13) (at + 13 + 1) (at + 13 + 2)
-    → c ≡ text_from w (at + 16) (at + 16 + 1) (at + 16 + 2) → d ≡ text_from w (at + 19) (at + 19 + 1) (at + 19 + 2)
-    → ◌≡◌ {A = ColumnMetadata} (record {
-      number = get_or w at 0;
-      db2_type = t;
-      drda_type = get_or w (at + 3) 0;
-      length = get_or w (at + 4) 0;
-      nullable = eqb (get_or w (at + 5) 0) 1;
-      precision = get_or w (at + 6) 0;
-      scale = get_or w (at + 7) 0;
-      ccsid = get_or w (at + 8) 0;
-      byte_order = o;
-      name = a;
-      label = b;
-      base_table_name = c;
-      schema_name = d;
-    }) (column_in w at)
-unfolding column_in
-column_is w at t o a b c d et eo ea eb ec ed =
-    let na = text_from_regrouped w at 10 a ea in
-    let nb = text_from_regrouped w at 13 b eb in
-    let nc = text_from_regrouped w at 16 c ec in
-    let nd = text_from_regrouped w at 19 d ed in
-    λ i. record {
-      number = get_or w at 0;
-      db2_type = et i;
-      drda_type = get_or w (at + 3) 0;
-      length = get_or w (at + 4) 0;
-      nullable = eqb (get_or w (at + 5) 0) 1;
-      precision = get_or w (at + 6) 0;
-      scale = get_or w (at + 7) 0;
-      ccsid = get_or w (at + 8) 0;
-      byte_order = eo i;
-      name = na i;
-      label = nb i;
-      base_table_name = nc i;
-      schema_name = nd i;
-    }

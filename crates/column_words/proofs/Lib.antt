@@ -1,4 +1,4 @@
 pub mod Words
 pub mod Columns
+pub mod Chunks
 pub mod Back
-pub mod Place

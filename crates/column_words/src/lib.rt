@@ -1,153 +1,140 @@
 // A column's record in 22 words of 64 bits, for programs that cannot lend a list of records.
 #![tactic(auto)]
 
-ghost use Rattle.std.specs.Prelude.{◌≡◌, true, ◌++◌, ◌+◌, ◌<◌, ◌≤◌, length, get_or, take, drop};
-ghost use Rattle.search.specs.Search.{pick};
-ghost use Rattle.sqlda.specs.Codes.{type_with};
+ghost use Rattle.std.specs.Prelude.{◌≡◌, true, ◌++◌, ◌+◌, ◌*◌, ◌<◌, ◌≤◌, length, take, drop};
 ghost use Rattle.column_words.specs.Words.{words_of};
-ghost use Rattle.column_words.specs.Place.{column_at_place};
+ghost use Rattle.column_words.specs.Place.{column_get, column_at_place};
 ghost use Rattle.column_words.specs.Columns.{numbers_fit, alphabets_fit, is_column, column_in, are_columns};
 
-use types::{ColumnMetadata, Db2Type};
+use types::ColumnMetadata;
 
-fn one_if(holds: bool) -> u64
-    ensures { result ≡ pick holds 1 0 }
-{
-    if holds { 1 } else { 0 }
-}
+pub const WORDS_PER_COLUMN: usize = 22;
 
-// Writes a column's words from `at` on: number, type code and value, drda_type, length, nullable, precision, scale, CCSID, byte order; then name,
-// label, base table and schema, each as place, length and alphabet.
-pub fn put_column_words(column: ColumnMetadata, words: &mut [u64], at: usize)
-    requires { at + 22 ≤ length words.old }
-    ensures { words.new ≡ take at words.old ++ (words_of column ++ drop (at + 22) words.old) }
+// A column's words: number, type code and value, drda_type, length, nullable, precision, scale, CCSID, byte order; then name, label, base table
+// and schema, each as place, length and alphabet.
+pub type ColumnWords = [u64; WORDS_PER_COLUMN];
+
+#[tactic(auto, unfolding(crate::specs::Words::words_of))]
+#[inline(always)]
+pub fn words_of(column: &ColumnMetadata) -> ColumnWords
+    ensures { result ≡ words_of column.now }
 {
-    let db2_type = column.db2_type;
-    let order = column.byte_order;
-    let name = column.name;
-    let label = column.label;
-    let base = column.base_table_name;
-    let schema = column.schema_name;
-    let values = [
+    let ColumnMetadata {
+        name,
+        label,
+        base_table_name,
+        schema_name,
+        ..
+    } = *column;
+    [
         column.number as u64,
-        sqlda::type_code(db2_type) as u64,
-        sqlda::type_value(db2_type),
+        sqlda::type_code(column.db2_type) as u64,
+        sqlda::type_value(column.db2_type),
         column.drda_type as u64,
         column.length as u64,
-        one_if(column.nullable),
+        u64::from(column.nullable),
         column.precision as u64,
         column.scale as u64,
         column.ccsid as u64,
-        column::order_number(order),
+        column::order_number(column.byte_order),
         name.place as u64,
         name.length as u64,
         name.alphabet as u64,
         label.place as u64,
         label.length as u64,
         label.alphabet as u64,
-        base.place as u64,
-        base.length as u64,
-        base.alphabet as u64,
-        schema.place as u64,
-        schema.length as u64,
-        schema.alphabet as u64,
-    ];
-    column::put_values(&values, &mut words[at..]);
+        base_table_name.place as u64,
+        base_table_name.length as u64,
+        base_table_name.alphabet as u64,
+        schema_name.place as u64,
+        schema_name.length as u64,
+        schema_name.alphabet as u64,
+    ]
 }
 
-fn numbers_fit(words: &[u64], at: usize) -> bool
-    requires { at + 22 ≤ length words.now }
-    ensures { result ≡ numbers_fit words.now at }
+// Writes a column's words from `at` on.
+pub fn put_column_words(column: ColumnMetadata, words: &mut [u64], at: usize)
+    requires { at + 22 ≤ length words.old }
+    ensures { words.new ≡ take at words.old ++ (words_of column ++ drop (at + 22) words.old) }
 {
-    let has_type = sqlda::is_type(words[at + 1], words[at + 2]);
-    (words[at] < 65536)
-        & (has_type
-            & ((words[at + 3] < 256)
-                & ((words[at + 4] < 65536)
-                    & ((words[at + 5] < 2)
-                        & ((words[at + 6] < 256)
-                            & ((words[at + 7] < 256)
-                                & ((words[at + 8] < 65536) & (words[at + 9] < 2))))))))
+    column::put_values(&words_of(&column), &mut words[at..]);
 }
 
-fn alphabets_fit(words: &[u64], at: usize) -> bool
-    requires { at + 22 ≤ length words.now }
-    ensures { result ≡ alphabets_fit words.now at }
+fn numbers_fit(words: &ColumnWords) -> bool
+    ensures { result ≡ numbers_fit words.now 0 }
 {
-    (words[at + 12] < 256)
-        & ((words[at + 15] < 256) & ((words[at + 18] < 256) & (words[at + 21] < 256)))
+    (words[0] < 65536)
+        & sqlda::is_type(words[1], words[2])
+        & (words[3] < 256)
+        & (words[4] < 65536)
+        & (words[5] < 2)
+        & (words[6] < 256)
+        & (words[7] < 256)
+        & (words[8] < 65536)
+        & (words[9] < 2)
 }
 
-// Whether the words from `at` on are those of a column.
-pub fn is_column(words: &[u64], at: usize) -> bool
-    requires { at + 22 ≤ length words.now }
-    ensures { result ≡ is_column words.now at }
+fn alphabets_fit(words: &ColumnWords) -> bool
+    ensures { result ≡ alphabets_fit words.now 0 }
 {
-    numbers_fit(words, at) & alphabets_fit(words, at)
+    (words[12] < 256) & (words[15] < 256) & (words[18] < 256) & (words[21] < 256)
+}
+
+// Whether words are those of a column.
+#[tactic(auto, unfolding(crate::specs::Columns::is_column))]
+pub fn is_column(words: &ColumnWords) -> bool
+    ensures { result ≡ is_column words.now 0 }
+{
+    numbers_fit(words) & alphabets_fit(words)
 }
 
 // Whether words are those of columns and nothing else.
+#[tactic(auto, using(crate::proofs::Chunks::words_left))]
 pub fn are_columns(words: &[u64]) -> bool
     ensures { result ≡ are_columns words.now }
 {
-    if words.len() % 22 != 0 {
-        return false;
-    }
-    let count = words.len() / 22;
-    let mut at = 0;
-    let mut i = 0;
-    while i < count {
-        if !is_column(words, at) {
-            return false;
-        }
-        at += 22;
-        i += 1;
-    }
-    true
+    let (columns, rest) = words.as_chunks::<WORDS_PER_COLUMN>();
+    rest.is_empty() && columns.iter().all(|column| is_column(column))
 }
 
-fn type_at(words: &[u64], at: usize) -> Db2Type
-    requires at_in_bounds { at + 22 ≤ length words.now }
-    requires at_value { is_column words.now at ≡ true }
-    ensures { result ≡ type_with (get_or words.now (at + 1) 0) (get_or words.now (at + 2) 0) }
+// The column whose words they are.
+#[tactic(auto, using(crate::proofs::Columns::fits_at), unfolding(crate::specs::Columns::column_in))]
+pub fn column_at(words: &ColumnWords) -> ColumnMetadata
+    requires { is_column words.now 0 ≡ true }
+    ensures { result ≡ column_in words.now 0 }
 {
-    sqlda::type_with(words[at + 1], words[at + 2] as u16)
-}
-
-// The column whose words start at `at`.
-pub fn column_at(words: &[u64], at: usize) -> ColumnMetadata
-    requires at_in_bounds { at + 22 ≤ length words.now }
-    requires at_value { is_column words.now at ≡ true }
-    ensures { result ≡ column_in words.now at }
-{
-    let db2_type = type_at(words, at);
     ColumnMetadata {
-        number: words[at] as u16,
-        db2_type,
-        drda_type: words[at + 3] as u8,
-        length: words[at + 4] as u16,
-        nullable: words[at + 5] == 1,
-        precision: words[at + 6] as u8,
-        scale: words[at + 7] as u8,
-        ccsid: words[at + 8] as u16,
-        byte_order: column::order_of(words[at + 9]),
-        name: column::text_from(words, at + 10),
-        label: column::text_from(words, at + 13),
-        base_table_name: column::text_from(words, at + 16),
-        schema_name: column::text_from(words, at + 19),
+        number: words[0] as u16,
+        db2_type: sqlda::type_with(words[1], words[2] as u16),
+        drda_type: words[3] as u8,
+        length: words[4] as u16,
+        nullable: words[5] == 1,
+        precision: words[6] as u8,
+        scale: words[7] as u8,
+        ccsid: words[8] as u16,
+        byte_order: column::order_of(words[9]),
+        name: column::text_from(words, 10),
+        label: column::text_from(words, 13),
+        base_table_name: column::text_from(words, 16),
+        schema_name: column::text_from(words, 19),
     }
 }
 
-// The column at place `i`, by value; a blank one where the words have none there.
+// The column at place `i`, if the words have one there.
+pub fn column_get(words: &[u64], i: usize) -> Option<ColumnMetadata>
+    ensures { result ≡ column_get words.now i }
+{
+    let (columns, _) = words.as_chunks::<WORDS_PER_COLUMN>();
+    match columns.get(i) {
+        Some(column) if is_column(column) => Some(column_at(column)),
+        _ => None,
+    }
+}
+
+// The same, and a blank column where there is none.
+#[tactic(auto, unfolding(crate::specs::Place::column_at_place, crate::specs::Place::column_get))]
 pub fn column_in(words: &[u64], i: usize) -> ColumnMetadata
     ensures { result ≡ column_at_place words.now i }
 {
-    if i >= words.len() / 22 {
-        return column::blank_column();
-    }
-    let at = i * 22;
-    if is_column(words, at) {
-        return column_at(words, at);
-    }
-    column::blank_column()
+    column_get(words, i).unwrap_or(column::blank_column())
 }

@@ -50,21 +50,28 @@ module _ (l : List ColumnMetadata) where
 
     -- at a large column: refused with its number
     pub row_large : (w i : ℕ) → Summing l w i → (d : ColumnMetadata) → i < length l → true ≡ is_large (get_or l i d).db2_type
-        → (n : ℕ) → n ≡ (get_or l i d).number → (8 ∷ n ∷ [] ≡ row_refusal l) × (0 ≡ row_answer l)
-    row_large w i t d h g n k =
-        let r : 8 ∷ n ∷ [] ≡ large_refusal l = ap (λ (m : ℕ). 8 ∷ m ∷ []) k ∙ large w i t d h g in
-        (refusal_is (8 ∷ n ∷ []) r, answer_is (8 ∷ n ∷ []) r)
+        → 8 ∷ (get_or l i d).number ∷ [] ≡ row_refusal l
+    row_large w i t d h g = refusal_is (8 ∷ (get_or l i d).number ∷ []) (large w i t d h g)
 
     -- past the last column: the sum
-    pub row_done : (w i : ℕ) → Summing l w i → length l ≤ i → (0 ∷ [] ≡ row_refusal l) × (w ≡ row_answer l)
-    unfolding large_refusal row_width
-    row_done w i t h =
-        let z = drop_of_length-le l h in
-        let r : 0 ∷ [] ≡ large_refusal l = sym (t.refusal ∙ ap large_refusal z) in
-        let s : row_width l ≡ w + 0 = t.width ∙ ap (λ (q : List ColumnMetadata). w + row_width q) z in
-        (refusal_is (0 ∷ []) r, omega (arith, s) ∙ answer_is (0 ∷ []) r)
+    module _ (w i : ℕ) (t : Summing l w i) (h : length l ≤ i) where
+      z : drop i l ≡ []
+      z = drop_of_length-le l h
 
-  -- a list that is too long: refused, and 0
-  pub row_refused : ltb most_columns (length l) ≡ true → (5 ∷ [] ≡ row_refusal l) × (0 ≡ row_answer l)
-  unfolding row_refusal row_answer
-  row_refused e = (rw e refl, rw e refl)
+      none : 0 ∷ [] ≡ large_refusal l
+      unfolding large_refusal
+      none = sym (t.refusal ∙ ap large_refusal z)
+
+      pub row_done_refusal : 0 ∷ [] ≡ row_refusal l
+      row_done_refusal = refusal_is (0 ∷ []) none
+
+      pub row_done_answer : w ≡ row_answer l
+      unfolding row_width
+      row_done_answer =
+          let s : row_width l ≡ w + 0 = t.width ∙ ap (λ (q : List ColumnMetadata). w + row_width q) z in
+          omega (arith, s) ∙ answer_is (0 ∷ []) none
+
+  -- a list that is too long: refused
+  pub row_refused : ltb most_columns (length l) ≡ true → 5 ∷ [] ≡ row_refusal l
+  unfolding row_refusal
+  row_refused e = rw e refl

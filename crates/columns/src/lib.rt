@@ -1,115 +1,107 @@
 // Lists of columns: whether two make the same cut, and how wide a row can be.
 #![tactic(auto)]
 
-ghost use Rattle.std.specs.Prelude.{◌≡◌};
-ghost use Rattle.outcome.specs.Refusal.{refusal_of};
-ghost use Rattle.columns.specs.Cut.{coarse_column, same_column, cut_refusal, cut_answer};
+ghost use Rattle.std.specs.Prelude.{◌≡◌, ℕ, ◌<◌, List, length, slice_index_or, IfOk};
+ghost use Rattle.outcome.specs.Refusal.{refusal_in};
+ghost use Rattle.types.specs.declared.ColumnMetadata.{ColumnMetadata};
+ghost use Rattle.columns.specs.Blank.{no_column};
+ghost use Rattle.columns.specs.Cut.{coarse_column, same_column, same_cut, cut_refusal, cut_answer};
 ghost use Rattle.columns.specs.Row.{row_refusal, row_answer};
 
-use outcome::Outcome;
+use outcome::Refusal;
 use types::ColumnMetadata;
 
-// Whether rows are cut alike by two lists; no where the outcome is a refusal.
-#[derive(Clone, Copy)]
-pub struct CutAnswer {
-    pub outcome: Outcome,
-    pub same: bool,
+// A longer list is refused.
+pub const MOST_COLUMNS: usize = 4095;
+
+// A list of columns, whether it is held as records or as words.
+pub trait ColumnList {
+    ghost columns: { Self → List ColumnMetadata };
+
+    fn count(&self) -> usize
+        ensures { result ≡ length (columns self.now) };
+
+    fn column(&self, i: usize) -> ColumnMetadata
+        requires { i < length (columns self.now) }
+        ensures { result ≡ slice_index_or (columns self.now) i no_column };
 }
 
-// The sum that is the widest row; 0 where the outcome is a refusal.
-#[derive(Clone, Copy)]
-pub struct RowAnswer {
-    pub outcome: Outcome,
-    pub width: usize,
+impl ColumnList for &[ColumnMetadata] {
+    ghost columns = { λ s. s.now };
+
+    fn count(&self) -> usize {
+        self.len()
+    }
+
+    fn column(&self, i: usize) -> ColumnMetadata {
+        self[i]
+    }
 }
 
 // Whether two columns are cut from a row alike, whatever their CCSIDs.
-fn coarse_column(c: ColumnMetadata, d: ColumnMetadata) -> bool
-    ensures { result ≡ coarse_column c d }
+fn coarse_column(c: &ColumnMetadata, d: &ColumnMetadata) -> bool
+    ensures { result ≡ coarse_column c.now d.now }
 {
-    let order = c.byte_order;
-    let other = d.byte_order;
     (c.drda_type == d.drda_type)
-        & ((c.length == d.length)
-            & ((c.precision == d.precision)
-                & ((c.scale == d.scale)
-                    & (column::order_number(order) == column::order_number(other)))))
+        & (c.length == d.length)
+        & (c.precision == d.precision)
+        & (c.scale == d.scale)
+        & (c.byte_order == d.byte_order)
 }
 
 // Whether two columns are cut from a row alike, and have equal CCSIDs.
-pub fn same_column(c: ColumnMetadata, d: ColumnMetadata) -> bool
-    ensures { result ≡ same_column c d }
+#[tactic(auto, unfolding(crate::specs::Cut::same_column))]
+pub fn same_column(c: &ColumnMetadata, d: &ColumnMetadata) -> bool
+    ensures { result ≡ same_column c.now d.now }
 {
     coarse_column(c, d) & (c.ccsid == d.ccsid)
 }
 
-fn number_of(column: ColumnMetadata) -> u16
-    ensures { result ≡ column.number }
+// Whether the columns of two lists are cut from a row alike.
+pub fn same_columns<L: ColumnList + Copy>(a: L, b: L) -> bool
+    ensures { result ≡ same_cut (L.columns a) (L.columns b) }
 {
-    column.number
+    if a.count() != b.count() {
+        return false;
+    }
+    for i in 0..a.count() {
+        if !same_column(&a.column(i), &b.column(i)) {
+            return false;
+        }
+    }
+    true
 }
 
 // The entry same cut.
-pub fn same_cut(a: &[ColumnMetadata], b: &[ColumnMetadata]) -> CutAnswer
-    ensures refuses { refusal_of result.outcome ≡ cut_refusal a.now b.now }
-    ensures gives { result.same ≡ cut_answer a.now b.now }
+#[tactic(auto, unfolding(crate::specs::Cut::cut_refusal, crate::specs::Cut::cut_answer))]
+pub fn same_cut<L: ColumnList + Copy>(a: L, b: L) -> Result<bool, Refusal>
+    ensures refuses { refusal_in result ≡ cut_refusal (L.columns a) (L.columns b) }
+    ensures gives { IfOk result (λ same. same ≡ cut_answer (L.columns a) (L.columns b)) }
 {
-    if (4095 < a.len()) | (4095 < b.len()) {
-        return CutAnswer {
-            outcome: Outcome::ReplyTooLong,
-            same: false,
-        };
+    if MOST_COLUMNS < a.count() || MOST_COLUMNS < b.count() {
+        return Err(Refusal::ReplyTooLong);
     }
-    if a.len() != b.len() {
-        return CutAnswer {
-            outcome: Outcome::Accepted,
-            same: false,
-        };
-    }
-    let mut i = 0;
-    while i < a.len() {
-        let c = a[i];
-        let d = b[i];
-        if !same_column(c, d) {
-            return CutAnswer {
-                outcome: Outcome::Accepted,
-                same: false,
-            };
-        }
-        i += 1;
-    }
-    CutAnswer {
-        outcome: Outcome::Accepted,
-        same: true,
-    }
+    Ok(same_columns(a, b))
 }
 
 // The entry widest row.
-pub fn widest_row(columns: &[ColumnMetadata]) -> RowAnswer
-    ensures refuses { refusal_of result.outcome ≡ row_refusal columns.now }
-    ensures gives { result.width ≡ row_answer columns.now }
+#[tactic(auto, unfolding(crate::specs::Row::row_refusal))]
+pub fn widest_row<L: ColumnList + Copy>(columns: L) -> Result<usize, Refusal>
+    ensures refuses { refusal_in result ≡ row_refusal (L.columns columns) }
+    ensures gives { IfOk result (λ width. width ≡ row_answer (L.columns columns)) }
 {
-    if 4095 < columns.len() {
-        return RowAnswer {
-            outcome: Outcome::ReplyTooLong,
-            width: 0,
-        };
+    if MOST_COLUMNS < columns.count() {
+        return Err(Refusal::ReplyTooLong);
     }
     let mut width = 0;
-    let mut i = 0;
-    while i < columns.len() {
-        let column = columns[i];
-        if widths::is_large_column(column) {
-            return RowAnswer {
-                outcome: Outcome::LargeObject(number_of(column)),
-                width: 0,
-            };
+    for i in 0..columns.count() {
+        let column = columns.column(i);
+        if widths::is_large_column(&column) {
+            return Err(Refusal::LargeObject {
+                number: column.number,
+            });
         }
-        width += widths::column_width(column);
-        i += 1;
+        width += widths::column_width(&column);
     }
-    RowAnswer {
-        outcome: Outcome::Accepted,
-        width,
-    }
+    Ok(width)
 }

@@ -1,4 +1,4 @@
--- CCSID, names and ends by their cases: for each way out of a function one law.
+-- Names and ends by their cases: for each way out of a function one law.
 use Prim.Native.Nat.{ℕ, ◌+◌, ◌-◌, ◌≤◌, ◌<◌}
 use native.Mathlib.Omega.{arith}
 use mathlib.Core.Path.{◌≡◌, refl, sym, ap}
@@ -6,27 +6,17 @@ use mathlib.Core.List.{List}
 use mathlib.Core.Bool.{Bool, true, false, ◌&&◌}
 use lib.ListN.{length, get_or}
 use lib.Dec.{leb, eqb, ltb}
-use borrow.Author.Tests.{eq-eqb, ne_eqb, lt-ltb, le-ltb, le-leb, lt-leb, ltb-true, leb-true, leb-false}
+use borrow.Author.Tests.{eq-eqb, ne_eqb, lt-ltb, le-ltb, lt-leb, ltb-true, leb-true, leb-false}
+use Rattle.std.specs.Prelude.{unwrap_or}
 use Rattle.search.specs.Search.{pick}
 use Rattle.search.specs.Walks.{first}
 use Rattle.search.proofs.Index.{first_done}
 use Rattle.strings.specs.Strings.{no_string}
-use Rattle.compact_table.specs.Table.{is_ff, ff_at, next_here, next_compact}
-use Rattle.compact_table.proofs.Skips.{skip_to}
+use Rattle.compact_table.specs.Bytes.{found_before}
+use Rattle.compact_table.specs.Table.{is_ff, next_here, next_compact}
 use Rattle.compact.specs.declared.Ends.{Ends}
 use Rattle.compact.specs.declared.Ends.TheVariants.{Compact, Last}
-use Rattle.compact.specs.Compact.{ccsid_of, name_here, name_at, compact_name, compact_end, ffs_here, last_end, end_by}
-
--- ---- CCSID
-
-module _ (be le a b : ℕ) (x : a ≡ be) (y : b ≡ le) where
-  pub ccsid_little : (ltb 10000 a && leb b 10000) ≡ true → b ≡ ccsid_of be le
-  unfolding ccsid_of
-  ccsid_little h = rw (← x, ← y, h) refl
-
-  pub ccsid_big : (ltb 10000 a && leb b 10000) ≡ false → a ≡ ccsid_of be le
-  unfolding ccsid_of
-  ccsid_big h = rw (← x, ← y, h) refl
+use Rattle.compact.specs.Compact.{name_here, name_at, compact_name, compact_end, ffs_here, last_end, end_by}
 
 -- ---- names
 
@@ -54,23 +44,25 @@ module _ (k : ℕ) (s : List ℕ) (p : ℕ) where
   unfolding compact_end
   compact_last e = rw (eq-eqb k 0 e) refl
 
-  module _ (q : ℕ) (e : k ≡ 0 → ⊥) (f : q ≡ next_compact s p) where
-    pub compact_next : q ≤ length s → q ≡ compact_end k s p
-    unfolding compact_end
-    compact_next h = rw (ne_eqb k 0 e, ← f, le-leb q (length s) h) refl
-
-    pub compact_none : length s < q → length s ≡ compact_end k s p
-    unfolding compact_end
-    compact_none h = rw (ne_eqb k 0 e, ← f, lt-leb q (length s) h) refl
-
-no_ffs : (s : List ℕ) (q : ℕ) → is_ff s q ≡ false → ffs_here s q ≡ false
-unfolding ffs_here
-no_ffs s q h = rw h refl
+  -- q is the next, or the reply's end where there is none
+  pub compact_by_next : (q : ℕ) → (k ≡ 0 → ⊥) → q ≡ unwrap_or (found_before (length s + 1) (next_compact s p)) (length s) → (q ≡ compact_end k s p) × (q ≤ length s)
+  unfolding compact_end
+  compact_by_next q e f = rw (ne_eqb k 0 e) (go (leb (next_compact s p) (length s)) refl)
+    where
+      go : (b : Bool) → leb (next_compact s p) (length s) ≡ b → (q ≡ pick b (next_compact s p) (length s)) × (q ≤ length s)
+      go true h =
+          let z = leb-true (next_compact s p) (length s) h in
+          let u : q ≡ next_compact s p = rw (lt-ltb (next_compact s p) (length s + 1) (omega arith)) at f in
+          (u, omega arith)
+      go false h =
+          let z = leb-false (next_compact s p) (length s) h in
+          let u : q ≡ length s = rw (le-ltb (next_compact s p) (length s + 1) (omega arith)) at f in
+          (u, omega arith)
 
 -- FF FF FF starts with an FF
-pub last_later : (s : List ℕ) (i n t r : ℕ) → i ≤ n → r ≡ ff_at s i n → t ≡ first (ffs_here s) i n → t ≡ first (ffs_here s) r n
-unfolding ff_at
-last_later s i n t r h e u = skip_to (is_ff s) (ffs_here s) i n t r (no_ffs s) h e u
+pub no_ffs : (s : List ℕ) (q : ℕ) → is_ff s q ≡ false → ffs_here s q ≡ false
+unfolding ffs_here
+no_ffs s q h = rw h refl
 
 module _ (s : List ℕ) (p q : ℕ) (e : q ≡ first (ffs_here s) p (length s - 2)) where
   pub last_found : q < length s - 2 → q + 3 ≡ last_end s p
@@ -80,15 +72,6 @@ module _ (s : List ℕ) (p q : ℕ) (e : q ≡ first (ffs_here s) p (length s - 
   pub last_none : length s - 2 ≤ q → length s ≡ last_end s p
   unfolding last_end
   last_none h = rw (← e, le-ltb q (length s - 2) h) refl
-
-module _ (ends : Ends) (k : ℕ) (s : List ℕ) (p r : ℕ) where
-  pub end_compact : ends ≡ Compact → r ≡ compact_end k s p → r ≡ end_by ends k s p
-  unfolding end_by
-  end_compact e f = rw e f
-
-  pub end_last : ends ≡ Last → r ≡ last_end s p → r ≡ end_by ends k s p
-  unfolding end_by
-  end_last e f = rw e f
 
 -- a descriptor that starts in the last 15 bytes has under 16, whichever way it ends
 last_short : (s : List ℕ) (p : ℕ) → length s < p + 16 → last_end s p < p + 16

@@ -1,6 +1,7 @@
 -- The loop of a run: one step more, and the ways out.
 use Prim.Native.Nat.{ℕ, ◌+◌, ◌-◌, ◌≤◌, ◌<◌}
-use mathlib.Core.Path.{◌≡◌, refl, ap}
+use native.Mathlib.Omega.{arith}
+use mathlib.Core.Path.{◌≡◌, refl, sym, ap, ◌∙◌}
 use mathlib.Core.Bool.{not}
 use mathlib.Core.List.{List}
 use lib.ListN.{length}
@@ -36,5 +37,6 @@ module _ (page : Page) (ends : Ends) (s : List ℕ) (n at i m p : ℕ) (w : Walk
   pub run_short : i < n → length s < p + 16 → record { count = i; named = m } ≡ compact_run page ends s n at
   run_short h g = run_stop (end_by ends (n - (i + 1)) s p) h refl (end_short ends (n - (i + 1)) s p g)
 
-  pub run_done : n ≤ i → record { count = i; named = m } ≡ compact_run page ends s n at
-  run_done h = run_is (walking_done (compact_walk page ends s) (is_named page s) n at i m p w h)
+  pub run_done : i ≡ n → record { count = n; named = m } ≡ compact_run page ends s n at
+  run_done h =
+      ap (λ (j : ℕ). record { count = j; named = m }) (sym h) ∙ run_is (walking_done (compact_walk page ends s) (is_named page s) n at i m p w (omega arith))

@@ -7,16 +7,15 @@ use mathlib.Core.List.{List}
 use lib.Dec.{leb, eqb}
 use lib.ListN.{length, get_or, take, drop}
 use borrow.Author.Tests.{eqb-true, eqb-false, le-leb, lt-leb, leb-true, leb-false, not-true, not-false}
+use Rattle.std.specs.Prelude.{Some, None}
 use Rattle.search.specs.Search.{each}
 use Rattle.search.specs.Walks.{first}
 use Rattle.search.proofs.Each.{drop_next}
 use Rattle.search.proofs.Index.{Found, first_is, first_more, first_found}
 use Rattle.text.specs.Chars.{is_name_char}
-use Rattle.compact_table.specs.Table.{in_eight}
-use Rattle.compact_table.proofs.Skips.{skip, skip_eight}
+use Rattle.compact_table.specs.Bytes.{found_before}
+use Rattle.compact_table.proofs.Skips.{skip, found_some, found_none}
 use Rattle.compact.specs.Compact.{name_here, is_other, stop_at, Stops}
-
--- ---- a name character: the tests in any order
 
 -- ---- a test of k elements from q on
 
@@ -55,10 +54,6 @@ module _ (f : ℕ → Bool) (s : List ℕ) where
 
 -- ---- where name characters stop
 
-pub stop_eight : (s : List ℕ) (i e t : ℕ) → i + 8 ≤ e → in_eight (is_other s) i ≡ false → t ≡ stop_at s i e → t ≡ stop_at s (i + 8) e
-unfolding stop_at
-stop_eight s i e t h g u = skip_eight (is_other s) e t i h g u
-
 pub stops_first : (s : List ℕ) (e q : ℕ) → Stops s e q q
 stops_first s e q h = absurd (omega arith)
 
@@ -89,17 +84,22 @@ module _ (s : List ℕ) (e q : ℕ) (l : e ≤ length s) (size : (leb 1 (get_or 
   unfolding stop_at
   name_known r h st = by_each (leb (q + 1 + get_or s q 0) r) (by_first is_name_char s (get_or s q 0) (q + 1) e r fits l (st h))
 
+  -- r is where the search for another byte ends
   module _ (r : ℕ) (u : r ≡ stop_at s (q + 1) (q + 1 + get_or s q 0)) where
     known : leb (q + 1 + get_or s q 0) r ≡ name_here s e q
     unfolding stop_at
     known = by_each (leb (q + 1 + get_or s q 0) r) (by_first is_name_char s (get_or s q 0) (q + 1) (q + 1 + get_or s q 0) r (omega arith) (omega arith) u)
 
-    pub name_whole : r ≡ q + 1 + get_or s q 0 → true ≡ name_here s e q
-    name_whole f = sym (le-leb (q + 1 + get_or s q 0) r (omega arith)) ∙ known
-
-    pub name_broken : r < q + 1 + get_or s q 0 → (false ≡ name_here s e q) × Stops s e (q + 1) r
+    broken : r < q + 1 + get_or s q 0 → (false ≡ name_here s e q) × Stops s e (q + 1) r
     unfolding stop_at
-    name_broken h = (
+    broken h = (
       sym (lt-leb (q + 1 + get_or s q 0) r h) ∙ known,
       stops_later s e q r (omega arith) (λ k. wider (is_other s) (q + 1) (q + 1 + get_or s q 0) e r (omega arith) fits u h),
     )
+
+  pub name_whole : None ≡ found_before (q + 1 + get_or s q 0) (stop_at s (q + 1) (q + 1 + get_or s q 0)) → true ≡ name_here s e q
+  name_whole f =
+      sym (le-leb (q + 1 + get_or s q 0) (stop_at s (q + 1) (q + 1 + get_or s q 0)) (found_none _ _ f)) ∙ known (stop_at s (q + 1) (q + 1 + get_or s q 0)) refl
+
+  pub name_broken : (r : ℕ) → Some r ≡ found_before (q + 1 + get_or s q 0) (stop_at s (q + 1) (q + 1 + get_or s q 0)) → (false ≡ name_here s e q) × Stops s e (q + 1) r
+  name_broken r f = let at = found_some _ _ _ f in broken r at.0 at.1

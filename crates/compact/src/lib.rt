@@ -8,146 +8,89 @@ ghost use Rattle.field.specs.declared.ByteOrder.TheVariants.{BigEndian, LittleEn
 ghost use Rattle.field.specs.Numbers.{number};
 ghost use Rattle.text.specs.Chars.{is_name_char};
 ghost use Rattle.column.specs.Column.{StringsInside};
-ghost use Rattle.compact_table.specs.Table.{in_eight};
-ghost use Rattle.compact.specs.Compact.{ccsid_of, name_here, is_other, stop_at, Stops, compact_name, compact_at, compact_end, ffs_here, last_end, end_by, compact_run};
+ghost use Rattle.compact.specs.Compact.{ccsid_of, name_here, Stops, compact_name, compact_at, compact_end, ffs_here, last_end, end_by, compact_run};
 
 use column::{Described, Run};
 use field::ByteOrder;
 use strings::StringRead;
 
-// Where a descriptor ends: before the next compact one, or past FF FF FF as for the last reader.
-#[derive(Clone, Copy)]
+// Where a descriptor ends: before the next compact one, or past FF FF FF as for the last reader. An enum and no trait, as it is a value in the
+// definitions of the two walks and in who plans them: a type parameter would only turn up again there.
+#[derive(Clone, Copy, Debug, PartialEq, Eq)]
 pub enum Ends {
     Compact,
     Last,
 }
 
+// The functions of a descriptor ask for its bytes one by one: a type for a place that has them would be made for each call by those above, which
+// keep a place and no such type.
+
 // Big-endian, unless only the little-endian number is at most 10,000. The Rust's test for 0 changes nothing: both are 0 or neither is.
+#[tactic(auto, unfolding(crate::specs::Compact::ccsid_of))]
 fn decode_ccsid(reply: &[u8], offset: usize) -> u16
     requires { offset + 2 ≤ length reply.now }
     ensures { result ≡ ccsid_of (number BigEndian 2 reply.now offset) (number LittleEndian 2 reply.now offset) }
 {
     let be = field::u16_at(reply, offset, ByteOrder::BigEndian);
     let le = field::u16_at(reply, offset, ByteOrder::LittleEndian);
-    if (10000 < be) & (le <= 10000) {
-        return le;
-    }
-    be
+    if (10000 < be) & (le <= 10000) { le } else { be }
 }
 
-// As text's own test of ASCII characters. The compiler tests letters first, which stand last here: most characters of names are letters.
+// As text's own test of ASCII characters, but all at once: `matches!` tests one after the other, and takes 1.4 times the instructions for a name. The
+// compiler tests letters first, which stand last here: most characters of names are letters.
 fn is_name_char(character: u8) -> bool
     ensures { result ≡ is_name_char character }
 {
-    (character == 0x40)
-        | (character == 0x23)
-        | (character == 0x24)
-        | (character == 0x5F)
-        | (character >= 0x30) & (character <= 0x39)
-        | (character >= 0x61) & (character <= 0x7A)
-        | (character >= 0x41) & (character <= 0x5A)
+    (character == b'@')
+        | (character == b'#')
+        | (character == b'$')
+        | (character == b'_')
+        | (character >= b'0') & (character <= b'9')
+        | (character >= b'a') & (character <= b'z')
+        | (character >= b'A') & (character <= b'Z')
 }
 
-// Eight bytes are read at once, as in the search for an FF.
-fn other_in_eight(reply: &[u8], offset: usize) -> bool
-    requires { offset + 8 ≤ length reply.now }
-    ensures { result ≡ in_eight (is_other reply.now) offset }
-{
-    !is_name_char(reply[offset])
-        | !is_name_char(reply[offset + 1])
-        | !is_name_char(reply[offset + 2])
-        | !is_name_char(reply[offset + 3])
-        | !is_name_char(reply[offset + 4])
-        | !is_name_char(reply[offset + 5])
-        | !is_name_char(reply[offset + 6])
-        | !is_name_char(reply[offset + 7])
-}
-
-fn skip_name_chars(reply: &[u8], offset: usize, end: usize) -> usize
-    requires { (offset ≤ end) × (end ≤ length reply.now) }
-    ensures { (result ≤ end) × (stop_at reply.now offset end ≡ stop_at reply.now result end) }
-{
-    let mut i = offset;
-    while 8 <= end - i {
-        if other_in_eight(reply, i) {
-            return i;
-        }
-        i += 8;
-    }
-    i
-}
-
-// The first byte from a position on and before `end` that is no name character; `end` if there is none.
-fn name_stop(reply: &[u8], offset: usize, end: usize) -> usize
-    requires { (offset ≤ end) × (end ≤ length reply.now) }
-    ensures { (result ≡ stop_at reply.now offset end) × (result ≤ end) }
-{
-    let mut i = skip_name_chars(reply, offset, end);
-    while i < end {
-        if !is_name_char(reply[i]) {
-            return i;
-        }
-        i += 1;
-    }
-    i
-}
-
-// Whether a name's length byte stands at a position, and where the name characters behind it stop, as far as that is known.
-#[derive(Clone, Copy)]
-struct NameTest {
-    found: bool,
-    stop: usize,
-}
-
-// In the descriptor that ends at `end`. Characters before `stop` were tested behind an earlier position and are not tested again.
-fn name_here(reply: &[u8], end: usize, offset: usize, stop: usize) -> NameTest
-    requires offset_lt_end { (offset < end) × (end ≤ lib.ListN.length reply.now) }
-    requires stops { Stops reply.now end offset stop }
-    ensures finds { result.found ≡ name_here reply.now end offset }
-    ensures ends { Stops reply.now end (offset + 1) result.stop }
+// Whether a name's length byte stands at a position of the descriptor that ends at `end`. Name characters stand up to `stop` where it is past
+// the position: they were tested behind an earlier one and are not tested again.
+fn name_here(reply: &[u8], end: usize, offset: usize, stop: &mut usize) -> bool
+    requires in_range { (offset < end) × (end ≤ length reply.now) }
+    requires stops { Stops reply.now end offset stop.old }
+    ensures finds { result ≡ name_here reply.now end offset }
+    ensures ends { Stops reply.now end (offset + 1) stop.new }
 {
     let length = reply[offset] as usize;
-    if (1 <= length) & (length <= 64) {
-        let start = offset + 1;
-        if start + length <= end {
-            if offset < stop {
-                return NameTest {
-                    found: start + length <= stop,
-                    stop,
-                };
-            }
-            let next = name_stop(reply, start, start + length);
-            if next == start + length {
-                return NameTest { found: true, stop };
-            }
-            return NameTest {
-                found: false,
-                stop: next,
-            };
-        }
-        return NameTest { found: false, stop };
+    if !(1..=64).contains(&length) {
+        return false;
     }
-    NameTest { found: false, stop }
+    let start = offset + 1;
+    if end < start + length {
+        return false;
+    }
+    if offset < *stop {
+        return start + length <= *stop;
+    }
+    match compact_table::first_byte(reply, start, start + length, |byte| !is_name_char(byte)) {
+        Some(other) => {
+            *stop = other;
+            false
+        }
+        None => true,
+    }
 }
 
 fn extract_column_name(reply: &[u8], offset: usize, end: usize) -> StringRead
-    requires { (offset + 16 ≤ end) × (end ≤ lib.ListN.length reply.now) }
+    requires { (offset + 16 ≤ end) × (end ≤ length reply.now) }
     ensures { result ≡ compact_name reply.now offset end }
 {
     let mut stop = offset + 16;
-    let mut i = offset + 16;
-    while i < end {
-        let test = name_here(reply, end, i, stop);
-        if test.found {
-            let length = reply[i] as usize;
+    for place in offset + 16..end {
+        if name_here(reply, end, place, &mut stop) {
             return StringRead {
-                place: i + 1,
-                length,
+                place: place + 1,
+                length: reply[place] as usize,
                 next: end,
             };
         }
-        stop = test.stop;
-        i += 1;
     }
     strings::no_string(end)
 }
@@ -187,13 +130,10 @@ fn compact_descriptor_end(left: usize, reply: &[u8], offset: usize) -> usize
     if left == 0 {
         return reply.len();
     }
-    let next = compact_table::next_compact_descriptor_offset(reply, offset);
-    if next <= reply.len() {
-        return next;
-    }
-    reply.len()
+    compact_table::next_compact_descriptor_offset(reply, offset).unwrap_or(reply.len())
 }
 
+#[tactic(auto, unfolding(crate::specs::Compact::ffs_here))]
 fn ffs_here(reply: &[u8], offset: usize) -> bool
     requires { offset + 3 ≤ length reply.now }
     ensures { result ≡ ffs_here reply.now offset }
@@ -206,17 +146,18 @@ fn last_descriptor_end(reply: &[u8], offset: usize) -> usize
     ensures { (result ≡ last_end reply.now offset) × (result ≤ length reply.now) }
 {
     let end = reply.len() - 2;
-    let mut i = offset;
-    while i < end {
-        if ffs_here(reply, i) {
-            return i + 3;
+    let mut from = offset;
+    while let Some(ff) = compact_table::next_ff(reply, from, end) {
+        if ffs_here(reply, ff) {
+            return ff + 3;
         }
-        i = compact_table::next_ff(reply, i + 1, end);
+        from = ff + 1;
     }
     reply.len()
 }
 
 // Where the descriptor at a position ends, if `left` more are to come.
+#[tactic(auto, unfolding(crate::specs::Compact::end_by))]
 pub fn compact_end(ends: Ends, left: usize, reply: &[u8], offset: usize) -> usize
     requires { offset + 16 ≤ length reply.now }
     ensures value { result ≡ end_by ends left reply.now offset }
@@ -235,20 +176,24 @@ pub fn compact_run(ends: Ends, reply: &[u8], count: usize, offset: usize) -> Run
     ensures named_le_count { (result.named ≤ result.count) × (result.count ≤ count) }
 {
     let mut start = offset;
-    let mut i: usize = 0;
-    let mut named: usize = 0;
-    while i < count {
+    let mut named = 0;
+    for index in 0..count {
         if reply.len() - start < 16 {
-            return Run { count: i, named };
+            return Run {
+                count: index,
+                named,
+            };
         }
-        let end = compact_end(ends, count - (i + 1), reply, start);
+        let end = compact_end(ends, count - (index + 1), reply, start);
         if end < start + 16 {
-            return Run { count: i, named };
+            return Run {
+                count: index,
+                named,
+            };
         }
         let name = extract_column_name(reply, start, end);
         named += column::one_if_named(reply, name);
         start = end;
-        i += 1;
     }
-    Run { count: i, named }
+    Run { count, named }
 }

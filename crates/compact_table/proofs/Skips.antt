@@ -4,9 +4,14 @@ use native.Mathlib.Omega.{arith}
 use mathlib.Core.Path.{◌≡◌, refl, sym}
 use mathlib.Core.List.{List}
 use mathlib.Core.Bool.{Bool, true, false, ◌||◌, false≢true}
+use lib.Dec.{ltb}
+use borrow.Author.Tests.{lt-ltb, le-ltb, ltb-true, ltb-false}
+use Rattle.std.specs.Prelude.{Some, None}
+use Rattle.search.specs.Search.{pick}
 use Rattle.search.specs.Walks.{first}
-use Rattle.search.proofs.Index.{first_is, first_more}
-use Rattle.compact_table.specs.Table.{is_ff, ff_at, in_eight, next_here}
+use Rattle.search.proofs.Index.{first_is, first_more, first_found, first_done}
+use Rattle.compact_table.specs.Bytes.{in_eight, found_before}
+use Rattle.compact_table.specs.Table.{is_ff, ff_at, next_here}
 
 module _ (f : ℕ → Bool) (n t : ℕ) where
   -- j is the next index: in whatever form it is written
@@ -55,19 +60,49 @@ skip_eight f n t i h g u =
     let u7 = step f n t (i + 6) (i + 7) (omega arith) g6.1 (omega arith) u6 in
     step f n t (i + 7) (i + 8) (omega arith) g7.1 (omega arith) u7
 
-pub ff_eight : (s : List ℕ) (i e t : ℕ) → i + 8 ≤ e → in_eight (is_ff s) i ≡ false → t ≡ ff_at s i e → t ≡ ff_at s (i + 8) e
+-- ---- the answer of a search, by the position that it ends at
+
+pub found : (e q t : ℕ) → q ≡ t → q < e → Some q ≡ found_before e t
+found e q t u h = rw (← u, lt-ltb q e h) refl
+
+pub not_found : (e t : ℕ) → e ≤ t → None ≡ found_before e t
+not_found e t h = rw (le-ltb t e h) refl
+
+pub found_some : (e t q : ℕ) → Some q ≡ found_before e t → (q ≡ t) × (q < e)
+found_some e t q u = go (ltb t e) refl u
+  where
+    go : (b : Bool) → ltb t e ≡ b → Some q ≡ pick b (Some t) None → (q ≡ t) × (q < e)
+    go true v w = let k : q ≡ t = cc in (k, omega (arith, ltb-true t e v))
+    go false v w = absurd cc
+
+pub found_none : (e t : ℕ) → None ≡ found_before e t → e ≤ t
+found_none e t u = go (ltb t e) refl u
+  where
+    go : (b : Bool) → ltb t e ≡ b → None ≡ pick b (Some t) None → e ≤ t
+    go true v w = absurd cc
+    go false v w = ltb-false t e v
+
+-- ---- a search for what starts with an FF, from one FF to the next: r is the next, t where the search ends
+
+module _ (s : List ℕ) (g : ℕ → Bool) (w : (q : ℕ) → is_ff s q ≡ false → g q ≡ false) (i n t r : ℕ) (h : i ≤ n) (e : r ≡ ff_at s i n) (u : t ≡ first g i n) where
+  later : t ≡ first g r n
+  unfolding ff_at
+  later = skip_to (is_ff s) g i n t r w h e u
+
+  pub by_ff_found : r < n → g r ≡ true → r ≡ t
+  by_ff_found l p = first_found g n r t later l p
+
+  pub by_ff_more : r < n → g r ≡ false → t ≡ first g (r + 1) n
+  by_ff_more l p = first_more g n r t later l p
+
+  pub by_ff_none : n ≤ r → r ≡ t
+  by_ff_none l = first_done g n r t later l
+
+pub ff_is : (s : List ℕ) (i n r : ℕ) → i ≤ n → r ≡ ff_at s i n → (i ≤ r) × (r < n → is_ff s r ≡ true)
 unfolding ff_at
-ff_eight s i e t h g u = skip_eight (is_ff s) e t i h g u
+ff_is s i n r h e = let is = first_is (is_ff s) i n h in (rw e is.from, rw e is.passes)
 
 -- where there is no FF, there is no next
 pub no_next : (s : List ℕ) (q : ℕ) → is_ff s q ≡ false → next_here s q ≡ false
 unfolding next_here
 no_next s q h = rw h refl
-
-pub next_later : (s : List ℕ) (i n t r : ℕ) → i ≤ n → r ≡ ff_at s i n → t ≡ first (next_here s) i n → t ≡ first (next_here s) r n
-unfolding ff_at
-next_later s i n t r h e u = skip_to (is_ff s) (next_here s) i n t r (no_next s) h e u
-
-pub ff_after : (s : List ℕ) (q e r : ℕ) → q ≤ e → r ≡ ff_at s q e → q ≤ r
-unfolding ff_at
-ff_after s q e r h u = rw u (first_is (is_ff s) q e h).from

@@ -1,5 +1,5 @@
 -- The table of compact descriptors, which is found by how its first descriptors look (01, Layouts: Compact). All numbers are LE.
-use Rattle.std.specs.Prelude.{Bool, false, ◌&&◌, ◌||◌, List, ◌≡◌, ℕ, ◌+◌, ◌-◌, ◌%◌, ◌<◌, ltb, leb, eqb, length, get_or}
+use Rattle.std.specs.Prelude.{Bool, false, ◌&&◌, ◌||◌, List, ◌≡◌, ℕ, ◌+◌, ◌-◌, ◌%◌, ◌<◌, ltb, leb, eqb, length, get_or, Option, Some, None}
 use Rattle.search.specs.Search.{pick}
 use Rattle.search.specs.Walks.{first}
 use Rattle.field.specs.declared.ByteOrder.TheVariants.{LittleEndian}
@@ -31,10 +31,6 @@ is_ff s q = eqb (get_or s q 0) 0xFF
 unfoldable pub ff_at : List ℕ → ℕ → ℕ → ℕ
 ff_at s q e = first (is_ff s) q e
 
--- a test passes at one of the eight positions from q on: a word of searches for an FF (01, Layouts: Compact)
-abbrev pub in_eight : (ℕ → Bool) → ℕ → Bool
-in_eight f q = f q || f (q + 1) || f (q + 2) || f (q + 3) || f (q + 4) || f (q + 5) || f (q + 6) || f (q + 7)
-
 -- FF at q, and such 16 bytes after it (01, Layouts: Compact, a next)
 unfoldable pub next_here : List ℕ → ℕ → Bool
 next_here s q = eqb (get_or s q 0) 0xFF && looks_compact s (q + 1)
@@ -52,6 +48,10 @@ unfoldable pub table_here : List ℕ → ℕ → Bool
 table_here s q =
     is_count (number LittleEndian 2 s q)
     && (looks_compact s (q + 2) && (eqb (number LittleEndian 2 s q) 1 || leb (next_compact s (q + 2)) (length s)))
+
+-- the table of a count at q, none where that is no table's (01, Layouts: Compact)
+abbrev pub table_from : List ℕ → ℕ → Option Table
+table_from s q = pick (table_here s q) (Some (record { start = q + 2; count = number LittleEndian 2 s q })) None
 
 -- where the first such count stands; not before the last 17 bytes if there is none (01, Layouts: Compact, the first count)
 unfoldable pub table_at : List ℕ → ℕ

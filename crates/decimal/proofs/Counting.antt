@@ -4,11 +4,9 @@ use mathlib.Core.List.{List, [], ◌∷◌, ◌++◌, append_assoc, append-nil}
 use Prim.Native.Nat.{ℕ, zero, suc, ◌+◌, ◌-◌, ◌*◌, ◌/◌, ◌<◌, ◌≤◌}
 use native.Mathlib.Numerals.{add-one}
 use native.Mathlib.Omega.{arith}
-use lib.ListN.{length, get_or, take, drop, set, length-set, length-drop, drop_of_length-le}
-use lib.Seq.{drop-cons, drop-set-lt, get_or-set_same, take_all}
+use lib.ListN.{length, get_or, drop, set, length-set, drop_of_length-le}
+use lib.Seq.{drop-cons, drop-set-lt, get_or-set_same}
 use borrow.Author.Tests.{lt-ltb, le-ltb}
-use Rattle.outcome.specs.Room.{room_length, room_written}
-use Rattle.outcome.proofs.Room.{no_room, has_room}
 use Rattle.decimal.specs.Decimal.{digit_of, digits_of, decimal_of, Spells}
 
 -- a number of at most k digits is below this
@@ -80,27 +78,3 @@ module _ (n : ℕ) (cs : List ℕ) (rest at : ℕ) (c : Counting n cs rest at) (
     long = length-set cs at d ∙ c.long;
     ends = stored cs _ at (at + 1) d refl (omega (arith, c.long, c.within)) refl ∙ rw e (sym (c.goes_on ∙ rw (lt-ltb rest 10 h) refl));
   }
-
--- 24 characters from the start on, as code lends them
-abbrev pub lent : List ℕ → ℕ → List ℕ
-lent cs start = take (24 - start) (drop start cs)
-
-module _ {n : ℕ} {cs : List ℕ} {start : ℕ} (s : Spells n cs start) where
-  pub lent_digits : lent cs start ≡ decimal_of n
-  lent_digits = take_all (24 - start) (drop start cs) (omega (arith, length-drop start cs, s.long)) ∙ s.ends
-
-  pub digits_length : length (decimal_of n) ≡ 24 - start
-  digits_length = ap length (sym s.ends) ∙ omega (arith, length-drop start cs, s.long)
-
-  module _ (buffer : List ℕ) where
-    pub write_none : length buffer < 24 - start → (0 ≡ room_length (decimal_of n) (length buffer)) × (buffer ≡ room_written (decimal_of n) buffer)
-    write_none h =
-        let a = no_room (decimal_of n) buffer (omega (arith, digits_length)) in
-        (sym a.gives, sym a.leaves)
-
-    -- what is lent is copied over the front: m stands there
-    pub write_all : 24 - start ≤ length buffer → {m : List ℕ} → m ≡ lent cs start
-        → (24 - start ≡ room_length (decimal_of n) (length buffer)) × (m ++ drop (24 - start) buffer ≡ room_written (decimal_of n) buffer)
-    write_all h e =
-        let a = has_room (decimal_of n) buffer (omega (arith, digits_length)) in
-        (sym digits_length ∙ sym a.gives, rw (e, lent_digits, ← digits_length) (sym a.leaves))

@@ -1,8 +1,8 @@
 // Numbers in decimal: as characters to write letters or a sign before, and over the front of a lent buffer.
 #![tactic(auto)]
 
-ghost use Rattle.std.specs.Prelude.{◌≡◌, length};
-ghost use Rattle.outcome.specs.Room.{room_length, room_written};
+ghost use Rattle.std.specs.Prelude.{◌≡◌, ◌≤◌, ◌<◌, length, drop, MatchOption};
+ghost use Rattle.outcome.specs.Room.{room_written};
 ghost use Rattle.decimal.specs.Decimal.{digit_of, decimal_of, Spells};
 
 fn digit(number: u64) -> u8
@@ -12,13 +12,22 @@ fn digit(number: u64) -> u8
 }
 
 // The digits end where the array ends, so that letters or a sign can be put before them.
-#[derive(Clone, Copy)]
+#[derive(Clone, Copy, Debug)]
 pub struct Digits {
     pub characters: [u8; 24],
     pub start: usize,
+    ghost within: { start ≤ 24 },
 }
 
-// From the last digit to the first: how many there are is not known before.
+impl Digits {
+    pub fn as_bytes(&self) -> &[u8]
+        ensures { result.now ≡ drop self.now.start self.now.characters }
+    {
+        &self.characters[self.start..]
+    }
+}
+
+// From the last digit to the first, while one is left: a `for` over the places would end in a case that never comes.
 pub fn digits_of(number: u64) -> Digits
     ensures { Spells number result.characters result.start }
 {
@@ -34,18 +43,18 @@ pub fn digits_of(number: u64) -> Digits
     Digits { characters, start }
 }
 
-// Writes the digits over the buffer's front and says how many they are; 0, and the buffer as it was, where there is no room for them.
-pub fn write_decimal(number: u64, buffer: &mut [u8]) -> usize
-    ensures gives { result ≡ room_length (decimal_of number) (length buffer.old) }
+// Writes the digits over the buffer's front and says how many they are; where there is no room for them, the buffer is as it was.
+#[tactic(auto, unfolding(outcome::specs::Room::room_written))]
+pub fn write_decimal(number: u64, buffer: &mut [u8]) -> Option<usize>
+    ensures gives { MatchOption result (length buffer.old < length (decimal_of number)) (λ n. (n ≡ length (decimal_of number)) × (n ≤ length buffer.old)) }
     ensures leaves { buffer.new ≡ room_written (decimal_of number) buffer.old }
 {
     let digits = digits_of(number);
-    let characters = digits.characters;
-    let start = digits.start;
-    if buffer.len() < 24 - start {
-        return 0;
+    let bytes = digits.as_bytes();
+    let count = bytes.len();
+    if buffer.len() < count {
+        return None;
     }
-    let count = 24 - start;
-    buffer[0..count].copy_from_slice(&characters[start..]);
-    count
+    buffer[..count].copy_from_slice(bytes);
+    Some(count)
 }

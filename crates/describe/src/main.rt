@@ -3,49 +3,33 @@
 
 mod status;
 mod table;
+mod texts;
 
 use std::io;
 use std::io::{BufWriter, Write};
-
-// Room for a reply, and one byte more, so that a longer one is told; and for any text of a reply. Its length is known by its type here:
-// that of a literal would be counted in each proof.
-pub(crate) fn blank_bytes() -> [u8; 65_537] {
-    [0; 65_537]
-}
-
-// The first `count` characters, `-` for none; nothing where there are not so many.
-pub(crate) fn put_first(out: &mut impl Write, characters: &[u8], count: usize) -> io::Result<()> {
-    if count == 0 {
-        output::put_byte(out, b'-')?;
-    }
-    if count <= characters.len() {
-        output::put_characters(out, &characters[0..count])?;
-    }
-    Ok(())
-}
+use texts::Texts;
 
 // All that is written of a reply. It has at most 4,095 columns (`reading_few`), so the list is never too short.
-fn put_description(out: &mut impl Write, reply: &[u8], words: &mut [u64]) -> io::Result<()> {
-    let answer = sqldard_words::parse_sqldard_data(reply, words);
-    let refusal = answer.refusal;
-    if refusal.number != 0 {
-        return status::put_refusal(out, refusal);
+fn put_description(out: &mut impl Write, texts: &mut Texts, words: &mut [u64]) -> io::Result<()> {
+    let answer = sqldard_words::parse_sqldard_data(texts.reply, words);
+    if answer.refusal.is_refused() {
+        return writeln!(out, "{}", status::Refused(answer.refusal));
     }
-    let card = answer.card;
-    status::put_status(out, reply, card)?;
-    table::put_table(out, reply, words, answer.count)
+    status::put_status(out, texts, answer.card)?;
+    table::put_table(out, texts, words, answer.count)
 }
 
 fn main(rt: HostRuntime) -> io::Result<()> {
     let alloc = rt.alloc();
-    let mut reply = blank_bytes();
+    // Room for a reply, and one byte more, so that a longer one is told.
+    let mut room = vec![in alloc; 0u8; 65_537]?;
     // 4,096 columns of 22 words.
     let mut words = vec![in alloc; 0u64; 90_112]?;
-    let Ok(count) = input::fill(&mut rt.reader(), &mut reply) else {
+    let Ok(reply) = input::fill(&mut rt.reader(), &mut room) else {
         // Nothing goes to standard output then: what came is not the reply.
         return eprintln!(rt; "describe: a read of the reply failed");
     };
     let mut out = BufWriter::new(alloc, io::writer(&rt))?;
-    put_description(&mut out, &reply[0..count], &mut words)?;
+    put_description(&mut out, &mut Texts::new(alloc, reply)?, &mut words)?;
     out.flush()
 }

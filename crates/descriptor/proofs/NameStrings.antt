@@ -1,7 +1,7 @@
 -- The six strings of a SQLDOPTGRP's names: a law for each way out of their readers.
 use mathlib.Core.List.{List}
 use mathlib.Core.Path.{◌≡◌, refl, sym, ap, ◌∙◌}
-use Prim.Native.Nat.{ℕ, zero, suc, ◌+◌, ◌-◌, ◌≤◌, ◌<◌}
+use Prim.Native.Nat.{ℕ, zero, suc, ◌+◌, ◌-◌, ◌*◌, ◌≤◌, ◌<◌}
 use native.Mathlib.Omega.{arith}
 use lib.ListN.{length}
 use Rattle.field.specs.declared.ByteOrder.TheVariants.{BigEndian}
@@ -11,7 +11,6 @@ use Rattle.strings.specs.Strings.{string_end, strings_end, string_at, chosen, pa
 use Rattle.strings.proofs.Strings.{chosen_first, chosen_second, pair_is}
 use Rattle.strings.proofs.Empty.{empty_at, empty_end, empty_string}
 use Rattle.descriptor.specs.declared.Label.{Label}
-use Rattle.descriptor.specs.declared.Names.{Names}
 use Rattle.descriptor.specs.Groups.{AllEmpty, LabelAt, NamesAt}
 
 -- ---- empty strings in a row
@@ -22,14 +21,16 @@ empty_room zero s p z = omega (arith, z)
 empty_room (suc n) s p z = omega (arith, empty_room n s (p + 2) z.1)
 
 -- one more in front of those that are left
-pub empty_more : (left : ℕ) (s : List ℕ) (p : ℕ) → 0 < left → number BigEndian 2 s p ≡ 0 → AllEmpty (left - 1) s (p + 2) → AllEmpty left s p
-empty_more left s p h e z =
-    let k : left ≡ suc (left - 1) = omega arith in rw k (e, z)
+pub empty_more : (count i : ℕ) (s : List ℕ) (p : ℕ) → i < count → number BigEndian 2 s (p + 2 * i) ≡ 0 → AllEmpty (count - (i + 1)) s (p + 2 * (i + 1))
+    → AllEmpty (count - i) s (p + 2 * i)
+empty_more count i s p h e z =
+    let k : count - i ≡ suc (count - (i + 1)) = omega arith in
+    let l : p + 2 * i + 2 ≡ p + 2 * (i + 1) = omega arith in
+    rw k (e, rw l z)
 
 -- none are left
-pub empty_none : (left : ℕ) (s : List ℕ) (p : ℕ) → left ≤ 0 → p ≤ length s → AllEmpty left s p
-empty_none zero s p h k = k
-empty_none (suc n) s p h k = absurd (omega arith)
+pub empty_none : (count : ℕ) (s : List ℕ) (p : ℕ) → p + 2 * count ≤ length s → AllEmpty (count - count) s (p + 2 * count)
+empty_none count s p h = let k : count - count ≡ 0 = omega arith in rw k h
 
 module _ (s : List ℕ) (p : ℕ) (z : AllEmpty 2 s p) where
   room : p + 4 ≤ length s
@@ -81,7 +82,6 @@ module _ (s : List ℕ) (p : ℕ) (m : StringRead) (e : m ≡ string_at s p) whe
         next = sym (rw w at (two_empty s (q + 6) behind));
       }
 
-  pub names_read : (b n : StringRead) (r : Label) (t : Names) → b ≡ string_at s m.next → n ≡ chosen m b → LabelAt s n.next r
-      → t.name ≡ n → t.label ≡ r.label → t.next ≡ r.next → NamesAt s p t
-  names_read b n r t f g x u v y =
-      record { name = u ∙ g ∙ pair_is s p m b e f; label = v ∙ rw (← u) at x.label; next = y ∙ rw (← v) at x.next }
+  pub names_read : (b n : StringRead) (r : Label) → b ≡ string_at s m.next → n ≡ chosen m b → LabelAt s n.next r
+      → NamesAt s p (record { name = n; label = r.label; next = r.next })
+  names_read b n r f g x = record { name = g ∙ pair_is s p m b e f; label = x.label; next = x.next }

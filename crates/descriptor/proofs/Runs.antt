@@ -59,8 +59,12 @@ module _ (page : Page) (order : ByteOrder) (s : List ℕ) (n at i m p : ℕ) (w 
       run_is (walking_stop (standard_walk page order s) (is_named page s) n at i m p w (descriptor_end lenient order s p) h refl
       (lt-leb (descriptor_end lenient order s p) (length s) (omega (arith, step_end order s p r e))))
 
-  pub run_done : n ≤ i → Ran
-  run_done h = run_is (walking_done (standard_walk page order s) (is_named page s) n at i m p w h)
+  pub run_done : n ≤ i → (record { count = n; named = m } ≡ standard_run page order s n at) × ((m ≤ n) × (n ≤ n))
+  unfolding standard_run
+  run_done h =
+      let e = walking_done (standard_walk page order s) (is_named page s) n at i m p w h in
+      let k : n ≡ i = omega (arith, w.below) in
+      ((λ j. record { count = (k ∙ e.0) j; named = e.1 j }), (omega (arith, w.few), omega arith))
 
   pub run_more : (r : Step) (x m' : ℕ) → i < n → r ≡ step_at order s p → r.next ≤ length s
       → x ≡ pick (not (is_generated_text page s (name_text page s r.name))) 1 0 → m' ≡ m + x

@@ -19,7 +19,7 @@ use Rattle.descriptor.specs.declared.Sqldoptgrp.{Sqldoptgrp}
 use Rattle.descriptor.specs.declared.Step.{Step}
 use Rattle.descriptor.specs.Nullable.{Flags, lenient, nullable_end, in_nullable}
 use Rattle.descriptor.specs.Descriptor.{opt_end, descriptor_end, opt_name, described_at}
-use Rattle.descriptor.specs.Groups.{sqldagrp_at, sqldoptgrp_at, no_step, sqldoptgrp_step_at, step_at}
+use Rattle.descriptor.specs.Groups.{sqldagrp_at, sqldoptgrp_at, no_step, step_at}
 use Rattle.descriptor.proofs.Groups.{Inside, name_inside, label_inside, opt_pair_inside}
 use Rattle.descriptor.proofs.Ends.{descriptor_end_grows}
 
@@ -56,49 +56,45 @@ module _ (flags : Flags) (order : ByteOrder) (s : List ℕ) (p : ℕ) where
 
 -- ---- for counting
 
--- what descriptor_step promises
-abbrev pub Stepped : ByteOrder → List ℕ → ℕ → Step → Type 0
-Stepped order s p r = (r ≡ step_at order s p) × ((p + 16 ≤ r.next) × Inside s r.name)
-
 module _ (order : ByteOrder) (s : List ℕ) (p : ℕ) where
   abbrev step_by : Bool → Step
   step_by b =
       pick b (record { name = (described_at order s p).name; next = descriptor_end lenient order s p }) (no_step (descriptor_end lenient order s p))
 
-  -- a step of none, where the end lies past the reply
-  none_stepped : (n : ℕ) (r : Step) → r ≡ no_step n → n ≡ descriptor_end lenient order s p → length s < n → Stepped order s p r
+  -- no step, where the end lies past the reply
+  none_stepped : (n : ℕ) → n ≡ descriptor_end lenient order s p → length s < n → no_step n ≡ step_at order s p
   unfolding step_at
-  none_stepped n r e f h =
-      let k : r.next ≡ n = ap (λ (x : Step). x.next) e in
-      let z : r.name ≡ no_string 0 = ap (λ (x : Step). x.name) e in
+  none_stepped n f h =
       let u : leb (descriptor_end lenient order s p) (length s) ≡ false = lt-leb (descriptor_end lenient order s p) (length s) (omega arith) in
-      (e ∙ ap no_step f ∙ sym (ap step_by u), (omega (arith, descriptor_end_grows lenient order s p), rw z (omega arith)))
+      ap no_step f ∙ sym (ap step_by u)
 
-  pub step_short : (r : Step) → r ≡ no_step (p + 16) → length s < p + 16 → Stepped order s p r
-  step_short r e h = none_stepped (p + 16) r e (sym (descriptor_end_short lenient order s p h)) h
+  pub step_short : length s < p + 16 → no_step (p + 16) ≡ step_at order s p
+  step_short h = none_stepped (p + 16) (sym (descriptor_end_short lenient order s p h)) h
 
   module _ (h : p + 16 ≤ length s) (t : ℕ) (e : t ≡ number order 2 s (p + 12)) (k : Bool) (f : k ≡ is_known t) where
     known_is : is_known (number order 2 s (p + 12)) ≡ k
     known_is = sym (f ∙ ap is_known e)
 
-    pub step_unknown : (r : Step) → k ≡ false → r ≡ no_step (length s + 1) → Stepped order s p r
-    step_unknown r g x =
-        none_stepped (length s + 1) r x (sym (descriptor_end_unknown lenient order s p h (known_is ∙ g) ∙ omega arith)) (omega arith)
+    pub step_unknown : k ≡ false → no_step (length s + 1) ≡ step_at order s p
+    step_unknown g =
+        none_stepped (length s + 1) (sym (descriptor_end_unknown lenient order s p h (known_is ∙ g) ∙ omega arith)) (omega arith)
 
-    module _ (g : k ≡ true) (o : Step) (x : o ≡ sqldoptgrp_step_at s (p + 16)) where
+    module _ (g : k ≡ true) (o : Sqldoptgrp) (x : o ≡ sqldoptgrp_at s (p + 16)) where
       past_group : o.next ≡ descriptor_end lenient order s p
-      past_group = ap (λ (o : Step). o.next) x ∙ sym (descriptor_end_known lenient order s p h (known_is ∙ g))
+      past_group = ap (λ (o : Sqldoptgrp). o.next) x ∙ sym (descriptor_end_known lenient order s p h (known_is ∙ g))
 
-      pub step_cut : (r : Step) → r ≡ no_step o.next → length s < o.next → Stepped order s p r
-      step_cut r y l = none_stepped o.next r y past_group l
+      pub step_cut : length s < o.next → no_step o.next ≡ step_at order s p
+      step_cut l = none_stepped o.next past_group l
 
-      pub step_read : o.next ≤ length s → Stepped order s p o
+      pub step_read : o.next ≤ length s
+          → (record { name = o.name; next = o.next } ≡ step_at order s p) × (p + 16 ≤ o.next) × Inside s o.name
       unfolding step_at described_at
       step_read l =
-          let n : o.name ≡ in_nullable (no_string 0) opt_name s (p + 16) = ap (λ (o : Step). o.name) x in
+          let n : o.name ≡ in_nullable (no_string 0) opt_name s (p + 16) = ap (λ (o : Sqldoptgrp). o.name) x in
           let u : leb (descriptor_end lenient order s p) (length s) ≡ true = le-leb (descriptor_end lenient order s p) (length s) (omega (arith, past_group)) in (
             (λ i. record { name = n i; next = past_group i }) ∙ sym (ap step_by u),
-            (omega (arith, descriptor_end_grows lenient order s p, past_group), rw n (name_inside s (p + 16))),
+            omega (arith, descriptor_end_grows lenient order s p, past_group),
+            rw n (name_inside s (p + 16)),
           )
 
 -- ---- in full

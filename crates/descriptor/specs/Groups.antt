@@ -1,5 +1,5 @@
 -- What the readers of a descriptor answer, as records of the definitions.
-use Rattle.std.specs.Prelude.{List, ◌≡◌, ℕ, zero, suc, ◌+◌, ◌%◌, ◌≤◌, leb, length}
+use Rattle.std.specs.Prelude.{Result, Ok, Err, List, ◌≡◌, ℕ, zero, suc, ◌+◌, ◌%◌, ◌≤◌, leb, length}
 use Rattle.search.specs.Search.{pick}
 use Rattle.field.specs.declared.ByteOrder.{ByteOrder}
 use Rattle.field.specs.declared.ByteOrder.TheVariants.{BigEndian}
@@ -40,10 +40,6 @@ pub record NamesAt (s : List ℕ) (p : ℕ) (r : Names) : Type 0 where
   pub label : r.label ≡ pair_at s r.name.next
   pub next : r.next ≡ strings_end 2 s r.label.next
 
--- a SQLDXGRP that is null or missing (DRDA V1; 01, Layouts: unless FF)
-abbrev pub no_sqldxgrp : ℕ → Sqldxgrp
-no_sqldxgrp next = record { base_table_name = no_string 0; schema_name = no_string 0; name = no_string 0; next = next }
-
 -- the SQLDXGRP whose flag is due at p (DRDA V1: SQLDXGRP; 01, Layouts: extension)
 abbrev pub sqldxgrp_at : List ℕ → ℕ → Sqldxgrp
 sqldxgrp_at s p = record {
@@ -51,16 +47,6 @@ sqldxgrp_at s p = record {
   schema_name = dx_pair 5 s p;
   name = dx_pair 7 s p;
   next = nullable_end lenient dx_end s p;
-}
-
--- a SQLDOPTGRP that is null or missing (DRDA V1; 01, Layouts: unless FF)
-abbrev pub no_sqldoptgrp : ℕ → Sqldoptgrp
-no_sqldoptgrp next = record {
-  name = no_string 0;
-  label = no_string 0;
-  base_table_name = no_string 0;
-  schema_name = no_string 0;
-  next = next;
 }
 
 -- the SQLDOPTGRP whose flag is due at p (DRDA V1: SQLDOPTGRP; 01, Layouts: option flag)
@@ -77,13 +63,10 @@ sqldoptgrp_at s p = record {
 abbrev pub no_step : ℕ → Step
 no_step next = record { name = no_string 0; next = next }
 
--- what counting asks of the SQLDXGRP whose flag is due at p: its name, and what is past it (DRDA V1: SQLXNAME; 01, Layouts: extension)
-abbrev pub sqldxgrp_step_at : List ℕ → ℕ → Step
-sqldxgrp_step_at s p = record { name = dx_pair 7 s p; next = nullable_end lenient dx_end s p }
-
--- and of the SQLDOPTGRP whose flag is due at p (DRDA V1: SQLNAME, SQLXNAME; 01, Layouts: option flag)
-abbrev pub sqldoptgrp_step_at : List ℕ → ℕ → Step
-sqldoptgrp_step_at s p = record { name = in_nullable (no_string 0) opt_name s p; next = nullable_end lenient (opt_end lenient) s p }
+-- a step, or one that cannot be made, by how many bytes were expected (01, Choice: columns)
+abbrev pub step_of : Result Step ℕ → Step
+step_of (Ok step) = step
+step_of (Err next) = no_step next
 
 -- what counting a run asks of the descriptor at p: its name, none where it cannot be read, and what is past it (01, Choice: columns, generated)
 unfoldable pub step_at : ByteOrder → List ℕ → ℕ → Step

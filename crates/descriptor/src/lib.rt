@@ -3,12 +3,12 @@
 // Each of its flags may be missing where the reply ends. A position past the reply's end says that it cannot be read.
 #![tactic(auto)]
 
-ghost use Rattle.std.specs.Prelude.{◌≡◌, true, ◌+◌, ◌≤◌, length};
+ghost use Rattle.std.specs.Prelude.{◌≡◌, true, ◌+◌, ◌≤◌, ◌<◌, length, MatchResult};
 ghost use Rattle.codepage.specs.Page.{page037};
 ghost use Rattle.column.specs.Column.{StringsInside};
-ghost use Rattle.descriptor.specs.Nullable.{lenient, nullable_end};
+ghost use Rattle.descriptor.specs.Nullable.{lenient, nullable_end, group_start};
 ghost use Rattle.descriptor.specs.Descriptor.{udt_end, descriptor_end, described_at};
-ghost use Rattle.descriptor.specs.Groups.{sqldagrp_at, no_sqldxgrp, sqldxgrp_at, no_sqldoptgrp, sqldoptgrp_at, no_step, sqldxgrp_step_at, sqldoptgrp_step_at, step_at, AllEmpty, LabelAt, NamesAt};
+ghost use Rattle.descriptor.specs.Groups.{sqldagrp_at, sqldxgrp_at, sqldoptgrp_at, step_of, step_at, AllEmpty, LabelAt, NamesAt};
 ghost use Rattle.descriptor.specs.Reading.{count_at};
 ghost use Rattle.descriptor.specs.Run.{standard_run};
 
@@ -16,22 +16,32 @@ use column::{Described, Run};
 use field::ByteOrder;
 use strings::StringRead;
 
+// Where what a nullable group holds starts, behind its flag. As an error what is past the group, if its flag is FF, or is missing at the reply's end.
+#[tactic(auto, unfolding(crate::specs::Nullable::group_start))]
+#[inline(always)]
+fn group_start(reply: &[u8], offset: usize) -> Result<usize, usize>
+    ensures { result ≡ group_start reply.now offset }
+{
+    match reply.get(offset) {
+        None => Err(offset),
+        Some(0xFF) => Err(offset + 1),
+        Some(_) => Ok(offset + 1),
+    }
+}
+
 // Past SQLUDTGRP: nothing of it is kept.
+#[tactic(auto, using(crate::proofs::Flags::start_room, crate::proofs::Flags::end_held, crate::proofs::Flags::end_gone), unfolding(crate::specs::Descriptor::udt_end))]
 pub fn skip_sqludtgrp(reply: &[u8], offset: usize) -> usize
     ensures { result ≡ nullable_end lenient udt_end reply.now offset }
 {
-    if reply.len() <= offset {
-        return offset;
+    match group_start(reply, offset) {
+        Ok(start) => strings::skip_strings(reply, start + 4, 5),
+        Err(next) => next,
     }
-    let start = offset + 1;
-    if reply[offset] == 0xFF {
-        return start;
-    }
-    strings::skip_strings(reply, start + 4, 5)
 }
 
 // The names in SQLDXGRP, the extension.
-#[derive(Clone, Copy)]
+#[derive(Clone, Copy, Debug, PartialEq, Eq)]
 pub struct Sqldxgrp {
     pub base_table_name: StringRead,
     pub schema_name: StringRead,
@@ -39,42 +49,38 @@ pub struct Sqldxgrp {
     pub next: usize,
 }
 
-fn no_sqldxgrp(next: usize) -> Sqldxgrp
-    ensures { result ≡ no_sqldxgrp next }
-{
-    let none = strings::no_string(0);
-    Sqldxgrp {
-        base_table_name: none,
-        schema_name: none,
-        name: none,
-        next,
-    }
-}
-
+#[tactic(auto, using(crate::proofs::Flags::start_room))]
+#[inline(always)]
 pub fn read_sqldxgrp(reply: &[u8], offset: usize) -> Sqldxgrp
     ensures { result ≡ sqldxgrp_at reply.now offset }
 {
-    if reply.len() <= offset {
-        return no_sqldxgrp(offset);
-    }
-    let start = offset + 1;
-    if reply[offset] == 0xFF {
-        return no_sqldxgrp(start);
-    }
-    let names = strings::skip_strings(reply, start + 8, 3);
-    let base_table_name = strings::read_pair(reply, names);
-    let schema_name = strings::read_pair(reply, base_table_name.next);
-    let name = strings::read_pair(reply, schema_name.next);
-    Sqldxgrp {
-        base_table_name,
-        schema_name,
-        name,
-        next: name.next,
+    match group_start(reply, offset) {
+        Ok(start) => {
+            let names = strings::skip_strings(reply, start + 8, 3);
+            let base_table_name = strings::read_pair(reply, names);
+            let schema_name = strings::read_pair(reply, base_table_name.next);
+            let name = strings::read_pair(reply, schema_name.next);
+            Sqldxgrp {
+                base_table_name,
+                schema_name,
+                name,
+                next: name.next,
+            }
+        }
+        Err(next) => {
+            let none = strings::no_string(0);
+            Sqldxgrp {
+                base_table_name: none,
+                schema_name: none,
+                name: none,
+                next,
+            }
+        }
     }
 }
 
 // The names in SQLDOPTGRP and in its extension.
-#[derive(Clone, Copy)]
+#[derive(Clone, Copy, Debug, PartialEq, Eq)]
 pub struct Sqldoptgrp {
     pub name: StringRead,
     pub label: StringRead,
@@ -83,38 +89,19 @@ pub struct Sqldoptgrp {
     pub next: usize,
 }
 
-fn no_sqldoptgrp(next: usize) -> Sqldoptgrp
-    ensures { result ≡ no_sqldoptgrp next }
-{
-    let none = strings::no_string(0);
-    Sqldoptgrp {
-        name: none,
-        label: none,
-        base_table_name: none,
-        schema_name: none,
-        next,
-    }
-}
-
 // Whether so many empty strings stand at a position. Each is looked at where it is due, and no length has to be known before the next.
+#[tactic(auto, using(crate::proofs::NameStrings::empty_more, crate::proofs::NameStrings::empty_none))]
 fn are_empty(reply: &[u8], offset: usize, count: usize) -> bool
     ensures { result ≡ true → AllEmpty count reply.now offset }
 {
     let end = reply.len();
-    if end < offset {
+    if end < offset || (end - offset) / 2 < count {
         return false;
     }
-    if (end - offset) / 2 < count {
-        return false;
-    }
-    let mut next = offset;
-    let mut left = count;
-    while 0 < left {
-        if field::u16_at(reply, next, ByteOrder::BigEndian) != 0 {
+    for i in 0..count {
+        if field::u16_at(reply, offset + 2 * i, ByteOrder::BigEndian) != 0 {
             return false;
         }
-        next += 2;
-        left -= 1;
     }
     true
 }
@@ -123,14 +110,11 @@ fn are_empty(reply: &[u8], offset: usize, count: usize) -> bool
 fn is_alone(reply: &[u8], string: StringRead, count: usize) -> bool
     ensures { result ≡ true → (string.length ≡ 0 → ⊥) × AllEmpty count reply.now string.next }
 {
-    if string.length == 0 {
-        return false;
-    }
-    are_empty(reply, string.next, count)
+    string.length != 0 && are_empty(reply, string.next, count)
 }
 
 // SQLLABEL of a SQLDOPTGRP, and what is past SQLCOMMENTS, which is not kept.
-#[derive(Clone, Copy)]
+#[derive(Clone, Copy, Debug, PartialEq, Eq)]
 pub struct Label {
     pub label: StringRead,
     pub next: usize,
@@ -142,13 +126,11 @@ fn read_label(reply: &[u8], offset: usize) -> Label
 {
     let m = strings::read_string(reply, offset);
     if is_alone(reply, m, 3) {
-        let label = StringRead {
-            place: m.place,
-            length: m.length,
-            next: m.next + 2,
-        };
         return Label {
-            label,
+            label: StringRead {
+                next: m.next + 2,
+                ..m
+            },
             next: m.next + 6,
         };
     }
@@ -160,7 +142,7 @@ fn read_label(reply: &[u8], offset: usize) -> Label
 }
 
 // SQLNAME besides: the six strings of names.
-#[derive(Clone, Copy)]
+#[derive(Clone, Copy, Debug, PartialEq, Eq)]
 pub struct Names {
     pub name: StringRead,
     pub label: StringRead,
@@ -174,133 +156,88 @@ fn read_names(reply: &[u8], offset: usize) -> Names
     let m = strings::read_string(reply, offset);
     if is_alone(reply, m, 5) {
         let end = m.next;
-        let name = StringRead {
-            place: m.place,
-            length: m.length,
-            next: end + 2,
-        };
-        let label = StringRead {
-            place: end + 6,
-            length: 0,
-            next: end + 6,
-        };
         return Names {
-            name,
-            label,
+            name: StringRead { next: end + 2, ..m },
+            label: StringRead {
+                place: end + 6,
+                length: 0,
+                next: end + 6,
+            },
             next: end + 10,
         };
     }
     let name = strings::choose(m, strings::read_string(reply, m.next));
-    let read = read_label(reply, name.next);
-    let label = read.label;
-    Names {
-        name,
-        label,
-        next: read.next,
-    }
+    let Label { label, next } = read_label(reply, name.next);
+    Names { name, label, next }
 }
 
+#[tactic(auto, using(crate::proofs::Flags::start_room))]
+#[inline(always)]
 fn read_sqldoptgrp(reply: &[u8], offset: usize) -> Sqldoptgrp
     ensures { result ≡ sqldoptgrp_at reply.now offset }
 {
-    if reply.len() <= offset {
-        return no_sqldoptgrp(offset);
-    }
-    let start = offset + 1;
-    if reply[offset] == 0xFF {
-        return no_sqldoptgrp(start);
-    }
-    let names = read_names(reply, start + 2);
-    let name = names.name;
-    let label = names.label;
-    let extension = read_sqldxgrp(reply, skip_sqludtgrp(reply, names.next));
-    let base_table_name = extension.base_table_name;
-    let schema_name = extension.schema_name;
-    // The extension's name counts last.
-    let chosen_name = strings::choose(name, extension.name);
-    Sqldoptgrp {
-        name: chosen_name,
-        label,
-        base_table_name,
-        schema_name,
-        next: extension.next,
+    match group_start(reply, offset) {
+        Ok(start) => {
+            let names = read_names(reply, start + 2);
+            let extension = read_sqldxgrp(reply, skip_sqludtgrp(reply, names.next));
+            // The extension's name counts last.
+            Sqldoptgrp {
+                name: strings::choose(names.name, extension.name),
+                label: names.label,
+                base_table_name: extension.base_table_name,
+                schema_name: extension.schema_name,
+                next: extension.next,
+            }
+        }
+        Err(next) => {
+            let none = strings::no_string(0);
+            Sqldoptgrp {
+                name: none,
+                label: none,
+                base_table_name: none,
+                schema_name: none,
+                next,
+            }
+        }
     }
 }
 
-// What counting a run asks of a descriptor: its name, none where it cannot be read, and what is past it.
-#[derive(Clone, Copy)]
+// What counting a run asks of a descriptor that can be read: its name, and what is past it.
+#[derive(Clone, Copy, Debug, PartialEq, Eq)]
 pub struct Step {
     pub name: StringRead,
     pub next: usize,
 }
 
-fn no_step(next: usize) -> Step
-    ensures { result ≡ no_step next }
-{
-    let name = strings::no_string(0);
-    Step { name, next }
-}
-
-// Of SQLDXGRP only the name. Who counts needs no more, and gets it without the other strings' places.
-pub fn sqldxgrp_step(reply: &[u8], offset: usize) -> Step
-    ensures { result ≡ sqldxgrp_step_at reply.now offset }
-{
-    if reply.len() <= offset {
-        return no_step(offset);
-    }
-    let start = offset + 1;
-    if reply[offset] == 0xFF {
-        return no_step(start);
-    }
-    let name = strings::read_pair(reply, strings::skip_strings(reply, start + 8, 7));
-    Step {
-        name,
-        next: name.next,
-    }
-}
-
-// Of SQLDOPTGRP only the name.
-fn sqldoptgrp_step(reply: &[u8], offset: usize) -> Step
-    ensures { result ≡ sqldoptgrp_step_at reply.now offset }
-{
-    if reply.len() <= offset {
-        return no_step(offset);
-    }
-    let start = offset + 1;
-    if reply[offset] == 0xFF {
-        return no_step(start);
-    }
-    let names = read_names(reply, start + 2);
-    let name = names.name;
-    let extension = sqldxgrp_step(reply, skip_sqludtgrp(reply, names.next));
-    Step {
-        name: strings::choose(name, extension.name),
-        next: extension.next,
-    }
-}
-
-// A scan asks at every byte of a reply: room and SQLTYPE are tested before any string is walked over.
-pub fn descriptor_step(reply: &[u8], offset: usize, order: ByteOrder) -> Step
+// The error is how many bytes were expected, or a position past the reply's end where the type is not known. A scan asks at every byte of a reply: room
+// and SQLTYPE are tested before any string is walked over.
+pub fn descriptor_step(reply: &[u8], offset: usize, order: ByteOrder) -> Result<Step, usize>
     requires { offset ≤ length reply.now }
-    ensures { (result ≡ step_at order reply.now offset)
-        × ((offset + 16 ≤ result.next) × (result.name.place + result.name.length ≤ length reply.now)) }
+    ensures at { step_of result ≡ step_at order reply.now offset }
+    ensures room { offset + 16 ≤ (step_of result).next }
+    ensures inside { MatchResult result
+        (λ step. (step.next ≤ length reply.now) × (step.name.place + step.name.length ≤ length reply.now))
+        (λ expected. length reply.now < expected) }
 {
     let end = reply.len();
     if end - offset < 16 {
-        return no_step(offset + 16);
+        return Err(offset + 16);
     }
     if !sqlda::is_known_sql_type(field::u16_at(reply, offset + 12, order)) {
-        return no_step(end + 1);
+        return Err(end + 1);
     }
-    let step = sqldoptgrp_step(reply, offset + 16);
-    if end < step.next {
-        return no_step(step.next);
+    let options = read_sqldoptgrp(reply, offset + 16);
+    if end < options.next {
+        return Err(options.next);
     }
-    step
+    Ok(Step {
+        name: options.name,
+        next: options.next,
+    })
 }
 
 // The numbers of SQLDAGRP; of precision and scale the low 8 bits.
-#[derive(Clone, Copy)]
+#[derive(Clone, Copy, Debug, PartialEq, Eq)]
 pub struct Sqldagrp {
     pub precision: u8,
     pub scale: u8,
@@ -331,10 +268,6 @@ pub fn read_descriptor(reply: &[u8], offset: usize, order: ByteOrder) -> Describ
 {
     let numbers = read_sqldagrp(reply, offset, order);
     let options = read_sqldoptgrp(reply, offset + 16);
-    let name = options.name;
-    let label = options.label;
-    let base_table_name = options.base_table_name;
-    let schema_name = options.schema_name;
     Described {
         sql_type: numbers.sql_type,
         raw_length: numbers.raw_length,
@@ -342,15 +275,16 @@ pub fn read_descriptor(reply: &[u8], offset: usize, order: ByteOrder) -> Describ
         scale: numbers.scale,
         ccsid: numbers.ccsid,
         byte_order: order,
-        name,
-        label,
-        base_table_name,
-        schema_name,
+        name: options.name,
+        label: options.label,
+        base_table_name: options.base_table_name,
+        schema_name: options.schema_name,
         next: options.next,
     }
 }
 
 // Where the count of columns is due: past the SQLCA group and SQLDHGRP. Past the reply's end, it is how many bytes were expected.
+#[tactic(auto, using(crate::proofs::Front::count_at_end, crate::proofs::Front::count_at_past))]
 pub fn count_offset(reply: &[u8]) -> usize
     requires { length reply.now ≤ 65536 }
     ensures { result ≡ count_at reply.now }
@@ -368,17 +302,16 @@ pub fn standard_run(reply: &[u8], order: ByteOrder, limit: usize, start: usize) 
     ensures { (result ≡ standard_run page037 order reply.now limit start) × ((result.named ≤ result.count) × (result.count ≤ limit)) }
 {
     let mut offset = start;
-    let mut count = 0;
     let mut named = 0;
-    while count < limit {
-        let step = descriptor_step(reply, offset, order);
-        let next = step.next;
-        if reply.len() < next {
+    for count in 0..limit {
+        let Ok(step) = descriptor_step(reply, offset, order) else {
             return Run { count, named };
-        }
+        };
         named += column::one_if_named(reply, step.name);
-        offset = next;
-        count += 1;
+        offset = step.next;
     }
-    Run { count, named }
+    Run {
+        count: limit,
+        named,
+    }
 }

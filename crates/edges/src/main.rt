@@ -3,68 +3,44 @@
 // shows and its bytes, with a byte for the length in front of both.
 #![tactic(auto)]
 
-ghost use Rattle.std.specs.Prelude.{◌≤◌, IfOk};
+ghost use Rattle.std.specs.Prelude.{◌<◌, length, IfSome};
 
-use plan::SqldardAnswer;
+use line::Line;
+use outcome::RefusalNumbers;
+use output::Characters;
 use std::io;
 use std::io::{BufWriter, Write};
-use types::{ColumnMetadata, Db2Type};
+use types::ColumnMetadata;
 
-// What stands in front of the columns: nothing, or why there are none.
-fn put_head(out: &mut impl Write, answer: SqldardAnswer) -> io::Result<()> {
-    let outcome = answer.outcome;
-    if outcome::is_refused(outcome) {
-        return output::put_refusal(out, outcome::refusal_of(outcome));
-    }
-    if answer.count == 0 {
-        output::put_bytes(out, b"no columns")?;
-    }
-    Ok(())
-}
-
-// A column's name between quotes, so that its blanks are seen.
-fn put_name(out: &mut impl Write, reply: &[u8], column: ColumnMetadata) -> io::Result<()> {
-    let mut buffer = [0u8; 64];
-    let text = column_name::name_text(reply, column, &mut buffer);
-    let count = text.length;
-    // No length beyond the buffer is answered: the test spares the proof of that.
-    if buffer.len() < count {
-        return output::put_byte(out, b'?');
-    }
-    output::put_byte(out, b'"')?;
-    output::put_characters(out, &buffer[0..count])?;
-    output::put_byte(out, b'"')
-}
-
-fn put_type(out: &mut impl Write, db2_type: Db2Type) -> io::Result<()> {
-    let names = output::all_names();
-    let letters = output::type_letters(&names, db2_type);
-    let mut line = [0u8; 32];
-    let count = cells::append_type(&mut line, 0, letters, db2_type);
-    output::put_bytes(out, &line[0..count])
-}
-
-// A column's name and type, after a comma if it is not the first.
+// A column's name between quotes, so that its blanks are seen, and its type.
 fn put_column(out: &mut impl Write, reply: &[u8], column: ColumnMetadata) -> io::Result<()> {
-    let db2_type = column.db2_type;
-    if 0 < column.number {
-        output::put_bytes(out, b", ")?;
-    }
-    put_name(out, reply, column)?;
-    output::put_byte(out, b' ')?;
-    put_type(out, db2_type)
+    let mut buffer = [0u8; 64];
+    let count = column_name::name_text(reply, column, &mut buffer).unwrap_or(0);
+    let name = Characters(buffer.get(..count).unwrap_or(b"?"));
+    let mut line = Line::<32>::new();
+    let type_name = output::type_name(column.db2_type);
+    cells::append_type(&mut line, type_name.as_bytes(), column.db2_type);
+    let db2_type = Characters(line.as_bytes());
+    write!(out, "\"{name}\" {db2_type}")
 }
 
-// The columns of a reply, in a line.
+// The columns of a reply, a comma between; or that there are none, or why.
 fn put_reply(out: &mut impl Write, reply: &[u8]) -> io::Result<()> {
-    let blank = column::blank_column();
-    let mut columns = [blank; 16];
-    let answer = sqldard::parse_sqldard_data(reply, &mut columns);
-    put_head(out, answer)?;
+    let mut columns = [column::blank_column(); 16];
+    let answer = match sqldard::parse_sqldard_data(reply, &mut columns) {
+        Ok(answer) => answer,
+        Err(refusal) => return write!(out, "{}", RefusalNumbers::from(refusal)),
+    };
+    if answer.count == 0 {
+        return write!(out, "no columns");
+    }
     for column in columns.iter().take(answer.count) {
+        if 0 < column.number {
+            write!(out, ", ")?;
+        }
         put_column(out, reply, *column)?;
     }
-    output::put_byte(out, b'\n')
+    Ok(())
 }
 
 // The two scores that document 01 gives.
@@ -75,51 +51,33 @@ fn put_scores(out: &mut impl Write) -> io::Result<()> {
     writeln!(out, "score of one named, three generated: {of_four}")
 }
 
-fn wide(byte: u8) -> usize
-    ensures { result ≤ 255 }
+// As many bytes as the first says, and those behind them; none where there are fewer.
+fn counted(bytes: &[u8]) -> Option<(&[u8], &[u8])>
+    ensures { IfSome result (λ parts. length parts.1.now < length bytes.now) }
 {
-    byte as usize
-}
-
-// What the first case shows, and its columns. The case's length, or that of all that is left where it ends early.
-fn put_case(out: &mut impl Write, cases: &[u8]) -> io::Result<usize>
-    ensures { IfOk result (λ n. 1 ≤ n) }
-{
-    let all = cases.len() + 1;
-    if cases.len() == 0 {
-        return Ok(all);
-    }
-    let start = wide(cases[0]) + 2;
-    if cases.len() < start {
-        return Ok(all);
-    }
-    let end = start + wide(cases[start - 1]);
-    if cases.len() < end {
-        return Ok(all);
-    }
-    output::put_bytes(out, &cases[1..start - 1])?;
-    output::put_bytes(out, b": ")?;
-    put_reply(out, &cases[start..end])?;
-    Ok(end)
+    let (count, rest) = bytes.split_first()?;
+    rest.split_at_checked(usize::from(*count))
 }
 
 fn put_cases(out: &mut impl Write, cases: &[u8]) -> io::Result<()> {
-    let mut at = 0;
-    while at < cases.len() {
-        let taken = put_case(out, &cases[at..])?;
-        if cases.len() - at < taken {
-            return Ok(());
-        }
-        at += taken;
+    let mut cases = cases;
+    while let Some((shows, rest)) = counted(cases) {
+        let Some((reply, rest)) = counted(rest) else {
+            break;
+        };
+        write!(out, "{}: ", Characters(shows))?;
+        put_reply(out, reply)?;
+        writeln!(out)?;
+        cases = rest;
     }
     Ok(())
 }
 
 fn main(rt: HostRuntime) -> io::Result<()> {
-    let mut cases = [0u8; 4096];
-    let got = input::fill(&mut rt.reader(), &mut cases)?;
+    let mut buffer = [0u8; 4096];
+    let cases = input::fill(&mut rt.reader(), &mut buffer)?;
     let mut out = BufWriter::new(rt.alloc(), io::writer(&rt))?;
     put_scores(&mut out)?;
-    put_cases(&mut out, &cases[0..got])?;
+    put_cases(&mut out, cases)?;
     out.flush()
 }

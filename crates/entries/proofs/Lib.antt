@@ -1,2 +1,3 @@
-pub mod Parts
 pub mod Answers
+pub mod Parts
+pub mod Scans

@@ -8,8 +8,12 @@ use lib.Dec.{eqb}
 use lib.ListN.{take, drop}
 use borrow.Author.Tests.{eq-eqb, ne_eqb}
 use Rattle.search.specs.Search.{pick}
+use Rattle.outcome.specs.declared.RefusalNumbers.{RefusalNumbers}
 use Rattle.outcome.specs.declared.Refusal.{Refusal}
-use Rattle.outcome.specs.Refusal.{is_refused, in_numbers}
+use Rattle.outcome.specs.Refusal.{refusal_in, is_refused, in_numbers}
+use Rattle.std.proofs.Common.{IfOk, Result}
+use Rattle.std.specs.Result.{result_unwrap_or}
+use Rattle.entries.proofs.Answers.{value_of}
 use Rattle.text.specs.declared.Text.{Text}
 use Rattle.text.specs.Text.{bytes_of}
 use Rattle.column_name.specs.Part.{part_refusal, part_of}
@@ -32,10 +36,13 @@ module _ (s : List ℕ) (t : Text) where
       go false true k = absurd (k refl)
       go false false k = refl
 
-  module _ (number : ℕ) (bytes : List ℕ) (e : number ∷ [] ≡ part_refusal s t) (f : bytes ≡ part_of s t) (r : Refusal) (g : r ≡ in_numbers (number ∷ [])) where
-    refuses : r ≡ in_numbers (part_refusal s t)
-    refuses = g ∙ ap in_numbers e
+  -- a part that is given, or none where it is refused; f is what a reference points to
+  pub part_given : {A : Type 0} (f : A → List ℕ) (answer : Result A Refusal) (none : A) → f none ≡ [] → refusal_in answer ≡ part_refusal s t
+      → IfOk answer (λ part. f part ≡ part_of s t) → f (result_unwrap_or answer none) ≡ part_of s t
+  unfolding part_of
+  part_given f answer none z e g = value_of f answer (part_refusal s t) (part_of s t) none e (λ h. z ∙ rw h refl) g
 
+  module _ (bytes : List ℕ) (f : bytes ≡ part_of s t) (r : RefusalNumbers) (refuses : r ≡ in_numbers (part_refusal s t)) where
     counts : lib.ListN.length bytes ≡ part_length s t
     unfolding part_length
     counts = ap lib.ListN.length f

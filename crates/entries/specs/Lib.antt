@@ -1,3 +1,4 @@
 pub mod Named
 pub mod Part
 pub mod Lists
+pub mod Refused

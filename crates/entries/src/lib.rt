@@ -8,17 +8,20 @@ pub mod name_scan;
 pub mod status;
 pub mod texts;
 
-ghost use Rattle.std.specs.Prelude.{[], ◌∷◌, ◌≡◌};
-ghost use Rattle.outcome.specs.Refusal.{in_numbers};
+ghost use Rattle.std.specs.Prelude.{[], ◌∷◌, ◌≡◌, false};
+ghost use Rattle.std.specs.Result.{result_unwrap_or};
+ghost use Rattle.outcome.specs.Refusal.{in_numbers, refusal_in};
+ghost use Rattle.sqlcard.specs.Card.{success_card};
+ghost use Rattle.entries.specs.Refused.{no_group};
 
-use outcome::Refusal;
-use sqlcard::SqlCard;
+use outcome::{Refusal, RefusalNumbers};
+use sqlcard::{Group, SqlCard};
 
 // Where a call is refused, the card is that for success.
 #[repr(C)]
 #[derive(Clone, Copy)]
 pub struct SqlcardResult {
-    pub refusal: Refusal,
+    pub refusal: RefusalNumbers,
     pub card: SqlCard,
 }
 
@@ -26,7 +29,7 @@ pub struct SqlcardResult {
 #[repr(C)]
 #[derive(Clone, Copy)]
 pub struct GroupResult {
-    pub refusal: Refusal,
+    pub refusal: RefusalNumbers,
     pub card: SqlCard,
     pub length: usize,
 }
@@ -35,7 +38,7 @@ pub struct GroupResult {
 #[repr(C)]
 #[derive(Clone, Copy)]
 pub struct CountResult {
-    pub refusal: Refusal,
+    pub refusal: RefusalNumbers,
     pub count: usize,
 }
 
@@ -43,7 +46,7 @@ pub struct CountResult {
 #[repr(C)]
 #[derive(Clone, Copy)]
 pub struct CutResult {
-    pub refusal: Refusal,
+    pub refusal: RefusalNumbers,
     pub same: bool,
 }
 
@@ -51,19 +54,77 @@ pub struct CutResult {
 #[repr(C)]
 #[derive(Clone, Copy)]
 pub struct PartResult {
-    pub refusal: Refusal,
+    pub refusal: RefusalNumbers,
     pub place: usize,
     pub length: usize,
 }
 
-// A refusal that comes without values.
-fn refusal_alone(number: u8) -> Refusal
-    ensures { result ≡ in_numbers (number ∷ []) }
+// What an answer says of a refusal: number 0 where there is none.
+fn refusal_numbers<T>(answer: &Result<T, Refusal>) -> RefusalNumbers
+    ensures { result ≡ in_numbers (refusal_in answer.now) }
 {
-    Refusal {
-        number,
-        count: 0,
-        first: 0,
-        second: 0,
+    match answer {
+        Ok(_) => RefusalNumbers::alone(0),
+        Err(refusal) => RefusalNumbers::from(*refusal),
+    }
+}
+
+impl From<Result<SqlCard, Refusal>> for SqlcardResult {
+    ghost from_gives = { λ answer result. (result.refusal ≡ in_numbers (refusal_in answer)) × (result.card ≡ result_unwrap_or answer success_card) };
+
+    // With `unwrap_or` the card for success is made first, and then copied or not: 18 instructions more of null status.
+    fn from(answer: Result<SqlCard, Refusal>) -> Self {
+        match answer {
+            Ok(card) => SqlcardResult {
+                refusal: RefusalNumbers::alone(0),
+                card,
+            },
+            Err(refusal) => SqlcardResult {
+                refusal: RefusalNumbers::from(refusal),
+                card: SqlCard::success(),
+            },
+        }
+    }
+}
+
+impl From<Result<Group, Refusal>> for GroupResult {
+    ghost from_gives = { λ answer result. (result.refusal ≡ in_numbers (refusal_in answer)) × (result.card ≡ (result_unwrap_or answer no_group).card) × (result.length ≡ (result_unwrap_or answer no_group).length) };
+
+    // As above: 38 instructions more.
+    fn from(answer: Result<Group, Refusal>) -> Self {
+        match answer {
+            Ok(Group { card, length }) => GroupResult {
+                refusal: RefusalNumbers::alone(0),
+                card,
+                length,
+            },
+            Err(refusal) => GroupResult {
+                refusal: RefusalNumbers::from(refusal),
+                card: SqlCard::success(),
+                length: 0,
+            },
+        }
+    }
+}
+
+impl From<Result<usize, Refusal>> for CountResult {
+    ghost from_gives = { λ answer result. (result.refusal ≡ in_numbers (refusal_in answer)) × (result.count ≡ result_unwrap_or answer 0) };
+
+    fn from(answer: Result<usize, Refusal>) -> Self {
+        CountResult {
+            refusal: refusal_numbers(&answer),
+            count: answer.unwrap_or(0),
+        }
+    }
+}
+
+impl From<Result<bool, Refusal>> for CutResult {
+    ghost from_gives = { λ answer result. (result.refusal ≡ in_numbers (refusal_in answer)) × (result.same ≡ result_unwrap_or answer false) };
+
+    fn from(answer: Result<bool, Refusal>) -> Self {
+        CutResult {
+            refusal: refusal_numbers(&answer),
+            same: answer.unwrap_or(false),
+        }
     }
 }

@@ -9,15 +9,11 @@ ghost use Rattle.name_words.specs.Texts.{text_words};
 use crate::CountResult;
 
 // The entry name scan, with room for a text in each 3 words. Nothing is written where it refuses.
+#[tactic(auto, using(crate::proofs::Scans::scan_counted))]
 pub fn scan_column_names(reply: &[u8], names: &mut [u64]) -> CountResult
     ensures refuses { result.refusal ≡ in_numbers (name_scan page037 (length names.old / 3) reply.now).refusal }
     ensures counts { result.count ≡ length (name_scan page037 (length names.old / 3) reply.now).names }
     ensures fills { names.new ≡ over (text_words (name_scan page037 (length names.old / 3) reply.now).names) names.old }
 {
-    let answer = name_words::scan_column_names(reply, names);
-    let outcome = answer.outcome;
-    CountResult {
-        refusal: outcome::refusal_of(outcome),
-        count: answer.count,
-    }
+    CountResult::from(name_words::scan_column_names(reply, names))
 }

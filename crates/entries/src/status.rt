@@ -8,31 +8,20 @@ ghost use Rattle.sqlcard.specs.Group.{group_refusal, group_card, group_length};
 use crate::{GroupResult, SqlcardResult};
 
 // The entry status alone.
+#[tactic(auto, using(crate::proofs::Answers::alone_given))]
 pub fn parse_sqlcard_data(reply: &[u8]) -> SqlcardResult
     ensures refuses { result.refusal ≡ in_numbers (alone_refusal reply.now) }
     ensures gives { result.card ≡ alone_card page037 reply.now }
 {
-    let alone = sqlcard::parse_sqlcard_data(reply);
-    let outcome = alone.outcome;
-    let card = alone.card;
-    SqlcardResult {
-        refusal: outcome::refusal_of(outcome),
-        card,
-    }
+    SqlcardResult::from(sqlcard::parse_sqlcard_data(reply))
 }
 
 // The entry SQLCA group.
+#[tactic(auto, using(crate::proofs::Answers::group_given, crate::proofs::Answers::group_taken))]
 pub fn consume_sqlca_group(reply: &[u8]) -> GroupResult
     ensures refuses { result.refusal ≡ in_numbers (group_refusal reply.now) }
     ensures gives { result.card ≡ group_card page037 reply.now }
     ensures takes { result.length ≡ group_length reply.now }
 {
-    let group = sqlcard::consume_sqlca_group(reply);
-    let outcome = group.outcome;
-    let card = group.card;
-    GroupResult {
-        refusal: outcome::refusal_of(outcome),
-        card,
-        length: group.length,
-    }
+    GroupResult::from(sqlcard::consume_sqlca_group(reply))
 }

@@ -36,18 +36,19 @@ pub fn name_part(reply: &[u8], place: usize, length: usize, alphabet: u8) -> Par
     ensures counts { result.length ≡ part_length reply.now (text_is place length alphabet) }
     ensures gives { take result.length (drop result.place reply.now) ≡ part_of reply.now (text_is place length alphabet) }
 {
-    let column = named_column(0, place, length, alphabet);
-    let mut number = 0;
-    let bytes = column_name::name_part(reply, column, &mut number);
+    let part = column_name::name_part(reply, named_column(0, place, length, alphabet));
+    let refusal = crate::refusal_numbers(&part);
+    let bytes = part.unwrap_or(&[]);
     let count = bytes.len();
     PartResult {
-        refusal: crate::refusal_alone(number),
+        refusal,
         place: if count == 0 { 0 } else { place },
         length: count,
     }
 }
 
 // The entry name text.
+#[tactic(auto, using(crate::proofs::Answers::name_given))]
 pub fn name_text(
     reply: &[u8],
     number: u16,
@@ -61,24 +62,15 @@ pub fn name_text(
     ensures leaves { buffer.new ≡ name_written page037 reply.now (named_column number place length alphabet) buffer.old }
 {
     let column = named_column(number, place, length, alphabet);
-    let text = column_name::name_text(reply, column, buffer);
-    let outcome = text.outcome;
-    CountResult {
-        refusal: outcome::refusal_of(outcome),
-        count: text.length,
-    }
+    CountResult::from(column_name::name_text(reply, column, buffer))
 }
 
 // The entry message text.
+#[tactic(auto, using(crate::proofs::Answers::message_given))]
 pub fn message_text(reply: &[u8], place: usize, length: usize, buffer: &mut [u8]) -> CountResult
     ensures refuses { result.refusal ≡ in_numbers (message_refusal page037 reply.now place length (lib.ListN.length buffer.old)) }
     ensures counts { result.count ≡ message_length page037 reply.now place length (lib.ListN.length buffer.old) }
     ensures leaves { buffer.new ≡ message_written page037 reply.now place length buffer.old }
 {
-    let message = message_text::message_text(reply, place, length, buffer);
-    let outcome = message.outcome;
-    CountResult {
-        refusal: outcome::refusal_of(outcome),
-        count: message.length,
-    }
+    CountResult::from(message_text::message_text(reply, place, length, buffer))
 }

@@ -1,76 +1,65 @@
 // Numbers at a position of a reply, in either byte order.
 #![tactic(auto)]
 
-ghost use Rattle.std.specs.Prelude.{◌≡◌, ◌+◌, ◌*◌, ◌<◌, ◌≤◌, length};
+ghost use Rattle.std.specs.Prelude.{◌≡◌, ◌+◌, ◌≤◌, length, take, drop};
 ghost use Rattle.field.specs.Numbers.{number, signed};
 
-#[derive(Clone, Copy)]
+#[derive(Clone, Copy, Debug, PartialEq, Eq)]
 pub enum ByteOrder {
     BigEndian,
     LittleEndian,
 }
 
-fn join8(high: u8, low: u8) -> u16
-    ensures { result ≡ high * 256 + low }
+// By as_array, which is one load: copy_from_slice asks at each call whether the two lists overlap.
+fn bytes_at<const N: usize>(reply: &[u8], offset: usize) -> [u8; N]
+    requires { offset + N ≤ length reply.now }
+    ensures { result ≡ take N (drop offset reply.now) }
 {
-    (high as u16) * 256 + (low as u16)
+    *reply[offset..offset + N].as_array().unwrap()
 }
 
-fn join16(high: u16, low: u16) -> u32
-    ensures { result ≡ high * 65536 + low }
-{
-    (high as u32) * 65536 + (low as u32)
-}
-
-fn join32(high: u32, low: u32) -> u64
-    ensures { result ≡ high * 0x1_0000_0000 + low }
-{
-    (high as u64) * 0x1_0000_0000 + (low as u64)
-}
-
+// A function for each width is plainer than a trait over u16, u32 and u64, which needs two methods for each, and a bound by Fn([u8; N]) gets no
+// proof. One from_le_bytes, over bytes that are turned round in big-endian, makes some 60 instructions of u64_at, which has five so.
+#[tactic(auto, using(crate::proofs::Numbers::big_2, crate::proofs::Numbers::little_2))]
 pub fn u16_at(reply: &[u8], offset: usize, order: ByteOrder) -> u16
     requires { offset + 2 ≤ length reply.now }
     ensures { result ≡ number order 2 reply.now offset }
 {
-    let first = reply[offset];
-    let second = reply[offset + 1];
+    let bytes = bytes_at(reply, offset);
     match order {
-        ByteOrder::BigEndian => join8(first, second),
-        ByteOrder::LittleEndian => join8(second, first),
+        ByteOrder::BigEndian => u16::from_be_bytes(bytes),
+        ByteOrder::LittleEndian => u16::from_le_bytes(bytes),
     }
 }
 
+#[tactic(auto, using(crate::proofs::Numbers::big_4, crate::proofs::Numbers::little_4))]
 pub fn u32_at(reply: &[u8], offset: usize, order: ByteOrder) -> u32
     requires { offset + 4 ≤ length reply.now }
     ensures { result ≡ number order 4 reply.now offset }
 {
-    let first = u16_at(reply, offset, order);
-    let second = u16_at(reply, offset + 2, order);
+    let bytes = bytes_at(reply, offset);
     match order {
-        ByteOrder::BigEndian => join16(first, second),
-        ByteOrder::LittleEndian => join16(second, first),
+        ByteOrder::BigEndian => u32::from_be_bytes(bytes),
+        ByteOrder::LittleEndian => u32::from_le_bytes(bytes),
     }
 }
 
+#[tactic(auto, using(crate::proofs::Numbers::big_8, crate::proofs::Numbers::little_8))]
 pub fn u64_at(reply: &[u8], offset: usize, order: ByteOrder) -> u64
     requires { offset + 8 ≤ length reply.now }
     ensures { result ≡ number order 8 reply.now offset }
 {
-    let first = u32_at(reply, offset, order);
-    let second = u32_at(reply, offset + 4, order);
+    let bytes = bytes_at(reply, offset);
     match order {
-        ByteOrder::BigEndian => join32(first, second),
-        ByteOrder::LittleEndian => join32(second, first),
+        ByteOrder::BigEndian => u64::from_be_bytes(bytes),
+        ByteOrder::LittleEndian => u64::from_le_bytes(bytes),
     }
 }
 
 // The number of 32 bits in two's complement.
+#[tactic(auto, using(crate::proofs::Numbers::signed_is))]
 pub fn to_signed(bits: u32) -> i32
     ensures { result ≡ signed bits }
 {
-    if bits < 0x8000_0000 {
-        bits as i32
-    } else {
-        -1 - ((0xFFFF_FFFF - bits) as i32)
-    }
+    bits.cast_signed()
 }

@@ -4,7 +4,7 @@ use Prim.Native.Nat.{ℕ, zero, suc, ◌+◌, ◌-◌, ◌≤◌, ◌<◌}
 use native.Mathlib.Omega.{arith}
 use mathlib.Core.Path.{◌≡◌, refl, sym, ap, subst, ◌∙◌}
 use mathlib.Core.List.{List, [], ◌∷◌}
-use mathlib.Core.Bool.{Bool, true, false, ◌&&◌, ◌||◌, or-false, true≢false}
+use mathlib.Core.Bool.{Bool, true, false, ◌&&◌}
 use lib.ListN.{length, get_or, take, drop, length-map, length-drop}
 use lib.Seq.{get_or-take, get_or-drop, drop-drop, take-take, length-take-le}
 use lib.Dec.{T, eqb, ltb, leb, eqb→eq, leb→le, ltb→lt}
@@ -14,23 +14,19 @@ use Rattle.search.proofs.Over.{get_d_map}
 use Rattle.search.proofs.Tests.{and_left, and_right, each_at}
 use Rattle.codepage.specs.Page.{Page}
 use Rattle.codepage.specs.Rearranged.{rearranged}
-use Rattle.codepage.specs.Blank.{is_blank_in}
-use Rattle.codepage.proofs.Pages.{blanks_as_in037, blank_low}
+use Rattle.codepage.specs.Blank.{is_blank, is_blank_in}
+use Rattle.codepage.proofs.Pages.{blanks_as_in037}
 use Rattle.text.specs.Chars.{is_ascii, is_digit, char_of, chars}
 use Rattle.text.specs.Text.{text_is, leading, kept, trimmed, text_of}
 use Rattle.text.specs.Generated.{starts_col, is_generated, text_chars}
 use Rattle.text.proofs.Trim.{kept_le, kept_some, leading_le}
 use Rattle.text.proofs.Decode.{lent, lent_length, some_kept, decode_none, decode_ascii, decode_page}
-use Rattle.text.proofs.Generated.{SpellsColAsIn037, char_of_other, letter}
+use Rattle.text.proofs.Generated.{SpellsColAsIn037, char_of_page, char_of_other, letter}
 
 -- what does not hold is false
 not_so : (b : Bool) → (b ≡ true → ⊥) → false ≡ b
 not_so true h = absurd (h refl)
 not_so false h = refl
-
-holds_true : (b : Bool) → T b → b ≡ true
-holds_true true t = refl
-holds_true false t = absurd t
 
 -- ---- what a generated text says of its bytes
 
@@ -92,60 +88,62 @@ inside (suc f) m zero l h = absurd (omega arith)
 inside (suc f) m (suc n) [] h = refl
 inside (suc f) m (suc n) (x ∷ xs) h = inside f m n xs (omega arith)
 
+-- what trimming leaves of bytes of the page, f of which are dropped in front
+module _ (page : Page) (bs : List ℕ) (f : ℕ) (e : f ≡ leading (is_blank_in page) bs) where
+  abbrev first : ℕ
+  first = char_of page page.alphabet (get_or bs f 0)
+
+  abbrev left : List ℕ
+  left = chars page page.alphabet (trimmed page bs)
+
+  trimmed_length : length (trimmed page bs) ≡ kept (is_blank_in page) bs - f
+  unfolding trimmed
+  trimmed_length =
+      length-take-le (kept (is_blank_in page) bs - leading (is_blank_in page) bs) (drop (leading (is_blank_in page) bs) bs)
+      (omega (arith, kept_le (is_blank_in page) bs, length-drop (leading (is_blank_in page) bs) bs))
+      ∙ ap (λ (i : ℕ). kept (is_blank_in page) bs - i) (sym e)
+
+  -- the text starts with the first byte that is kept
+  trimmed_first : 0 < kept (is_blank_in page) bs - f → get_or (trimmed page bs) 0 0 ≡ get_or bs f 0
+  unfolding trimmed
+  trimmed_first k =
+      let z : f + 0 ≡ f = omega arith in
+      rw (← e) (get_or-take (kept (is_blank_in page) bs - f) (drop f bs) 0 0 k ∙ get_or-drop f bs 0 0 ∙ ap (λ (i : ℕ). get_or bs i 0) z)
+
+  module _ (g : is_generated left ≡ true) where
+    kept_long : 3 < kept (is_blank_in page) bs - f
+    kept_long = omega (arith, long page page.alphabet (trimmed page bs) g, trimmed_length)
+
+    starts_c : first ≡ 0x43
+    starts_c =
+        ap (char_of page page.alphabet) (sym (trimmed_first (omega (arith, kept_long)))) ∙ (letters page page.alphabet (trimmed page bs) g).0
+
+  pub leading_inside : f ≤ length bs
+  leading_inside = omega (arith, leading_le (is_blank_in page) bs)
+
+  pub trimmed_short : length bs - f ≤ 3 → false ≡ is_generated left
+  trimmed_short m = not_so (is_generated left) (λ g. omega (arith, kept_long g, kept_le (is_blank_in page) bs))
+
+  pub trimmed_other : (first ≡ 0x43 → ⊥) → false ≡ is_generated left
+  trimmed_other k = not_so (is_generated left) (λ g. k (starts_c g))
+
+  module _ (k : ℕ) (y : k ≡ kept (is_blank_in page) bs) where
+    -- a C is no blank
+    pub trimmed_bounds : 3 < length bs - f → first ≡ 0x43 → (f < k) × (k ≤ length bs)
+    unfolding is_blank_in
+    trimmed_bounds l c =
+        let b = kept_le (is_blank_in page) bs in
+        let z : is_blank_in page (get_or bs f 0) ≡ false = ap is_blank (char_of_page page page.alphabet (get_or bs f 0) refl ∙ c) in
+        let n : each (is_blank_in page) bs ≡ false =
+        sym (not_so (each (is_blank_in page) bs) (λ t. subst T z (each_at (is_blank_in page) bs 0 (subst T (sym t) tt) f (omega arith)))) in
+        (omega (arith, e, y, kept_some (is_blank_in page) (is_blank_in page) (λ x u. u) bs n), omega arith)
+
+    pub trimmed_text : (t : Bool) → t ≡ is_generated (chars page page.alphabet (take (k - f) (drop f bs))) → t ≡ is_generated left
+    unfolding trimmed
+    trimmed_text t d = rw (← e, ← y) d
+
 -- a page that has its blanks and spells COL as page 037 does
 module _ (page : Page) (r : T (rearranged page.table)) (h : T (blanks_as_in037 page.table)) (sp : SpellsColAsIn037 page.table) where
-  module _ (bs : List ℕ) (f : ℕ) (e : f ≡ leading (is_blank_in page) bs) where
-    trimmed_length : length (trimmed page bs) ≡ kept (is_blank_in page) bs - f
-    unfolding trimmed
-    trimmed_length =
-        length-take-le (kept (is_blank_in page) bs - leading (is_blank_in page) bs) (drop (leading (is_blank_in page) bs) bs)
-        (omega (arith, kept_le (is_blank_in page) bs, length-drop (leading (is_blank_in page) bs) bs))
-        ∙ ap (λ (i : ℕ). kept (is_blank_in page) bs - i) (sym e)
-
-    -- the text starts with the first byte that is kept
-    trimmed_first : 0 < kept (is_blank_in page) bs - f → get_or (trimmed page bs) 0 0 ≡ get_or bs f 0
-    unfolding trimmed
-    trimmed_first k =
-        let z : f + 0 ≡ f = omega arith in
-        rw (← e) (get_or-take (kept (is_blank_in page) bs - f) (drop f bs) 0 0 k ∙ get_or-drop f bs 0 0 ∙ ap (λ (i : ℕ). get_or bs i 0) z)
-
-    module _ (g : is_generated (chars page page.alphabet (trimmed page bs)) ≡ true) where
-      kept_long : 3 < kept (is_blank_in page) bs - f
-      kept_long = omega (arith, long page page.alphabet (trimmed page bs) g, trimmed_length)
-
-      starts_c : get_or bs f 0 < 256 → get_or bs f 0 ≡ 0xC3
-      starts_c m =
-          let c : char_of page page.alphabet (get_or bs f 0) ≡ 0x43 =
-          ap (char_of page page.alphabet) (sym (trimmed_first (omega (arith, kept_long)))) ∙ (letters page page.alphabet (trimmed page bs) g).0 in
-          eqb-true (get_or bs f 0) 0xC3
-          (letter page sp page.alphabet refl 0x43 0xC3 sp.c (get_or bs f 0) m ∙ eq-eqb (char_of page page.alphabet (get_or bs f 0)) 0x43 c)
-
-    pub leading_inside : f ≤ length bs
-    leading_inside = omega (arith, leading_le (is_blank_in page) bs)
-
-    pub trimmed_short : length bs - f ≤ 3 → false ≡ is_generated (chars page page.alphabet (trimmed page bs))
-    trimmed_short m =
-        not_so (is_generated (chars page page.alphabet (trimmed page bs))) (λ g. omega (arith, kept_long g, kept_le (is_blank_in page) bs))
-
-    pub trimmed_other : get_or bs f 0 < 256 → (get_or bs f 0 ≡ 0xC3 → ⊥) → false ≡ is_generated (chars page page.alphabet (trimmed page bs))
-    trimmed_other m k = not_so (is_generated (chars page page.alphabet (trimmed page bs))) (λ g. k (starts_c g m))
-
-    module _ (k : ℕ) (y : k ≡ kept (is_blank_in page) bs) where
-      -- a C of the page is no blank
-      pub trimmed_bounds : 3 < length bs - f → get_or bs f 0 ≡ 0xC3 → (f < k) × (k ≤ length bs)
-      trimmed_bounds l c =
-          let b = kept_le (is_blank_in page) bs in
-          let n : each (is_blank_in page) bs ≡ false =
-          sym (not_so (each (is_blank_in page) bs) (λ t.
-          let w : T (is_blank_in page (get_or bs f 0)) = each_at (is_blank_in page) bs 0 (subst T (sym t) tt) f (omega arith) in
-          omega (arith, c, blank_low page h r (get_or bs f 0) (holds_true (is_blank_in page (get_or bs f 0)) w)))) in
-          (omega (arith, e, y, kept_some (is_blank_in page) (is_blank_in page) (λ x u. u) bs n), omega arith)
-
-      pub trimmed_text : (t : Bool) → t ≡ is_generated (chars page page.alphabet (take (k - f) (drop f bs)))
-          → t ≡ is_generated (chars page page.alphabet (trimmed page bs))
-      unfolding trimmed
-      trimmed_text t d = rw (← e, ← y) d
-
   module _ (n : 1 ≡ page.alphabet → ⊥) (s : List ℕ) (p c : ℕ) (l : p + c ≤ length s) where
     abbrev bytes : List ℕ
     bytes = take c (drop p s)
@@ -155,10 +153,14 @@ module _ (page : Page) (r : T (rearranged page.table)) (h : T (blanks_as_in037 p
     unfolding is_ascii
     not_page a = not_so (is_generated (chars page page.alphabet (trimmed page bytes))) (λ g.
         let f = leading (is_blank_in page) bytes in
-        let k : 3 < kept (is_blank_in page) bytes - f = kept_long bytes f refl g in
+        let k : 3 < kept (is_blank_in page) bytes - f = kept_long page bytes f refl g in
         let b = kept_le (is_blank_in page) bytes in
         let w : get_or bytes f 0 < 0x80 = ltb→lt (get_or bytes f 0) 0x80 (each_at (λ b. ltb b 0x80) bytes 0 (subst T (sym a) tt) f (omega arith)) in
-        omega (arith, starts_c bytes f refl g (omega arith)))
+        let x : get_or bytes f 0 ≡ 0xC3 =
+        eqb-true (get_or bytes f 0) 0xC3
+        (letter page sp page.alphabet refl 0x43 0xC3 sp.c (get_or bytes f 0) (omega arith)
+        ∙ eq-eqb (char_of page page.alphabet (get_or bytes f 0)) 0x43 (starts_c page bytes f refl g)) in
+        omega arith)
 
     pub ascii_chars : is_ascii bytes ≡ true → text_chars page s (text_of page s p c) ≡ chars page 1 bytes
     ascii_chars a = go (eqb c 0) refl
@@ -179,18 +181,20 @@ module _ (page : Page) (r : T (rearranged page.table)) (h : T (blanks_as_in037 p
         let i : take (k - f) (drop f bytes) ≡ take (k - f) (drop f (drop p s)) = inside f (k - f) c (drop p s) (omega (arith, lent_length s p c l)) in
         ap (text_chars page s) (sym t) ∙ ap (chars page page.alphabet) (ap (take (k - f)) (sym (drop-drop f p s)) ∙ sym i)
 
-    either : (b d : Bool) → b ≡ is_generated (chars page 1 bytes) → d ≡ is_generated (chars page page.alphabet (trimmed page bytes))
-        → (b || d) ≡ is_generated (text_chars page s (text_of page s p c))
-    either b d x y = go (is_ascii bytes) refl
-      where
-        go : (z : Bool) → is_ascii bytes ≡ z → (b || d) ≡ is_generated (text_chars page s (text_of page s p c))
-        go true a = rw (ascii_chars a, ← x, y ∙ sym (not_page a)) (or-false b)
-        go false a =
-            let w : b ≡ false = x ∙ sym (not_so (is_generated (chars page 1 bytes)) (λ g. true≢false (sym (generated_ascii page 1 n bytes g) ∙ a))) in
-            rw (page_chars a, ← y, w) refl
+    -- as the code lends them: COL and digits of ASCII are all ASCII; else the page's answer holds, which is false of ASCII
+    abbrev lent_bytes : List ℕ
+    lent_bytes = take (p + c - p) (drop p s)
 
-    -- as the code lends them
-    pub generated_at : (b d : Bool) → b ≡ is_generated (chars page 1 (take (p + c - p) (drop p s)))
-        → d ≡ is_generated (chars page page.alphabet (trimmed page (take (p + c - p) (drop p s))))
-        → (b || d) ≡ is_generated (text_chars page s (text_of page s p c))
-    generated_at b d x y = either b d (rw (lent s p c) at x) (rw (lent s p c) at y)
+    pub generated_first : is_generated (chars page 1 lent_bytes) ≡ true → true ≡ is_generated (text_chars page s (text_of page s p c))
+    generated_first x =
+        let g : is_generated (chars page 1 bytes) ≡ true = rw (lent s p c) at x in
+        sym (ap is_generated (ascii_chars (generated_ascii page 1 n bytes g)) ∙ g)
+
+    pub generated_second : (d : Bool) → is_generated (chars page 1 lent_bytes) ≡ false
+        → d ≡ is_generated (chars page page.alphabet (trimmed page lent_bytes)) → d ≡ is_generated (text_chars page s (text_of page s p c))
+    generated_second d x y = go (is_ascii bytes) refl (rw (lent s p c) at x) (rw (lent s p c) at y)
+      where
+        go : (z : Bool) → is_ascii bytes ≡ z → is_generated (chars page 1 bytes) ≡ false
+            → d ≡ is_generated (chars page page.alphabet (trimmed page bytes)) → d ≡ is_generated (text_chars page s (text_of page s p c))
+        go true a w u = u ∙ sym (not_page a) ∙ sym w ∙ ap is_generated (sym (ascii_chars a))
+        go false a w u = u ∙ ap is_generated (sym (page_chars a))

@@ -5,70 +5,51 @@ ghost use Rattle.std.specs.Prelude.{◌≡◌, ◌+◌, ◌<◌, ◌≤◌};
 ghost use lib.ListN.{length};
 ghost use Rattle.search.specs.Search.{each};
 ghost use Rattle.codepage.specs.Page.{page037};
+ghost use Rattle.text.specs.Alphabet.{alphabet_number};
 ghost use Rattle.text.specs.Chars.{chars, is_digit_of};
 ghost use Rattle.text.specs.Text.{trimmed, text_of};
 ghost use Rattle.text.specs.Generated.{is_generated, starts_col, text_chars};
 
-fn is_digit_in(byte: u8, alphabet: u8) -> bool
-    ensures { result ≡ is_digit_of page037 alphabet byte }
-{
-    if alphabet == 2 {
-        (byte >= 0xF0) & (byte <= 0xF9)
-    } else {
-        (byte >= 0x30) & (byte <= 0x39)
-    }
-}
+use text::Alphabet;
 
-fn starts_col(bytes: &[u8], alphabet: u8) -> bool
+fn starts_col(bytes: &[u8], alphabet: Alphabet) -> bool
     requires { 3 < length bytes.now }
-    ensures { result ≡ starts_col (chars page037 alphabet bytes.now) }
+    ensures { result ≡ starts_col (chars page037 (alphabet_number alphabet) bytes.now) }
 {
-    if alphabet == 2 {
-        (bytes[0] == 0xC3) & (bytes[1] == 0xD6) & (bytes[2] == 0xD3)
-    } else {
-        (bytes[0] == 0x43) & (bytes[1] == 0x4F) & (bytes[2] == 0x4C)
-    }
+    alphabet.character(bytes[0]) == b'C'
+        && alphabet.character(bytes[1]) == b'O'
+        && alphabet.character(bytes[2]) == b'L'
 }
 
-fn all_digits(bytes: &[u8], alphabet: u8) -> bool
-    ensures { result ≡ each (is_digit_of page037 alphabet) bytes.now }
+fn all_digits(bytes: &[u8], alphabet: Alphabet) -> bool
+    ensures { result ≡ each (is_digit_of page037 (alphabet_number alphabet)) bytes.now }
 {
-    let mut i = 0;
-    while i < bytes.len() {
-        if !is_digit_in(bytes[i], alphabet) {
-            return false;
-        }
-        i += 1;
-    }
-    true
+    bytes.iter().all(|byte| alphabet.is_digit(*byte))
 }
 
 // Whether a text's characters are COL and one or more digits, as the reader itself names a column without a name.
-pub fn is_generated(bytes: &[u8], alphabet: u8) -> bool
-    ensures { result ≡ is_generated (chars page037 alphabet bytes.now) }
+pub fn is_generated(bytes: &[u8], alphabet: Alphabet) -> bool
+    ensures { result ≡ is_generated (chars page037 (alphabet_number alphabet) bytes.now) }
 {
     if bytes.len() <= 3 {
         return false;
     }
-    if !starts_col(bytes, alphabet) {
-        return false;
-    }
-    all_digits(&bytes[3..], alphabet)
+    starts_col(bytes, alphabet) && all_digits(&bytes[3..], alphabet)
 }
 
 // The same of bytes of page 037, trimmed. Most names end at the first test: blanks at the end are looked for only after a C.
 fn is_generated_trimmed(bytes: &[u8]) -> bool
     ensures { result ≡ is_generated (chars page037 2 (trimmed page037 bytes.now)) }
 {
-    let first = text::leading_blanks(bytes, 2);
+    let first = text::leading_blanks(bytes, Alphabet::Page037);
     if bytes.len() - first <= 3 {
         return false;
     }
-    if bytes[first] != 0xC3 {
+    if Alphabet::Page037.character(bytes[first]) != b'C' {
         return false;
     }
-    let end = text::kept_bytes(bytes, 2);
-    is_generated(&bytes[first..end], 2)
+    let end = text::kept_bytes(bytes, Alphabet::Page037);
+    is_generated(&bytes[first..end], Alphabet::Page037)
 }
 
 // The same of the text of a string. It need not be decoded: COL and digits of ASCII are all ASCII, and a C of page 037 is not.
@@ -77,5 +58,5 @@ pub fn is_generated_at(reply: &[u8], start: usize, length: usize) -> bool
     ensures { result ≡ is_generated (text_chars page037 reply.now (text_of page037 reply.now start length)) }
 {
     let bytes = &reply[start..start + length];
-    is_generated(bytes, 1) | is_generated_trimmed(bytes)
+    is_generated(bytes, Alphabet::Ascii) || is_generated_trimmed(bytes)
 }

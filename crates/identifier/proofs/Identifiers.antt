@@ -1,12 +1,12 @@
 -- Identifiers: the ways out of the functions that tell them.
-use Prim.Native.Nat.{ℕ, ◌+◌, ◌-◌, ◌≤◌, ◌<◌}
+use Prim.Native.Nat.{ℕ, ◌+◌, ◌-◌, ◌≤◌}
 use native.Mathlib.Omega.{arith}
 use mathlib.Core.Path.{◌≡◌, refl, sym, ap, ◌∙◌}
 use mathlib.Core.List.{List, [], ◌∷◌}
-use mathlib.Core.Bool.{Bool, true, false, not, ◌||◌, true≢false}
+use mathlib.Core.Bool.{Bool, true, false, not, beq, ◌&&◌, true≢false}
 use lib.ListN.{length, take, drop, length-map}
-use lib.Dec.{T, leb}
-use borrow.Author.Tests.{le-leb, lt-leb}
+use lib.Dec.{T, eqb, leb}
+use borrow.Author.Tests.{eqb-true, eqb-false, le-leb, lt-leb}
 use Rattle.search.specs.Search.{each}
 use Rattle.codepage.specs.Page.{Page}
 use Rattle.codepage.specs.Rearranged.{rearranged}
@@ -16,7 +16,8 @@ use Rattle.text.specs.Chars.{is_ascii, is_name_char, char_of, chars, is_name_of,
 use Rattle.text.specs.Text.{leading, kept, trimmed_of, trimmed, placed, text_on}
 use Rattle.text.specs.Generated.{is_generated}
 use Rattle.text.proofs.Decode.{lent}
-use Rattle.text.proofs.Generated.{SpellsColAsIn037, char_of_other, each_map}
+use Rattle.std.proofs.lemmas.List.Folds.{list_all-map}
+use Rattle.text.proofs.Generated.{SpellsColAsIn037, char_of_other}
 use Rattle.text.proofs.Bytes.{blank_same}
 use Rattle.generated.proofs.Quick.{ascii_chars, page_chars}
 use Rattle.text.proofs.Trim.{kept_le}
@@ -25,40 +26,18 @@ use Rattle.identifier.proofs.Trims.{trimmed_map, trimmed_twice}
 
 -- ---- characters of bytes
 
-module _ (page : Page) (a : ℕ) (bs : List ℕ) where
-  same_length : length (chars page a bs) ≡ length bs
-  same_length = length-map bs (char_of page a)
-
-  pub identifier_none : length bs < 1 → false ≡ is_identifier (chars page a bs)
-  unfolding is_identifier
-  identifier_none h =
-      let e : leb 1 (length (chars page a bs)) ≡ false = lt-leb 1 (length (chars page a bs)) (omega (arith, same_length)) in
-      rw e refl
-
-  module _ (l : 1 ≤ length bs) where
-    some : leb 1 (length (chars page a bs)) ≡ true
-    some = le-leb 1 (length (chars page a bs)) (omega (arith, same_length))
-
-    pub identifier_long : 128 < length bs → false ≡ is_identifier (chars page a bs)
-    unfolding is_identifier
-    identifier_long h =
-        let e : leb (length (chars page a bs)) 128 ≡ false = lt-leb (length (chars page a bs)) 128 (omega (arith, same_length)) in
-        rw (some, e) refl
-
-    module _ (m : length bs ≤ 128) (b : Bool) (e : b ≡ each (is_name_of page a) bs) where
-      few : leb (length (chars page a bs)) 128 ≡ true
-      few = le-leb (length (chars page a bs)) 128 (omega (arith, same_length))
-
-      named : each is_name_char (chars page a bs) ≡ b
-      named = each_map is_name_char (char_of page a) bs ∙ sym e
-
-      pub identifier_other : b ≡ false → false ≡ is_identifier (chars page a bs)
-      unfolding is_identifier
-      identifier_other f = rw (some, few, named, f) refl
-
-      pub identifier_named : b ≡ true → (g : Bool) → g ≡ is_generated (chars page a bs) → not g ≡ is_identifier (chars page a bs)
-      unfolding is_identifier
-      identifier_named f g d = rw (some, few, named, f, ← d) refl
+-- the test on characters, by bytes
+pub identifier_is : (page : Page) (a : ℕ) (bs : List ℕ) → is_identifier (chars page a bs)
+    ≡ (not (eqb (length bs) 0) && (leb (length bs) 128 && (each (is_name_of page a) bs && not (is_generated (chars page a bs)))))
+unfolding is_identifier
+identifier_is page a bs =
+    rw (length-map bs (char_of page a), list_all-map is_name_char (char_of page a) bs)
+    (ap (λ (t : Bool). t && (leb (length bs) 128 && (each (is_name_of page a) bs && not (is_generated (chars page a bs)))))
+    (go (eqb (length bs) 0) refl))
+  where
+    go : (t : Bool) → eqb (length bs) 0 ≡ t → leb 1 (length bs) ≡ not t
+    go true e = lt-leb 1 (length bs) (omega (arith, eqb-true (length bs) 0 e))
+    go false e = le-leb 1 (length bs) (omega (arith, eqb-false (length bs) 0 e))
 
 -- characters that stand for themselves
 chars_same : (page : Page) (a : ℕ) → (a ≡ page.alphabet → ⊥) → (bs : List ℕ) → chars page a bs ≡ bs
@@ -136,11 +115,15 @@ module _ (page : Page) (r : T (rearranged page.table)) (h : T (blanks_as_in037 p
     pub at_second : is_ascii lent_bytes ≡ false → d ≡ is_identifier_at page s p c
     at_second e = y ∙ at_page e
 
-    pub at_neither : (b || d) ≡ false → false ≡ is_identifier_at page s p c
-    at_neither e = go (is_ascii lent_bytes) refl b d refl refl e
+    pub at_both : beq b d ≡ true → d ≡ is_identifier_at page s p c
+    at_both e = go (is_ascii lent_bytes) refl (same b d e)
       where
-        go : (z : Bool) → is_ascii lent_bytes ≡ z → (u v : Bool) → b ≡ u → d ≡ v → (u || v) ≡ false → false ≡ is_identifier_at page s p c
-        go true a false v i j k = sym i ∙ at_first a
-        go false a false false i j k = sym j ∙ at_second a
-        go false a false true i j k = sym k ∙ sym j ∙ at_second a
-        go z a true v i j k = absurd (true≢false k)
+        go : (z : Bool) → is_ascii lent_bytes ≡ z → b ≡ d → d ≡ is_identifier_at page s p c
+        go true a u = sym u ∙ at_first a
+        go false a u = at_second a
+
+        same : (b d : Bool) → beq b d ≡ true → b ≡ d
+        same true true k = refl
+        same true false k = absurd (true≢false (sym k))
+        same false true k = absurd (true≢false (sym k))
+        same false false k = refl

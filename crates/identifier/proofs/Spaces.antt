@@ -1,39 +1,22 @@
 -- Spaces in front, block by block: trimming drops them, so that they may be left out before.
-use Prim.Native.Nat.{ℕ, ◌+◌, ◌-◌, ◌≤◌}
-use native.Mathlib.Omega.{arith}
+use Prim.Native.Nat.{ℕ}
 use mathlib.Core.Path.{◌≡◌, refl, sym, ap, ◌∙◌}
 use mathlib.Core.List.{List, [], ◌∷◌, ◌++◌}
-use mathlib.Core.Bool.{Bool, true, false, not, ◌&&◌, true≢false}
-use lib.ListN.{length, take, drop, take-append-drop, length-drop}
-use lib.Seq.{take_all, drop-drop}
+use mathlib.Core.Bool.{Bool, true, false, ◌&&◌, true≢false}
+use lib.ListN.{take, drop, replicate, take-append-drop}
+use lib.Pointwise.{pointwise, bytes_decides}
 use lib.Dec.{eqb}
-use borrow.Author.Tests.{eqb-true, ne_eqb}
-use Rattle.search.specs.Search.{pick, each, count}
+use borrow.Author.Tests.{eqb-true}
+use Rattle.search.specs.Search.{each}
 use Rattle.codepage.specs.Page.{Page}
 use Rattle.codepage.specs.Blank.{is_blank}
 use Rattle.text.specs.Chars.{char_of, chars}
 use Rattle.text.specs.Text.{trimmed_of}
 use Rattle.text.proofs.Generated.{char_of_other}
-use Rattle.identifier.specs.Identifier.{is_identifier}
 use Rattle.identifier.proofs.Trims.{trimmed_drop}
 
 abbrev pub is_space : ℕ → Bool
 is_space b = eqb b 0x20
-
-abbrev pub is_other : ℕ → Bool
-is_other b = not (eqb b 0x20)
-
--- all are spaces where no other is counted
-pub all_counted : (bs : List ℕ) (n : ℕ) → n ≡ count is_other bs → eqb n 0 ≡ each is_space bs
-all_counted bs n e = ap (λ (k : ℕ). eqb k 0) e ∙ none bs
-  where
-    none : (bs : List ℕ) → eqb (count is_other bs) 0 ≡ each is_space bs
-    none [] = refl
-    none (b ∷ bs) = go (is_space b) (none bs)
-      where
-        go : (t : Bool) → eqb (count is_other bs) 0 ≡ each is_space bs → eqb (pick (not t) 1 0 + count is_other bs) 0 ≡ (t && each is_space bs)
-        go true r = let z : 0 + count is_other bs ≡ count is_other bs = omega arith in ap (λ (k : ℕ). eqb k 0) z ∙ r
-        go false r = ne_eqb (1 + count is_other bs) 0 (λ z. omega arith)
 
 module _ (page : Page) (a : ℕ) (n : a ≡ page.alphabet → ⊥) where
   spaces_front : (xs ys : List ℕ) → each is_space xs ≡ true
@@ -49,22 +32,10 @@ module _ (page : Page) (a : ℕ) (n : a ≡ page.alphabet → ⊥) where
           trimmed_drop is_blank (char_of page a x) (chars page a (xs ++ ys)) b ∙ r e
       go false u e r = absurd (true≢false (sym e))
 
-  -- a block more
-  pub spaces_more : (bs : List ℕ) (i e : ℕ) → i ≤ e → each is_space (take (e - i) (drop i bs)) ≡ true
-      → trimmed_of is_blank (chars page a (drop i bs)) ≡ trimmed_of is_blank (chars page a bs)
-      → trimmed_of is_blank (chars page a (drop e bs)) ≡ trimmed_of is_blank (chars page a bs)
-  spaces_more bs i e h s r =
-      let k : i + (e - i) ≡ e = omega arith in
-      let d : drop (e - i) (drop i bs) ≡ drop e bs = drop-drop (e - i) i bs ∙ ap (λ (j : ℕ). drop j bs) k in
-      ap (λ (l : List ℕ). trimmed_of is_blank (chars page a l)) (sym d)
-      ∙ sym (spaces_front (take (e - i) (drop i bs)) (drop (e - i) (drop i bs)) s)
-      ∙ ap (λ (l : List ℕ). trimmed_of is_blank (chars page a l)) (take-append-drop (e - i) (drop i bs))
-      ∙ r
-
-  -- what is left, as the code lends it
-  pub spaces_left : (bs : List ℕ) (i : ℕ) → trimmed_of is_blank (chars page a (drop i bs)) ≡ trimmed_of is_blank (chars page a bs)
-      → (b : Bool) → b ≡ is_identifier (trimmed_of is_blank (chars page a (take (length bs - i) (drop i bs))))
-      → b ≡ is_identifier (trimmed_of is_blank (chars page a bs))
-  spaces_left bs i r b e =
-      let w : take (length bs - i) (drop i bs) ≡ drop i bs = take_all (length bs - i) (drop i bs) (omega (arith, length-drop i bs)) in
-      e ∙ ap (λ (l : List ℕ). is_identifier (trimmed_of is_blank (chars page a l))) w ∙ ap is_identifier r
+  -- a block less that equals 64 spaces
+  pub spaces_less : (bs r : List ℕ) → pointwise eqb (take 64 bs) (replicate 64 0x20) ≡ true → r ≡ drop 64 bs
+      → trimmed_of is_blank (chars page a r) ≡ trimmed_of is_blank (chars page a bs)
+  spaces_less bs r e y =
+      ap (λ (l : List ℕ). trimmed_of is_blank (chars page a l)) y
+      ∙ sym (spaces_front (take 64 bs) (drop 64 bs) (ap (each is_space) ((bytes_decides (take 64 bs) (replicate 64 0x20)).0 e)))
+      ∙ ap (λ (l : List ℕ). trimmed_of is_blank (chars page a l)) (take-append-drop 64 bs)

@@ -1,41 +1,37 @@
 // Texts that may be the name of a column: what the name scan takes.
 #![tactic(auto)]
 
-ghost use Rattle.std.specs.Prelude.{◌≡◌, ◌+◌, ◌≤◌, eqb};
-ghost use lib.ListN.{length, drop};
-ghost use Rattle.search.specs.Search.{each};
+ghost use Rattle.std.specs.Prelude.{◌≡◌, ◌+◌, ◌≤◌};
+ghost use lib.ListN.{length};
 ghost use Rattle.codepage.specs.Page.{page037};
 ghost use Rattle.codepage.specs.Blank.{is_blank};
+ghost use Rattle.text.specs.Alphabet.{alphabet_number};
 ghost use Rattle.text.specs.Chars.{chars};
 ghost use Rattle.text.specs.Text.{trimmed_of};
 ghost use Rattle.identifier.specs.Identifier.{is_identifier, is_identifier_at};
 
+use text::Alphabet;
+
 // The length is tested first: a long string is left before its characters are looked at.
-fn is_identifier_in(bytes: &[u8], alphabet: u8) -> bool
-    ensures { result ≡ is_identifier (chars page037 alphabet bytes.now) }
+fn is_identifier_in(bytes: &[u8], alphabet: Alphabet) -> bool
+    ensures { result ≡ is_identifier (chars page037 (alphabet_number alphabet) bytes.now) }
 {
-    if bytes.len() < 1 {
+    if bytes.is_empty() || 128 < bytes.len() {
         return false;
     }
-    if 128 < bytes.len() {
-        return false;
-    }
-    if !text::all_name_chars(bytes, alphabet) {
-        return false;
-    }
-    !generated::is_generated(bytes, alphabet)
+    text::all_name_chars(bytes, alphabet) && !generated::is_generated(bytes, alphabet)
 }
 
 // Of characters that stand for themselves.
 pub fn is_identifier(bytes: &[u8]) -> bool
     ensures { result ≡ is_identifier bytes.now }
 {
-    is_identifier_in(bytes, 1)
+    is_identifier_in(bytes, Alphabet::Ascii)
 }
 
 // Only the blanks at the ends and what is between are looked at.
-fn is_identifier_trimmed(bytes: &[u8], alphabet: u8) -> bool
-    ensures { result ≡ is_identifier (trimmed_of is_blank (chars page037 alphabet bytes.now)) }
+fn is_identifier_trimmed(bytes: &[u8], alphabet: Alphabet) -> bool
+    ensures { result ≡ is_identifier (trimmed_of is_blank (chars page037 (alphabet_number alphabet) bytes.now)) }
 {
     let first = text::leading_blanks(bytes, alphabet);
     if bytes.len() <= first {
@@ -48,49 +44,31 @@ fn is_identifier_trimmed(bytes: &[u8], alphabet: u8) -> bool
     is_identifier_in(&bytes[first..end], alphabet)
 }
 
-// The count fits 8 bits, so that many bytes are looked at at once.
-fn all_spaces(block: &[u8]) -> bool
-    requires { length block.now ≤ 64 }
-    ensures { result ≡ each (λ b. eqb b 0x20) block.now }
+// What follows the blocks of spaces in front: in ASCII, trimming drops them anyhow. The compiler compares many bytes of a block at once.
+fn after_spaces(bytes: &[u8]) -> &[u8]
+    ensures { trimmed_of is_blank (chars page037 1 result.now) ≡ trimmed_of is_blank (chars page037 1 bytes.now) }
 {
-    let mut others: u8 = 0;
-    let mut i = 0;
-    while i < block.len() {
-        others += (block[i] != 0x20) as u8;
-        i += 1;
+    let mut left = bytes;
+    while let Some(rest) = left.strip_prefix(&[b' '; 64]) {
+        left = rest;
     }
-    others == 0
+    left
 }
 
-// How many bytes lie in the blocks of spaces in front: in ASCII, trimming drops them anyhow.
-fn leading_spaces(bytes: &[u8]) -> usize
-    ensures { (result ≤ length bytes.now)
-        × (trimmed_of is_blank (chars page037 1 (drop result bytes.now)) ≡ trimmed_of is_blank (chars page037 1 bytes.now)) }
-{
-    let mut i = 0;
-    while 64 <= bytes.len() - i {
-        if !all_spaces(&bytes[i..i + 64]) {
-            return i;
-        }
-        i += 64;
-    }
-    i
-}
-
-// Whether the text of a string may be a name. It is tested in both alphabets, and only where one passes are all bytes asked which of them it is.
+// Whether the text of a string may be a name. It is tested in both alphabets, and only where they differ are all bytes asked which of them it is.
 pub fn is_identifier_at(reply: &[u8], start: usize, length: usize) -> bool
     requires { start + length ≤ lib.ListN.length reply.now }
     ensures { result ≡ is_identifier_at page037 reply.now start length }
 {
     let bytes = &reply[start..start + length];
-    let spaces = leading_spaces(bytes);
-    let in_ascii = is_identifier_trimmed(&bytes[spaces..], 1);
-    let in_page = is_identifier_trimmed(bytes, 2);
-    if !(in_ascii | in_page) {
-        return false;
+    let in_ascii = is_identifier_trimmed(after_spaces(bytes), Alphabet::Ascii);
+    let in_page = is_identifier_trimmed(bytes, Alphabet::Page037);
+    if in_ascii == in_page {
+        return in_page;
     }
     if text::is_ascii(bytes) {
-        return in_ascii;
+        in_ascii
+    } else {
+        in_page
     }
-    in_page
 }

@@ -1,52 +1,87 @@
-// Text put at the end of a lent line, of which the first `used` bytes are written; each function says how many are written then.
-// What finds no room is cut off, so no caller has to know beforehand that its text fits. A `used` past the line's end is the line's end.
+// A line that is put together text by text, with room for `N` bytes. What finds no room is cut off, so no caller has to know beforehand that
+// its text fits.
 #![tactic(auto)]
 
-ghost use Rattle.std.specs.Prelude.{◌≡◌, ◌-◌, min};
+ghost use Rattle.std.specs.Prelude.{◌≡◌, ◌-◌, [], length};
 ghost use Rattle.decimal.specs.Decimal.{decimal_of};
-ghost use Rattle.line.specs.Line.{Appended, gap};
+ghost use Rattle.line.specs.Line.{with_text, gap, blanks};
 
-fn least(a: usize, b: usize) -> usize
-    ensures { result ≡ min a b }
-{
-    if a < b { a } else { b }
+use std::marker::Model;
+
+// The first `used` bytes are written.
+#[derive(Debug, Drop)]
+pub struct Line<const N: usize> {
+    bytes: [u8; N],
+    used: usize,
 }
 
-// How much is missing to the whole: 0 where nothing is.
-fn missing(whole: usize, part: usize) -> usize
-    ensures { result ≡ whole - part }
-{
-    if part < whole { whole - part } else { 0 }
+// Clauses see the bytes that are written.
+impl<const N: usize> Model for Line<N> {
+    ghost use Rattle.std.specs.Prelude.{ℕ, List, ◌≤◌, take};
+
+    ghost Value = { List ℕ };
+
+    ghost view = { λ line. take line.used line.bytes };
+
+    ghost invariant = { λ line. line.used ≤ N };
 }
 
-pub fn append(line: &mut [u8], used: usize, bytes: &[u8]) -> usize
-    ensures { Appended line.old used bytes.now line.new result }
-{
-    let start = least(used, line.len());
-    let count = least(bytes.len(), line.len() - start);
-    let end = start + count;
-    line[start..end].copy_from_slice(&bytes[0..count]);
-    end
-}
-
-pub fn append_decimal(line: &mut [u8], used: usize, number: u64) -> usize
-    ensures { Appended line.old used (decimal_of number) line.new result }
-{
-    let digits = decimal::digits_of(number);
-    let characters = digits.characters;
-    let start = digits.start;
-    append(line, used, &characters[start..])
-}
-
-// Ends a cell whose text was written from `start` on: blanks up to the column's width, and two more.
-pub fn append_padded(line: &mut [u8], used: usize, start: usize, width: usize) -> usize
-    ensures { Appended line.old used (gap width (used - start)) line.new result }
-{
-    let mut left = missing(width, missing(used, start));
-    let mut next = append(line, used, b"  ");
-    while left > 0 {
-        next = append(line, next, b" ");
-        left -= 1;
+impl<const N: usize> Line<N> {
+    pub fn new() -> Self
+        ensures { result ≡ [] }
+    {
+        Line {
+            bytes: [0; N],
+            used: 0,
+        }
     }
-    next
+
+    pub fn len(&self) -> usize
+        ensures { result ≡ length self.now }
+    {
+        self.used
+    }
+
+    pub fn as_bytes(&self) -> &[u8]
+        ensures { result.now ≡ self.now }
+    {
+        &self.bytes[..self.used]
+    }
+
+    pub fn append(&mut self, text: &[u8])
+        ensures { self.new ≡ with_text N self.old text.now }
+    {
+        let start = self.used;
+        let count = (N - start).min(text.len());
+        let end = start + count;
+        let bytes = &mut self.bytes[..];
+        bytes[start..end].copy_from_slice(&text[..count]);
+        self.used = end;
+    }
+
+    pub fn append_decimal(&mut self, number: u64)
+        ensures { self.new ≡ with_text N self.old (decimal_of number) }
+    {
+        self.append(decimal::digits_of(number).as_bytes());
+    }
+
+    fn append_blanks(&mut self, count: usize)
+        ensures { self.new ≡ with_text N self.old (blanks count) }
+    {
+        let start = self.used;
+        let count = (N - start).min(count);
+        let end = start + count;
+        let bytes = &mut self.bytes[..];
+        bytes[start..end].fill(b' ');
+        self.used = end;
+    }
+
+    // Ends a cell whose text was written from `start` on: blanks up to the column's width, and two more.
+    pub fn pad(&mut self, start: usize, width: usize)
+        ensures { self.new ≡ with_text N self.old (gap width (length self.old - start)) }
+    {
+        let missing = width.saturating_sub(self.used.saturating_sub(start));
+        self.append_blanks(2);
+        self.append_blanks(missing);
+    }
 }

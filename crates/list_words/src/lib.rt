@@ -1,64 +1,52 @@
-// Lists of columns as words: whether two make the same cut, and how wide a row can be.
+// Lists of columns as words: what is asked of lists of records can be asked of them too.
 #![tactic(auto)]
 
-ghost use Rattle.std.specs.Prelude.{true, ◌≡◌, ◌/◌, ◌≤◌, length};
-ghost use Rattle.outcome.specs.Refusal.{refusal_of};
-ghost use Rattle.columns.specs.Cut.{same_cut};
-ghost use Rattle.columns.specs.Row.{row_refusal, row_answer};
-ghost use Rattle.column_words.specs.Columns.{columns_in, are_columns};
+ghost use Rattle.std.specs.Prelude.{◌≡◌, true, false, List, map, MatchOption};
+ghost use Rattle.std.specs.List.{list_all};
+ghost use Rattle.types.specs.declared.ColumnMetadata.{ColumnMetadata};
+ghost use Rattle.column_words.specs.Columns.{column_in, is_column, columns_in, are_columns};
 
-use columns::RowAnswer;
-use outcome::Outcome;
+use column_words::{ColumnWords, WORDS_PER_COLUMN};
+use columns::ColumnList;
+use std::marker::Model;
+use types::ColumnMetadata;
 
-// Whether the columns of two lists are cut from a row alike.
-pub fn same_columns(first: &[u64], second: &[u64]) -> bool
-    requires first { are_columns first.now ≡ true }
-    requires second { are_columns second.now ≡ true }
-    ensures { result ≡ same_cut (columns_in first.now) (columns_in second.now) }
-{
-    let count = first.len() / 22;
-    if count != second.len() / 22 {
-        return false;
-    }
-    let mut at = 0;
-    let mut i = 0;
-    while i < count {
-        let c = column_words::column_at(first, at);
-        let d = column_words::column_at(second, at);
-        if !columns::same_column(c, d) {
-            return false;
-        }
-        at += 22;
-        i += 1;
-    }
-    true
+// A list of columns that is held as their words.
+#[derive(Drop)]
+pub struct WordColumns<'a> {
+    columns: &'a [ColumnWords],
 }
 
-// The sum of the columns' widths, up to a column of a large type.
-pub fn add_widths(words: &[u64]) -> RowAnswer
-    requires are_columns { are_columns words.now ≡ true }
-    requires few { length words.now / 22 ≤ 4095 }
-    ensures refuses { refusal_of result.outcome ≡ row_refusal (columns_in words.now) }
-    ensures gives { result.width ≡ row_answer (columns_in words.now) }
-{
-    let count = words.len() / 22;
-    let mut width = 0;
-    let mut at = 0;
-    let mut i = 0;
-    while i < count {
-        let column = column_words::column_at(words, at);
-        if widths::is_large_column(column) {
-            return RowAnswer {
-                outcome: Outcome::LargeObject(column.number),
-                width: 0,
-            };
+impl<'a> Model for WordColumns<'a> {
+    ghost Value = { List ColumnMetadata };
+
+    ghost view = { λ s. map (λ words. column_in words 0) s.columns.now };
+
+    ghost invariant = { λ s. list_all (λ words. is_column words 0) s.columns.now ≡ true };
+}
+
+impl<'a> WordColumns<'a> {
+    // The columns of words that stand for columns and nothing else.
+    pub fn new(words: &'a [u64]) -> Option<Self>
+        ensures { MatchOption result (are_columns words.now ≡ false) (λ columns. (are_columns words.now ≡ true) × (columns ≡ columns_in words.now)) }
+    {
+        if !column_words::are_columns(words) {
+            return None;
         }
-        width += widths::column_width(column);
-        at += 22;
-        i += 1;
+        let (columns, _) = words.as_chunks::<WORDS_PER_COLUMN>();
+        Some(WordColumns { columns })
     }
-    RowAnswer {
-        outcome: Outcome::Accepted,
-        width,
+}
+
+impl<'a> ColumnList for &WordColumns<'a> {
+    ghost columns = { λ s. s.now };
+
+    fn count(&self) -> usize {
+        self.columns.len()
+    }
+
+    fn column(&self, i: usize) -> ColumnMetadata {
+        let columns = self.columns;
+        column_words::column_at(&columns[i])
     }
 }

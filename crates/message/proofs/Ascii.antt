@@ -1,10 +1,10 @@
 -- The ways out of the loop that counts, and that a message's blanks are known by their bytes.
 use mathlib.Core.Path.{◌≡◌, refl, sym, ◌∙◌}
-use mathlib.Core.Bool.{Bool, true, false, ◌||◌}
+use mathlib.Core.Bool.{Bool, true, false, not, ◌||◌}
 use mathlib.Core.List.{List}
 use Prim.Native.Nat.{ℕ, ◌*◌, ◌/◌, ◌<◌}
 use native.Mathlib.Nat.{div-zero}
-use lib.Dec.{T, leb, ltb}
+use lib.Dec.{T, eqb, leb}
 use Rattle.search.specs.Search.{pick, below, count}
 use Rattle.search.proofs.Tests.{agree, agree_same, below_at}
 use Rattle.codepage.specs.Page.{Page, char_in}
@@ -25,16 +25,16 @@ module _ (bs : List ℕ) (printables rest : ℕ) (p : printables ≡ count is_pr
 -- ---- blanks
 
 -- in ASCII all but 21 to 7E are blanks: computed
-ascii_blanks : T (below 256 (λ b. agree (leb b 0x20 || ltb 0x7E b) (is_blank (pick (is_printable b) b 0x20))))
+ascii_blanks : T (below 256 (λ b. agree (eqb b 0x20 || not (is_printable b)) (is_blank (pick (is_printable b) b 0x20))))
 ascii_blanks = tt
 
 module _ (page : Page) (ascii : Bool) (b : ℕ) where
-  pub blank_ascii : ascii ≡ true → b < 256 → (leb b 0x20 || ltb 0x7E b) ≡ is_blank (message_char page ascii b)
+  pub blank_ascii : ascii ≡ true → b < 256 → (eqb b 0x20 || not (is_printable b)) ≡ is_blank (message_char page ascii b)
   unfolding message_char
   blank_ascii e l =
       rw e
-      (agree_same (leb b 0x20 || ltb 0x7E b) (is_blank (pick (is_printable b) b 0x20))
-      (below_at 256 (λ k. agree (leb k 0x20 || ltb 0x7E k) (is_blank (pick (is_printable k) k 0x20))) ascii_blanks b l))
+      (agree_same (eqb b 0x20 || not (is_printable b)) (is_blank (pick (is_printable b) b 0x20))
+      (below_at 256 (λ k. agree (eqb k 0x20 || not (is_printable k)) (is_blank (pick (is_printable k) k 0x20))) ascii_blanks b l))
 
   pub blank_page : ascii ≡ false → (is_separator b || is_blank_in page b) ≡ is_blank (message_char page ascii b)
   unfolding message_char is_blank_in

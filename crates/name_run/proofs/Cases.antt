@@ -1,5 +1,6 @@
 -- Small layouts, by computation: which of their strings is the name, and the longest run of a reply.
 use mathlib.Core.Path.{◌≡◌, refl}
+use Rattle.std.proofs.Common.{Some, None}
 use mathlib.Core.List.{List, [], ◌∷◌, ◌++◌}
 use Prim.Native.Nat.{ℕ}
 use lib.ListN.{replicate}
@@ -15,7 +16,7 @@ use Rattle.column.specs.Column.{string_text}
 use Rattle.descriptor.specs.Nullable.{nullable_end, in_nullable}
 use Rattle.descriptor.specs.Descriptor.{udt_end, dx_end, dx_start, opt_end, dx_pair}
 use Rattle.identifier.specs.Identifier.{is_identifier, is_identifier_at}
-use Rattle.name_run.specs.Layout.{name_in, has_options, is_named_layout, no_name, scanned_name_at}
+use Rattle.name_run.specs.Layout.{name_in, has_options, is_named_layout, scanned_name_at}
 use Rattle.name_run.specs.Run.{name_run_from, longest_name_run, names_of_run}
 
 -- to unfold this is to unfold the search for names, for a proof that computes it
@@ -28,18 +29,18 @@ zeros n = replicate n 0
 
 -- m is - and s is A: m is tested, and s is the name
 pub case_s : scanned_name_at page037 (zeros 19 ++ (0x00 ∷ 0x01 ∷ 0x2D ∷ 0x00 ∷ 0x01 ∷ 0x41 ∷ []) ++ zeros 8 ++ (0xFF ∷ 0xFF ∷ [])) 0
-    ≡ record { name = record { place = 24; length = 1; next = 25 }; next = 35 }
+    ≡ Some (record { name = record { place = 24; length = 1; next = 25 }; next = 35 })
 unfolding everything
 case_s = refl
 
 -- the extension's name m is - and s is A: of that pair m is chosen before it is tested, so there is no name
-pub case_extension : scanned_name_at page037 (zeros 31 ++ (0xFF ∷ []) ++ zeros 23 ++ (0x00 ∷ 0x01 ∷ 0x2D ∷ 0x00 ∷ 0x01 ∷ 0x41 ∷ [])) 0 ≡ no_name
+pub case_extension : scanned_name_at page037 (zeros 31 ++ (0xFF ∷ []) ++ zeros 23 ++ (0x00 ∷ 0x01 ∷ 0x2D ∷ 0x00 ∷ 0x01 ∷ 0x41 ∷ [])) 0 ≡ None
 unfolding everything
 case_extension = refl
 
 -- the same where m is empty: the extension's s is the name
 pub case_extension_s : scanned_name_at page037 (zeros 31 ++ (0xFF ∷ []) ++ zeros 25 ++ (0x00 ∷ 0x01 ∷ 0x41 ∷ [])) 0
-    ≡ record { name = record { place = 59; length = 1; next = 60 }; next = 60 }
+    ≡ Some (record { name = record { place = 59; length = 1; next = 60 }; next = 60 })
 unfolding everything
 case_extension_s = refl
 

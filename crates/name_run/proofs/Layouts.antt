@@ -1,13 +1,17 @@
--- A layout's name: a law for each way out of `scan_descriptor_name`, and what its answer says.
-use Prim.Native.Nat.{ℕ, ◌+◌, ◌-◌, ◌≤◌, ◌<◌}
+-- A layout's name: a law for each way out of `scan_descriptor_name`, and what its answer says of the walk from layout to layout.
+use Prim.Native.Nat.{ℕ, zero, suc, ◌+◌, ◌-◌, ◌≤◌, ◌<◌}
+use native.Mathlib.Numerals.{add-one}
 use native.Mathlib.Omega.{arith}
 use mathlib.Core.Path.{◌≡◌, refl, sym, ap, subst, ◌∙◌}
 use mathlib.Core.List.{List, [], ◌∷◌}
-use mathlib.Core.Bool.{Bool, true, false, ◌&&◌, true≢false, and-eq-true_iff}
+use mathlib.Core.Bool.{Bool, true, false, cond, ◌&&◌}
 use lib.Dec.{ltb, leb, eqb}
 use lib.ListN.{length, get_or}
-use borrow.Author.Tests.{lt-ltb, le-ltb, ltb-true, le-leb, lt-leb, leb-true, eq-eqb, ne_eqb}
+use borrow.Author.Tests.{lt-ltb, le-ltb, le-leb, lt-leb, eq-eqb, ne_eqb}
+use Rattle.std.proofs.Common.{Option, Some, None, All, find}
+use Rattle.std.proofs.lemmas.List.Elements.{All-cons, All-nil}
 use Rattle.search.specs.Search.{pick, first_in}
+use Rattle.search.specs.Walks.{chain}
 use Rattle.search.proofs.Alternatives.{each_none, each_more, first_in_all}
 use Rattle.codepage.specs.Page.{Page}
 use Rattle.strings.specs.declared.StringRead.{StringRead}
@@ -16,7 +20,6 @@ use Rattle.field.specs.Numbers.{number}
 use Rattle.strings.specs.Strings.{string_end, strings_end, no_string, string_at}
 use Rattle.strings.proofs.Strings.{end_known, string_next, string_inside}
 use Rattle.strings.proofs.Windows.{strings_end_grows}
-use Rattle.text.specs.declared.Text.{Text}
 use Rattle.text.specs.Text.{text_of}
 use Rattle.column.specs.Column.{string_text}
 use Rattle.identifier.proofs.Identifiers.{identifier_empty}
@@ -25,26 +28,35 @@ use Rattle.descriptor.specs.Nullable.{lenient, nullable_end}
 use Rattle.descriptor.specs.Descriptor.{udt_end, dx_end, dx_start, opt_end, dx_pair}
 use Rattle.descriptor.specs.Groups.{sqldxgrp_at}
 use Rattle.descriptor.proofs.Ends.{nullable_end_grows, udt_end_grows, dx_end_grows}
-use Rattle.descriptor.proofs.Groups.{Inside, dx_pair_inside}
+use Rattle.descriptor.proofs.Groups.{dx_pair_inside}
 use Rattle.name_run.specs.declared.ScannedName.{ScannedName}
-use Rattle.name_run.specs.Layout.{is_name_string, name_strings, name_in, has_options, is_named_layout, layout_end, no_name, scanned_name_at}
+use Rattle.name_run.specs.Layout.{Inside, is_name_string, name_strings, name_in, has_options, is_named_layout, layout_end, scanned_name_at}
+use Rattle.name_run.specs.declared.NameRun.{NameRun}
+use Rattle.name_run.specs.Run.{name_walk, run_limit, names_of_run}
 
--- a string without bytes is no name
-empty_none : (page : Page) (s : List ℕ) (r : StringRead) → r.length ≡ 0 → is_name_string page s r ≡ false
-empty_none page s r e = rw e (identifier_empty page s r.place)
+-- ---- the first name among some strings, no string where there is none
 
--- what is found where there is one is a name
-found_some : (page : Page) (s : List ℕ) (xs : List StringRead) → ((first_in (is_name_string page s) xs (no_string 0)).length ≡ 0 → ⊥)
-    → is_name_string page s (first_in (is_name_string page s) xs (no_string 0)) ≡ true
-found_some page s [] h = absurd (h refl)
-found_some page s (x ∷ xs) h = go (is_name_string page s x) refl (found_some page s xs) h
-  where
-    go : (b : Bool) → is_name_string page s x ≡ b
-        → (((first_in (is_name_string page s) xs (no_string 0)).length ≡ 0 → ⊥) → is_name_string page s (first_in (is_name_string page s) xs (no_string 0)) ≡ true)
-        → ((pick b x (first_in (is_name_string page s) xs (no_string 0))).length ≡ 0 → ⊥)
-        → is_name_string page s (pick b x (first_in (is_name_string page s) xs (no_string 0))) ≡ true
-    go true e r k = e
-    go false e r k = r k
+no_name : (page : Page) (s : List ℕ) → is_name_string page s (no_string 0) ≡ false
+no_name page s = identifier_empty page s 0
+
+module _ {A : Type 0} (f : A → Bool) (d : A) where
+  find_none : (xs : List A) → find f xs ≡ None → f d ≡ false → f (first_in f xs d) ≡ false
+  find_none [] e h = h
+  find_none (x ∷ xs) e h = go (f x) refl (find_none xs) e
+    where
+      go : (b : Bool) → f x ≡ b → (find f xs ≡ None → f d ≡ false → f (first_in f xs d) ≡ false) → cond b (Some x) (find f xs) ≡ None
+          → f (pick b x (first_in f xs d)) ≡ false
+      go true u r e = absurd cc
+      go false u r e = r e h
+
+  find_some : (xs : List A) (n : A) → find f xs ≡ Some n → (first_in f xs d ≡ n) × (f n ≡ true)
+  find_some [] n e = absurd cc
+  find_some (x ∷ xs) n e = go (f x) refl (find_some xs n) e
+    where
+      go : (b : Bool) → f x ≡ b → (find f xs ≡ Some n → (first_in f xs d ≡ n) × (f n ≡ true)) → cond b (Some x) (find f xs) ≡ Some n
+          → (pick b x (first_in f xs d) ≡ n) × (f n ≡ true)
+      go true u r e = let k : x ≡ n = cc in (k, ap f (sym k) ∙ u)
+      go false u r e = r e
 
 names_inside : (page : Page) (s : List ℕ) (p : ℕ) → Inside s (name_in page s p)
 unfolding name_in
@@ -57,25 +69,26 @@ names_inside page s p =
 -- ---- the ways out
 
 module _ (page : Page) (s : List ℕ) (p : ℕ) where
-  abbrev named_by : Bool → ScannedName
-  named_by b = pick b (record { name = name_in page s p; next = layout_end s p }) no_name
-
-  by : (b : Bool) → is_named_layout page s p (layout_end s p) ≡ b → named_by b ≡ scanned_name_at page s p
+  scanned_none : is_named_layout page s p (layout_end s p) ≡ false → None ≡ scanned_name_at page s p
   unfolding scanned_name_at
-  by b e = ap named_by (sym e)
+  scanned_none e = rw e refl
 
-  pub named_short : (r : ScannedName) → r ≡ no_name → length s - p < 17 → r ≡ scanned_name_at page s p
+  scanned_some : is_named_layout page s p (layout_end s p) ≡ true → Some (record { name = name_in page s p; next = layout_end s p }) ≡ scanned_name_at page s p
+  unfolding scanned_name_at
+  scanned_some e = rw e refl
+
+  pub named_short : length s - p < 17 → None ≡ scanned_name_at page s p
   unfolding is_named_layout has_options
-  named_short r e h =
+  named_short h =
       let t : ltb (p + 16) (length s) ≡ false = le-ltb (p + 16) (length s) (omega arith) in
-      e ∙ by false (rw t refl)
+      scanned_none (rw t refl)
 
-  pub named_null : (r : ScannedName) → r ≡ no_name → p + 16 < length s → get_or s (p + 16) 0 ≡ 0xFF → r ≡ scanned_name_at page s p
+  pub named_null : p + 16 < length s → get_or s (p + 16) 0 ≡ 0xFF → None ≡ scanned_name_at page s p
   unfolding is_named_layout has_options
-  named_null r e h f =
+  named_null h f =
       let t : ltb (p + 16) (length s) ≡ true = lt-ltb (p + 16) (length s) h in
       let u : eqb (get_or s (p + 16) 0) 0xFF ≡ true = eq-eqb (get_or s (p + 16) 0) 0xFF f in
-      e ∙ by false (rw (t, u) refl)
+      scanned_none (rw (t, u) refl)
 
   -- its first string, of n bytes, does not lie in the reply
   module _ (h : p + 21 ≤ length s) (n : ℕ) (e : n ≡ number BigEndian 2 s (p + 19)) (l : length s < p + 21 + n) where
@@ -91,11 +104,11 @@ module _ (page : Page) (s : List ℕ) (p : ℕ) where
         let w : d ≤ nullable_end lenient dx_end s d = nullable_end_grows lenient dx_end s (dx_end_grows s) d in
         omega arith
 
-    pub named_outside : no_name ≡ scanned_name_at page s p
+    pub named_outside : None ≡ scanned_name_at page s p
     unfolding is_named_layout
     named_outside =
         let v : leb (layout_end s p) (length s) ≡ false = lt-leb (layout_end s p) (length s) past_reply in
-        by false (rw v (go (has_options s p)))
+        scanned_none (rw v (go (has_options s p)))
       where
         go : (b : Bool) → (b && false) ≡ false
         go true = refl
@@ -126,31 +139,27 @@ module _ (page : Page) (s : List ℕ) (p : ℕ) where
     unfolding opt_end
     end_is = ap (λ (y : Sqldxgrp). y.next) e ∙ ap (nullable_end lenient dx_end s) start_is
 
-    pub read_inside : (Inside s m) × ((Inside s t) × Inside s x.name)
-    read_inside = (
-      subst (Inside s) (sym a) (string_inside s (p + 19)),
-      (
-        subst (Inside s) (sym b) (string_inside s m.next),
-        subst (λ (y : Sqldxgrp). Inside s y.name) (sym e) (dx_pair_inside s 7 u),
-      ),
-    )
+    pub read_inside : All (Inside s) (m ∷ t ∷ x.name ∷ [])
+    read_inside =
+        All-cons (Inside s) m (t ∷ x.name ∷ []) (subst (Inside s) (sym a) (string_inside s (p + 19)))
+        (All-cons (Inside s) t (x.name ∷ []) (subst (Inside s) (sym b) (string_inside s m.next))
+        (All-cons (Inside s) x.name [] (subst (λ (y : Sqldxgrp). Inside s y.name) (sym e) (dx_pair_inside s 7 u)) (All-nil (Inside s))))
 
-    pub named_cut : (r : ScannedName) → r ≡ no_name → length s < x.next → r ≡ scanned_name_at page s p
+    pub named_cut : length s < x.next → None ≡ scanned_name_at page s p
     unfolding is_named_layout
-    named_cut r i g =
+    named_cut g =
         let v : leb (layout_end s p) (length s) ≡ false = lt-leb (layout_end s p) (length s) (omega (arith, end_is)) in
-        i ∙ by false (rw (options, v) refl)
+        scanned_none (rw (options, v) refl)
 
-    module _ (l : x.next ≤ length s) (n : StringRead) (y : n ≡ first_in (is_name_string page s) (m ∷ t ∷ x.name ∷ []) (no_string 0)) where
+    module _ (l : x.next ≤ length s) (o : Option StringRead) (y : o ≡ find (is_name_string page s) (m ∷ t ∷ x.name ∷ [])) where
       strings_are : (m ∷ t ∷ x.name ∷ []) ≡ name_strings s p
       strings_are =
           let v : t ≡ string_at s (string_end s (p + 19)) = b ∙ ap (string_at s) past_m in
           let w : x.name ≡ dx_pair 7 s (dx_start lenient s (p + 17)) = ap (λ (z : Sqldxgrp). z.name) e ∙ ap (dx_pair 7 s) start_is in
           λ i. a i ∷ v i ∷ w i ∷ []
 
-      name_is : n ≡ name_in page s p
-      unfolding name_in
-      name_is = y ∙ ap (λ (z : List StringRead). first_in (is_name_string page s) z (no_string 0)) strings_are
+      found_is : find (is_name_string page s) (name_strings s p) ≡ o
+      found_is = sym (y ∙ ap (find (is_name_string page s)) strings_are)
 
       layout_is : (k : Bool) → is_name_string page s (name_in page s p) ≡ k → is_named_layout page s p (layout_end s p) ≡ k
       unfolding is_named_layout
@@ -158,66 +167,79 @@ module _ (page : Page) (s : List ℕ) (p : ℕ) where
           let v : leb (layout_end s p) (length s) ≡ true = le-leb (layout_end s p) (length s) (omega (arith, end_is)) in
           rw (options, v, g) refl
 
-      pub named_none : (r : ScannedName) → r ≡ no_name → n.length ≡ 0 → r ≡ scanned_name_at page s p
-      named_none r i g =
-          i ∙ by false (layout_is false (empty_none page s (name_in page s p) (sym (ap (λ (z : StringRead). z.length) name_is) ∙ g)))
+      pub named_none : o ≡ None → None ≡ scanned_name_at page s p
+      unfolding name_in
+      named_none g =
+          scanned_none
+          (layout_is false (find_none (is_name_string page s) (no_string 0) (name_strings s p) (found_is ∙ g) (no_name page s)))
 
-      pub named_some : (n.length ≡ 0 → ⊥) → record { name = n; next = x.next } ≡ scanned_name_at page s p
-      named_some g =
-          let v : is_name_string page s (name_in page s p) ≡ true = subst (λ (z : StringRead). is_name_string page s z ≡ true) name_is (found y g) in
-          (λ i. record { name = name_is i; next = end_is i }) ∙ by true (layout_is true v)
-        where
-          found : n ≡ first_in (is_name_string page s) (m ∷ t ∷ x.name ∷ []) (no_string 0) → (n.length ≡ 0 → ⊥) → is_name_string page s n ≡ true
-          found z g = rw z (found_some page s (m ∷ t ∷ x.name ∷ []) (λ w. g (ap (λ (k : StringRead). k.length) z ∙ w)))
+      module _ (n : StringRead) (g : o ≡ Some n) where
+        name_is : (name_in page s p ≡ n) × (is_name_string page s n ≡ true)
+        unfolding name_in
+        name_is = find_some (is_name_string page s) (no_string 0) (name_strings s p) n (found_is ∙ g)
 
--- ---- what the answer says
+        pub named_some : Some (record { name = n; next = x.next }) ≡ scanned_name_at page s p
+        named_some =
+            (λ i. Some (record { name = sym name_is.0 i; next = end_is i }))
+            ∙ scanned_some (layout_is true (ap (is_name_string page s) name_is.0 ∙ name_is.1))
 
--- a layout with a name: its option flag is there, it ends in the reply, and its name has bytes
-module _ (page : Page) (s : List ℕ) (p : ℕ) (g : is_named_layout page s p (layout_end s p) ≡ true) where
-  parts : (has_options s p ≡ true) × ((leb (layout_end s p) (length s) ≡ true) × (is_name_string page s (name_in page s p) ≡ true))
-  unfolding is_named_layout
-  parts =
-      let n = is_name_string page s (name_in page s p) in
-      let l = leb (layout_end s p) (length s) in
-      let a = (and-eq-true_iff (has_options s p) (l && n)).0 g in
-      (a.0, (and-eq-true_iff l n).0 a.1)
+        pub named_inside : Inside s n
+        named_inside = subst (Inside s) name_is.0 (names_inside page s p)
 
-  pub layout_starts : p ≤ length s
-  unfolding has_options
-  layout_starts =
-      let a = (and-eq-true_iff (ltb (p + 16) (length s)) _).0 parts.0 in
-      omega (arith, ltb-true (p + 16) (length s) a.0)
+-- ---- the walk from layout to layout
 
-  pub layout_ends : layout_end s p ≤ length s
-  layout_ends = leb-true (layout_end s p) (length s) parts.1.0
+module _ (page : Page) (s : List ℕ) where
+  -- no number counts the layouts of a walk
+  unnumbered : (k i j p : ℕ) → chain (name_walk page s) k i p ≡ chain (name_walk page s) k j p
+  unfolding chain
+  unnumbered zero i j p = refl
+  unnumbered (suc k) i j p = rw (unnumbered k (suc i) (suc j) (layout_end s p)) refl
 
-  name_bytes : (name_in page s p).length ≡ 0 → ⊥
-  name_bytes e = true≢false (sym parts.1.1 ∙ empty_none page s (name_in page s p) e)
-
-  pub scanned_known : (r : ScannedName) → r ≡ scanned_name_at page s p → (r.name ≡ name_in page s p) × (r.next ≡ layout_end s p)
-  scanned_known r e =
-      let z : r ≡ record { name = name_in page s p; next = layout_end s p } = e ∙ sym (by page s p true g) in
-      (ap (λ (y : ScannedName). y.name) z, ap (λ (y : ScannedName). y.next) z)
-
-  module _ (r : ScannedName) (e : r ≡ scanned_name_at page s p) where
-    pub run_name_inside : Inside s r.name
-    run_name_inside = subst (Inside s) (sym (scanned_known r e).0) (names_inside page s p)
-
-    pub run_name_text : (t : Text) → t ≡ text_of page s r.name.place r.name.length → t ≡ string_text page s (name_in page s p)
-    unfolding string_text
-    run_name_text t z = z ∙ ap (string_text page s) (scanned_known r e).0
-
-module _ (page : Page) (s : List ℕ) (p : ℕ) (r : ScannedName) (e : r ≡ scanned_name_at page s p) where
-  pub scanned_none : r.name.length ≡ 0 → is_named_layout page s p (layout_end s p) ≡ false
-  scanned_none h = go (is_named_layout page s p (layout_end s p)) refl
+  pub names_none : (k p : ℕ) → scanned_name_at page s p ≡ None → chain (name_walk page s) k 0 p ≡ []
+  unfolding chain scanned_name_at
+  names_none zero p e = refl
+  names_none (suc k) p e = go (is_named_layout page s p (layout_end s p)) refl
     where
-      go : (b : Bool) → is_named_layout page s p (layout_end s p) ≡ b → b ≡ false
-      go true g = absurd (name_bytes page s p g (sym (ap (λ (y : StringRead). y.length) (scanned_known page s p g r e).0) ∙ h))
-      go false g = refl
+      go : (b : Bool) → is_named_layout page s p (layout_end s p) ≡ b → chain (name_walk page s) (suc k) 0 p ≡ []
+      go true f = let z = rw f at e in absurd cc
+      go false f = rw f refl
 
-  pub scanned_some : (r.name.length ≡ 0 → ⊥) → is_named_layout page s p (layout_end s p) ≡ true
-  scanned_some h = go (is_named_layout page s p (layout_end s p)) refl
+  names_some : (k p : ℕ) (r : ScannedName) → scanned_name_at page s p ≡ Some r
+      → chain (name_walk page s) (suc k) 0 p ≡ text_of page s r.name.place r.name.length ∷ chain (name_walk page s) k 0 r.next
+  unfolding chain scanned_name_at string_text
+  names_some k p r e = go (is_named_layout page s p (layout_end s p)) refl
     where
-      go : (b : Bool) → is_named_layout page s p (layout_end s p) ≡ b → b ≡ true
-      go true g = refl
-      go false g = absurd (h (ap (λ (y : ScannedName). y.name.length) (e ∙ sym (by page s p false g))))
+      go : (b : Bool) → is_named_layout page s p (layout_end s p) ≡ b
+          → chain (name_walk page s) (suc k) 0 p ≡ text_of page s r.name.place r.name.length ∷ chain (name_walk page s) k 0 r.next
+      go true f =
+          let z = rw f at e in
+          let y : record { name = name_in page s p; next = layout_end s p } ≡ r = cc in
+          rw (f, ← y) (ap (λ l. string_text page s (name_in page s p) ∷ l) (unnumbered k 1 0 (layout_end s p)))
+      go false f = let z = rw f at e in absurd cc
+
+  pub names_over : (k p : ℕ) → k ≡ 0 → chain (name_walk page s) k 0 p ≡ []
+  unfolding chain
+  names_over k p e = rw e refl
+
+  pub names_more : (j k p : ℕ) (r : ScannedName) → j ≡ k + 1 → scanned_name_at page s p ≡ Some r
+      → chain (name_walk page s) j 0 p ≡ text_of page s r.name.place r.name.length ∷ chain (name_walk page s) k 0 r.next
+  names_more j k p r e f = rw (e, add-one k) (names_some k p r f)
+
+  -- as many steps as there are names find them all
+  enough : (k i p n : ℕ) → n ≡ length (chain (name_walk page s) k i p) → chain (name_walk page s) n i p ≡ chain (name_walk page s) k i p
+  unfolding chain
+  enough zero i p n e = ap (λ m. chain (name_walk page s) m i p) e
+  enough (suc k) i p n e = go (is_named_layout page s p (layout_end s p)) refl (enough k (suc i) (layout_end s p))
+    where
+      go : (b : Bool) → is_named_layout page s p (layout_end s p) ≡ b
+          → ((m : ℕ) → m ≡ length (chain (name_walk page s) k (suc i) (layout_end s p)) → chain (name_walk page s) m (suc i) (layout_end s p) ≡ chain (name_walk page s) k (suc i) (layout_end s p))
+          → chain (name_walk page s) n i p ≡ chain (name_walk page s) (suc k) i p
+      go true f r =
+          let m = length (chain (name_walk page s) k (suc i) (layout_end s p)) in
+          let z : n ≡ suc m = e ∙ rw f refl in
+          ap (λ j. chain (name_walk page s) j i p) z ∙ rw f (ap (λ l. string_text page s (name_in page s p) ∷ l) (r m refl))
+      go false f r = let z : n ≡ 0 = e ∙ rw f refl in ap (λ j. chain (name_walk page s) j i p) z ∙ rw f refl
+
+  pub names_again : (run : NameRun) → run.count ≡ length (names_of_run page s run) → chain (name_walk page s) run.count 0 run.start ≡ names_of_run page s run
+  unfolding names_of_run
+  names_again run e = enough (run_limit run.count) 0 run.start run.count e

@@ -1,3 +1,3 @@
 pub mod Layouts
-pub mod Runs
 pub mod Cases
+pub mod Runs

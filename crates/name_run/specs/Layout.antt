@@ -1,5 +1,5 @@
 -- The name in a standard layout of any type: nothing of its first 16 bytes is asked (DRDA V1: SQLDAROW; 01, Name scan: standard layouts of any type).
-use Rattle.std.specs.Prelude.{Bool, not, ◌&&◌, List, [], ◌∷◌, ℕ, ◌+◌, ltb, leb, eqb, length, get_or}
+use Rattle.std.specs.Prelude.{Bool, not, ◌&&◌, Option, Some, None, List, [], ◌∷◌, ℕ, ◌+◌, ◌≤◌, ltb, leb, eqb, length, get_or}
 use Rattle.search.specs.Search.{pick, first_in}
 use Rattle.codepage.specs.Page.{Page}
 use Rattle.strings.specs.declared.StringRead.{StringRead}
@@ -33,11 +33,11 @@ is_named_layout page s p e = has_options s p && (leb e (length s) && is_name_str
 abbrev pub layout_end : List ℕ → ℕ → ℕ
 layout_end s p = opt_end lenient s (p + 17)
 
--- no layout with a name: no string, and next is 0 (01, Name scan)
-abbrev pub no_name : ScannedName
-no_name = record { name = no_string 0; next = 0 }
+-- a string's bytes lie in the reply (01, Answers: place, length)
+abbrev pub Inside : List ℕ → StringRead → Type 0
+Inside s r = r.place + r.length ≤ length s
 
 -- the name of the layout at p and what is past it, if it has one (01, Name scan)
-unfoldable pub scanned_name_at : Page → List ℕ → ℕ → ScannedName
+unfoldable pub scanned_name_at : Page → List ℕ → ℕ → Option ScannedName
 scanned_name_at page s p =
-    pick (is_named_layout page s p (layout_end s p)) (record { name = name_in page s p; next = layout_end s p }) no_name
+    pick (is_named_layout page s p (layout_end s p)) (Some (record { name = name_in page s p; next = layout_end s p })) None

@@ -2,10 +2,11 @@
 use Rattle.std.specs.Prelude.{Bool, List, ℕ, ◌-◌, ltb, leb, length}
 use Rattle.search.specs.Search.{pick}
 use Rattle.search.specs.Walks.{Walk, best, chain}
-use Rattle.codepage.specs.Page.{Page}
+use Rattle.codepage.specs.Page.{Page, page037}
 use Rattle.text.specs.declared.Text.{Text}
 use Rattle.column.specs.Column.{string_text}
 use Rattle.name_run.specs.declared.NameRun.{NameRun}
+use Rattle.name_run.specs.declared.RunNames.{RunNames}
 use Rattle.name_run.specs.Layout.{name_in, is_named_layout, layout_end}
 
 -- from layout to layout, by the texts of their names (01, Name scan)
@@ -39,3 +40,7 @@ run_limit count = pick (leb 1 count) 512 0
 -- the names of a run, read again from its start (01, Forms that must change: Best run)
 unfoldable pub names_of_run : Page → List ℕ → NameRun → List Text
 names_of_run page s run = chain (name_walk page s) (run_limit run.count) 0 run.start
+
+-- the names that are still to come (01, Forms that must change: read again)
+abbrev pub names_left : RunNames → List Text
+names_left names = chain (name_walk page037 names.reply.now) names.left 0 names.offset

@@ -1,1 +1,1 @@
-pub mod Listing
+pub mod Filling

@@ -16,13 +16,13 @@ use Rattle.descriptor.specs.Descriptor.{udt_end, dx_end, dx_start, opt_end, dx_p
 use Rattle.identifier.specs.Identifier.{is_identifier, is_identifier_at}
 use Rattle.name_run.specs.Layout.{name_in, has_options, is_named_layout}
 use Rattle.name_run.specs.Run.{name_run_from, longest_name_run, names_of_run}
-use Rattle.candidates.specs.Candidates.{same_text, is_candidate, is_near_repeat, is_kept, candidates_in, candidates_from, candidates}
+use Rattle.candidates.specs.Candidates.{same_text, is_candidate, is_kept, candidates_in, candidates_from, candidates}
 use Rattle.listing.specs.Listing.{returns, is_before, is_listed, after, listed, listed_by}
 use Rattle.names.specs.Names.{refused_with, chosen_names, column_names, name_scan}
 
 -- to unfold this is to unfold the whole entry, for a proof that computes it
 unfoldable pub everything : Unit {0}
-unfolding keep best_of best chain table037 is_blank_in number string_end strings_end string_at chosen pair_at is_ascii char_of leading kept placed text_on is_generated string_text nullable_end in_nullable udt_end dx_end dx_start opt_end dx_pair is_identifier is_identifier_at name_in has_options is_named_layout name_run_from longest_name_run names_of_run same_text is_candidate is_near_repeat is_kept candidates_in candidates_from candidates returns is_before is_listed after listed listed_by chosen_names column_names name_scan
+unfolding keep best_of best chain table037 is_blank_in number string_end strings_end string_at chosen pair_at is_ascii char_of leading kept placed text_on is_generated string_text nullable_end in_nullable udt_end dx_end dx_start opt_end dx_pair is_identifier is_identifier_at name_in has_options is_named_layout name_run_from longest_name_run names_of_run same_text is_candidate is_kept candidates_in candidates_from candidates returns is_before is_listed after listed listed_by chosen_names column_names name_scan
 everything = tt
 
 -- AA, BB, CC, DD, AA, EE, BB, CC, DD, EE: AA and EE each return four later

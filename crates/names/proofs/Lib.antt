@@ -1,4 +1,4 @@
 pub mod Choosing
 pub mod Deciding
-pub mod Listed
 pub mod Cases
+pub mod Filling

@@ -1,67 +1,91 @@
-// What an entry says of a call: that it accepted, or why it refused.
+// Why an entry refuses a call, and the numbers that say so to programs in other languages.
 #![tactic(auto)]
 
-ghost use Rattle.std.specs.Prelude.{◌≡◌};
-ghost use Rattle.outcome.specs.Refusal.{refusal_of, is_refused, refusal_from, in_numbers};
+ghost use Rattle.std.specs.Prelude.{not, ◌≡◌, eqb};
+ghost use Rattle.outcome.specs.Refusal.{refusal_of, refusal_from, in_numbers};
+
+use std::fmt;
 
 // EmptyReply to UnexpectedCodePoint are the Rust's refusals; the others are the project's own limits.
-#[derive(Clone, Copy)]
-pub enum Outcome {
-    Accepted,
+#[derive(Clone, Copy, Debug, PartialEq, Eq)]
+pub enum Refusal {
     EmptyReply,
-    // The reply ends early: how many bytes were expected, and how many there are.
-    BufferTooShort(usize, usize),
+    // The reply ends early.
+    BufferTooShort { expected: usize, actual: usize },
     InvalidSqlcard,
     // The code point that the reply came with.
     UnexpectedCodePoint(u16),
     ReplyTooLong,
     // What was lent is too short: how many elements are needed.
-    RoomTooShort(usize),
+    RoomTooShort { needed: usize },
     OutsideReply,
     // A row without a widest: the number of its first Blob, Clob, DbClob or Xml column.
-    LargeObject(u16),
+    LargeObject { number: u16 },
 }
 
 // A refusal's number and its values in document 01's order: `count` of them, the others 0. Number 0 is none.
 #[repr(C)]
-#[derive(Clone, Copy)]
-pub struct Refusal {
+#[derive(Clone, Copy, Debug, PartialEq, Eq)]
+pub struct RefusalNumbers {
     pub number: u8,
     pub count: u8,
     pub first: usize,
     pub second: usize,
 }
 
-fn refused(number: u8, count: u8, first: usize, second: usize) -> Refusal
-    ensures { result ≡ refusal_from number count first second }
-{
-    Refusal {
-        number,
-        count,
-        first,
-        second,
+impl RefusalNumbers {
+    // A number that comes with no values: 0 where nothing is refused.
+    pub fn alone(number: u8) -> Self
+        ensures { result ≡ refusal_from number 0 0 0 }
+    {
+        Self::with(number, 0, 0, 0)
+    }
+
+    fn with(number: u8, count: u8, first: usize, second: usize) -> Self
+        ensures { result ≡ refusal_from number count first second }
+    {
+        RefusalNumbers {
+            number,
+            count,
+            first,
+            second,
+        }
+    }
+
+    pub fn is_refused(self) -> bool
+        ensures { result ≡ not (eqb self.number 0) }
+    {
+        self.number != 0
     }
 }
 
-// The refusal in numbers, for those who print it or hand it on.
-pub fn refusal_of(outcome: Outcome) -> Refusal
-    ensures { result ≡ in_numbers (refusal_of outcome) }
-{
-    match outcome {
-        Outcome::Accepted => refused(0, 0, 0, 0),
-        Outcome::EmptyReply => refused(1, 0, 0, 0),
-        Outcome::BufferTooShort(expected, actual) => refused(2, 2, expected, actual),
-        Outcome::InvalidSqlcard => refused(3, 0, 0, 0),
-        Outcome::UnexpectedCodePoint(point) => refused(4, 1, point as usize, 0),
-        Outcome::ReplyTooLong => refused(5, 0, 0, 0),
-        Outcome::RoomTooShort(needed) => refused(6, 1, needed, 0),
-        Outcome::OutsideReply => refused(7, 0, 0, 0),
-        Outcome::LargeObject(number) => refused(8, 1, number as usize, 0),
+impl From<Refusal> for RefusalNumbers {
+    ghost from_gives = { λ refusal numbers. numbers ≡ in_numbers (refusal_of refusal) };
+
+    fn from(refusal: Refusal) -> Self {
+        match refusal {
+            Refusal::EmptyReply => Self::alone(1),
+            Refusal::BufferTooShort { expected, actual } => Self::with(2, 2, expected, actual),
+            Refusal::InvalidSqlcard => Self::alone(3),
+            Refusal::UnexpectedCodePoint(point) => Self::with(4, 1, point as usize, 0),
+            Refusal::ReplyTooLong => Self::alone(5),
+            Refusal::RoomTooShort { needed } => Self::with(6, 1, needed, 0),
+            Refusal::OutsideReply => Self::alone(7),
+            Refusal::LargeObject { number } => Self::with(8, 1, number as usize, 0),
+        }
     }
 }
 
-pub fn is_refused(outcome: Outcome) -> bool
-    ensures { result ≡ is_refused (refusal_of outcome) }
-{
-    refusal_of(outcome).number != 0
+// `E` and the number, then its values, a blank before each.
+impl fmt::Display for RefusalNumbers {
+    fn fmt<W: fmt::Write>(&self, f: &mut fmt::Formatter<W>) -> fmt::Result {
+        let number = self.number;
+        let first = self.first;
+        let second = self.second;
+        match self.count {
+            0 => write!(f, "E{number}"),
+            1 => write!(f, "E{number} {first}"),
+            _ => write!(f, "E{number} {first} {second}"),
+        }
+    }
 }

@@ -1,96 +1,80 @@
-// The output of a program, written as it comes. What these functions write has no contract; a write that fails ends the program.
+// How programs print what is not printed by Rust itself.
 #![tactic(auto)]
 
 mod type_names;
-mod words;
 
-ghost use Rattle.std.specs.Prelude.{◌≡◌, nat_abs};
+ghost use Rattle.std.specs.Prelude.{Some};
+ghost use Rattle.std.specs.Fmt.{signed_decimal};
 
-use outcome::Refusal;
-use std::io;
-use std::io::Write;
-pub use type_names::{all_names, type_letters, without_blanks};
-pub use words::{columns_from, number_in, text_in};
+use std::fmt;
+pub use type_names::type_name;
 
-pub fn put_bytes(out: &mut impl Write, bytes: &[u8]) -> io::Result<()> {
-    out.write_all(bytes)
-}
-
-pub fn put_byte(out: &mut impl Write, byte: u8) -> io::Result<()> {
-    let bytes = [byte];
-    put_bytes(out, &bytes)
-}
-
-// A character below 256: as it is in ASCII, as two bytes of UTF-8 above, and `.` if it is a control.
-fn put_character(out: &mut impl Write, character: u8) -> io::Result<()> {
-    if is_printable(character) {
-        return put_byte(out, character);
-    }
-    if character < 0xA0 {
-        return put_byte(out, b'.');
-    }
-    let bytes = [0xC0 + character / 64, 0x80 + character % 64];
-    put_bytes(out, &bytes)
-}
+// Characters, each of a byte, as status records and texts have them; `.` stands for a control.
+#[derive(Clone, Copy, Debug)]
+pub struct Characters<'a>(pub &'a [u8]);
 
 fn is_printable(character: u8) -> bool {
-    (character >= 0x20) & (character <= 0x7E)
+    matches!(character, 0x20..=0x7E)
 }
 
-fn are_printable(characters: &[u8]) -> bool {
-    characters.iter().all(|character| is_printable(*character))
-}
-
-// Characters, each of a byte, as status records and texts have them. A quick path: those of ASCII are written at once.
-pub fn put_characters(out: &mut impl Write, characters: &[u8]) -> io::Result<()> {
-    if are_printable(characters) {
-        return put_bytes(out, characters);
+fn printed(character: u8) -> char {
+    if is_printable(character) | (character >= 0xA0) {
+        char::from(character)
+    } else {
+        '.'
     }
-    for character in characters {
-        put_character(out, *character)?;
-    }
-    Ok(())
 }
 
-pub fn put_number(out: &mut impl Write, number: u64) -> io::Result<()> {
-    let digits = decimal::digits_of(number);
-    let characters = digits.characters;
-    let start = digits.start;
-    put_bytes(out, &characters[start..])
+impl fmt::Display for Characters<'_> {
+    fn fmt<W: fmt::Write>(&self, f: &mut fmt::Formatter<W>) -> fmt::Result {
+        let characters = self.0;
+        // A quick path: those of ASCII are written at once.
+        if characters.iter().all(|character| is_printable(*character)) {
+            if let Ok(text) = std::str::from_utf8(characters) {
+                return f.write_str(text);
+            }
+        }
+        for character in characters {
+            f.write_char(printed(*character))?;
+        }
+        Ok(())
+    }
 }
 
-// The absolute value, also of -2147483648, which no number of its type is.
-fn magnitude(number: i32) -> u64
-    ensures { result ≡ nat_abs number }
-{
-    if number < 0 {
-        return (!number) as u64 + 1;
+// Two lower-case digits for each byte, `-` where there is none.
+#[derive(Clone, Copy, Debug)]
+pub struct Hex<'a>(pub &'a [u8]);
+
+impl fmt::Display for Hex<'_> {
+    fn fmt<W: fmt::Write>(&self, f: &mut fmt::Formatter<W>) -> fmt::Result {
+        let bytes = self.0;
+        if bytes.is_empty() {
+            return f.write_str("-");
+        }
+        for byte in bytes {
+            write!(f, "{byte:02x}")?;
+        }
+        Ok(())
     }
-    number as u64
 }
 
-pub fn put_signed(out: &mut impl Write, number: i32) -> io::Result<()> {
-    if number < 0 {
-        put_byte(out, b'-')?;
+// A code of a status record, with its sign.
+#[derive(Clone, Copy, Debug)]
+pub struct Sqlcode(pub i32);
+
+impl fmt::Display for Sqlcode {
+    ghost output = { λ code. Some (signed_decimal code.0) };
+
+    fn fmt<W: fmt::Write>(&self, f: &mut fmt::Formatter<W>) -> fmt::Result {
+        let code = self.0;
+        write!(f, "{code}")
     }
-    put_number(out, magnitude(number))
 }
 
-// A value after a blank.
-pub fn put_value(out: &mut impl Write, value: u64) -> io::Result<()> {
-    put_byte(out, b' ')?;
-    put_number(out, value)
-}
-
-// A refusal: `E` and its number, then its values, blank between.
-pub fn put_refusal(out: &mut impl Write, refusal: Refusal) -> io::Result<()> {
-    put_byte(out, b'E')?;
-    put_number(out, refusal.number as u64)?;
-    if 0 < refusal.count {
-        put_value(out, refusal.first as u64)?;
+// Characters without the blanks at their end.
+pub fn without_blanks(characters: &[u8]) -> &[u8] {
+    match characters.iter().rposition(|character| *character != b' ') {
+        Some(last) => &characters[..=last],
+        None => &[],
     }
-    if 1 < refusal.count {
-        put_value(out, refusal.second as u64)?;
-    }
-    Ok(())
 }

@@ -3,26 +3,35 @@ use mathlib.Core.Path.{◌≡◌, refl, sym, ap, subst, ◌∙◌}
 use mathlib.Core.Bool.{Bool, true, false}
 use mathlib.Core.List.{List, [], ◌∷◌, map}
 use Prim.Native.Nat.{ℕ, ◌+◌, ◌≤◌, ◌<◌}
+use native.Mathlib.Numerals.{add-one}
+use native.Mathlib.Omega.{arith}
 use lib.Dec.{leb, ltb, eqb}
-use lib.ListN.{length}
+use lib.ListN.{length, drop, get_or}
+use lib.Seq.{drop-cons}
 use borrow.Author.Tests.{le-leb, lt-leb}
+use Rattle.std.specs.Prelude.{Option, Some, None, Result, Ok, Err, IfOk}
+use Rattle.std.specs.Option.{option_or}
 use Rattle.search.specs.Search.{pick, first_in}
 use Rattle.search.specs.Walks.{chain}
-use Rattle.search.proofs.Alternatives.{first_in_view, Each, each_none, each_more, first_in_all, undecided, undecided_first, undecided_taken, undecided_next}
+use Rattle.search.proofs.Alternatives.{first_in_view, Each, each_none, each_more, first_in_all}
 use Rattle.codepage.specs.Page.{Page}
 use Rattle.field.specs.declared.ByteOrder.{ByteOrder}
 use Rattle.field.specs.declared.ByteOrder.TheVariants.{BigEndian, LittleEndian}
 use Rattle.field.specs.Numbers.{number}
-use Rattle.outcome.specs.declared.Outcome.{Outcome}
-use Rattle.outcome.specs.declared.Outcome.TheVariants.{Accepted, EmptyReply, BufferTooShort}
+use Rattle.outcome.specs.declared.Refusal.{Refusal}
+use Rattle.outcome.specs.declared.Refusal.TheVariants.{EmptyReply, BufferTooShort}
+use Rattle.types.specs.declared.ColumnMetadata.{ColumnMetadata}
 use Rattle.column.specs.Column.{has_names}
 use Rattle.descriptor.specs.Reading.{standard, count_at}
+use Rattle.compact.specs.declared.Ends.TheVariants as ends
 use Rattle.planned.specs.declared.Plan.{Plan}
-use Rattle.planned.specs.declared.Layout.TheVariants.{Last}
+use Rattle.planned.specs.declared.Layout.TheVariants as layouts
+use Rattle.plan.specs.declared.Attempt.{Attempt}
+use Rattle.plan.specs.declared.Attempt.TheVariants.{Standard, Compact, Scan}
 use Rattle.plan.specs.Choice.{Reading, reads, refuses, compact_columns, last_columns, last_reading, last_count_at, has_columns, four, choice}
 use Rattle.scan.specs.Scan.{scan_columns}
 use Rattle.planned.specs.Planned.{walk_of, columns_of}
-use Rattle.plan.specs.Plan.{reading_of, planned, empty_plan, counted, Counted, standard_plan, compact_plan, scan_plan, last_plan, plans, plan_of}
+use Rattle.plan.specs.Plan.{reading_of, planned, empty_plan, counted, Counted, with_columns, standard_plan, compact_plan, scan_plan, last_plan, tried, attempts, plans, plan_of}
 use Rattle.plan.proofs.Standards.{standard_walk_is}
 
 -- ---- a plan says what it stands for
@@ -32,129 +41,172 @@ module _ (page : Page) (s : List ℕ) where
   unfolding counted columns_of walk_of
   counted_is p = record { count = refl; named = refl }
 
-  pub counted_standard : (order : ByteOrder) → Counted page s (standard_plan page order s)
-  unfolding standard_plan
-  counted_standard order = counted_is _
+  counted_tried : (a : Attempt) → Counted page s (tried page s a)
+  unfolding standard_plan compact_plan scan_plan
+  counted_tried (Standard order) = counted_is _
+  counted_tried Compact = counted_is _
+  counted_tried Scan = counted_is _
 
-  pub counted_compact : Counted page s (compact_plan page s)
-  unfolding compact_plan
-  counted_compact = counted_is _
-
-  pub counted_scan : Counted page s (scan_plan page s)
-  unfolding scan_plan
-  counted_scan = counted_is _
-
-  counted_none : (o : Outcome) → Counted page s (empty_plan o)
+  counted_none : Counted page s empty_plan
   unfolding columns_of chain
-  counted_none o = record { count = refl; named = refl }
+  counted_none = record { count = refl; named = refl }
 
-  counted_last : Counted page s (last_plan page s)
+  abbrev Says : Result Plan Refusal → Type 0
+  Says r = IfOk r (Counted page s)
+
+  counted_last : Says (last_plan page s)
   unfolding last_plan
   counted_last = go (eqb (length s) 0) (ltb (length s) (count_at s)) (ltb (length s) (count_at s + 2))
     where
       go : (x y z : Bool)
-          → Counted page s
-          (pick x (empty_plan EmptyReply)
-          (pick y (empty_plan (BufferTooShort (count_at s) (length s)))
-          (pick z (empty_plan Accepted)
-          (counted page s (planned Last LittleEndian false (last_count_at s + 2) (number LittleEndian 2 s (last_count_at s)))))))
-      go true y z = counted_none EmptyReply
-      go false true z = counted_none (BufferTooShort (count_at s) (length s))
-      go false false true = counted_none Accepted
+          → Says
+          (pick x (Err EmptyReply)
+          (pick y (Err (BufferTooShort (count_at s) (length s)))
+          (pick z (Ok empty_plan)
+          (Ok (counted page s (planned (layouts.Compact ends.Last) false (last_count_at s + 2) (number LittleEndian 2 s (last_count_at s))))))))
+      go true y z = tt
+      go false true z = tt
+      go false false true = counted_none
       go false false false = counted_is _
-
-  pub counted_plan : Counted page s (plan_of page s)
-  unfolding plan_of
-  counted_plan =
-      let all : Each (Counted page s) (plans page s) = each_more (counted_standard BigEndian) (each_more counted_compact (each_more (counted_standard LittleEndian) (each_more counted_scan each_none))) in
-      first_in_all (Counted page s) (λ p. has_names page s (columns_of page s p)) (first_in (λ p. has_columns (columns_of page s p)) (plans page s) (last_plan page s)) all
-      (first_in_all (Counted page s) (λ p. has_columns (columns_of page s p)) (last_plan page s) all counted_last)
 
   -- ---- the tests on a plan's numbers
 
-  abbrev F : Plan → Bool
-  F p = has_names page s (columns_of page s p)
+  abbrev F : Result Plan Refusal → Bool
+  F r = has_names page s (reading_of page s r).columns
 
-  abbrev G : Plan → Bool
-  G p = has_columns (columns_of page s p)
+  abbrev G : Result Plan Refusal → Bool
+  G r = has_columns (reading_of page s r).columns
 
-  abbrev L : Plan
+  abbrev L : Result Plan Refusal
   L = last_plan page s
 
+  pub counted_plan : Says (plan_of page s)
+  unfolding plan_of
+  counted_plan =
+      let all : Each Says (plans page s) = each_more (counted_tried (Standard BigEndian)) (each_more (counted_tried Compact) (each_more (counted_tried (Standard LittleEndian)) (each_more (counted_tried Scan) each_none))) in
+      first_in_all Says F (first_in G (plans page s) L) all (first_in_all Says G L all counted_last)
+
   module _ (p : Plan) (c : Counted page s p) where
-    named_yes : 1 ≤ p.named → F p ≡ true
-    unfolding has_names
-    named_yes h = rw (← c.named) (le-leb 1 p.named h)
+    named_yes : 1 ≤ p.run.named → F (Ok p) ≡ true
+    unfolding has_names reading_of
+    named_yes h = rw (← c.named) (le-leb 1 p.run.named h)
 
-    named_no : p.named < 1 → F p ≡ false
-    unfolding has_names
-    named_no h = rw (← c.named) (lt-leb 1 p.named h)
+    named_no : p.run.named < 1 → F (Ok p) ≡ false
+    unfolding has_names reading_of
+    named_no h = rw (← c.named) (lt-leb 1 p.run.named h)
 
-    some_is : G p ≡ leb 1 p.count
-    unfolding has_columns
+    some_is : G (Ok p) ≡ leb 1 p.run.count
+    unfolding has_columns reading_of
     some_is = rw (← c.count) refl
 
-  -- ---- the plans one after the other: those to come, and the one that is kept for want of a name
+  -- no columns, no names
+  none_named : (l : List ColumnMetadata) → leb 1 (length l) ≡ false → has_names page s l ≡ false
+  unfolding has_names
+  none_named [] e = refl
+  none_named (x ∷ l) e = absurd (let z : ◌≡◌ {A = Bool} true false = sym (le-leb 1 (length (x ∷ l)) (omega arith)) ∙ e in cc)
 
-  pub record Undecided (kept : Plan) (xs : List Plan) : Type 0 where
-    pub counted : Counted page s kept
-    pub bounded : kept.limit ≤ 65535
-    pub plan : plan_of page s ≡ undecided F G L kept xs
+  -- ---- one attempt after the other: k is the first plan that has columns, if there was one, and xs are still to come
 
-  -- those after the first
-  abbrev later : List Plan
-  later = compact_plan page s ∷ standard_plan page LittleEndian s ∷ scan_plan page s ∷ []
+  abbrev kept_or : Option Plan → Result Plan Refusal → Result Plan Refusal
+  kept_or (Some k) r = Ok k
+  kept_or None r = r
 
-  module _ (a : Plan) (e : a ≡ standard_plan page BigEndian s) where
-    counted_first : Counted page s a
-    counted_first = subst (Counted page s) (sym e) (counted_standard BigEndian)
+  abbrev results : List Attempt → List (Result Plan Refusal)
+  results xs = map (λ a. Ok (tried page s a)) xs
 
-    pub named_first : 1 ≤ a.named → a ≡ plan_of page s
-    unfolding plan_of
-    named_first h = rw (← e, named_yes a counted_first h) refl
+  abbrev pub undecided : Option Plan → List Attempt → Result Plan Refusal
+  undecided k xs = first_in F (results xs) (kept_or k (first_in G (results xs) L))
 
-    pub unnamed_first : a.limit ≤ 65535 → a.named < 1 → Undecided a later
-    unfolding plan_of
-    unnamed_first h n = record { counted = counted_first; bounded = h; plan = rw (← e) (undecided_first F G L a later (named_no a counted_first n)) }
+  pub undecided_start : plan_of page s ≡ undecided None attempts
+  unfolding plan_of
+  undecided_start = refl
 
-  -- x, the plan that comes next
-  module _ (kept x y : Plan) (xs : List Plan) (u : Undecided kept (y ∷ xs)) (e : x ≡ y) (c : Counted page s y) where
-    counted_next : Counted page s x
-    counted_next = subst (Counted page s) (sym e) c
+  passed : (k : Option Plan) (a : Attempt) (xs : List Attempt) → F (Ok (tried page s a)) ≡ false
+      → undecided k (a ∷ xs) ≡ undecided (option_or k (with_columns (tried page s a))) xs
+  passed (Some k) a xs e = rw e refl
+  passed None a xs e = rw (e, some_is (tried page s a) (counted_tried a)) (go (leb 1 (tried page s a).run.count))
+    where
+      go : (b : Bool)
+          → first_in F (results xs) (pick b (Ok (tried page s a)) (first_in G (results xs) L))
+          ≡ undecided (pick b (Some (tried page s a)) None) xs
+      go true = refl
+      go false = refl
 
-    plan_next : plan_of page s ≡ undecided F G L kept (x ∷ xs)
-    plan_next = rw e u.plan
+  -- attempt number i gives a plan or none
+  module _ (k : Option Plan) (i : ℕ) (d : Attempt) (h : i < 4) (u : plan_of page s ≡ undecided k (drop i attempts)) where
+    abbrev a : Attempt
+    a = get_or attempts i d
 
-    pub named_next : 1 ≤ x.named → x ≡ plan_of page s
-    named_next h = sym (plan_next ∙ undecided_taken F G L kept x xs (named_yes x counted_next h))
+    abbrev xs : List Attempt
+    xs = drop (i + 1) attempts
 
-    pub unnamed_next : x.limit ≤ 65535 → x.named < 1 → (k : Plan) → k ≡ pick (leb 1 kept.count) kept x → Undecided k xs
-    unnamed_next h n k d =
-        let z : k ≡ pick (G kept) kept x = d ∙ rw (some_is kept u.counted) refl in
-        rw z (go (G kept) (plan_next ∙ undecided_next F G L kept x xs (named_no x counted_next n)))
+    next : plan_of page s ≡ undecided k (a ∷ xs)
+    next =
+        let l : i < length attempts = omega arith in
+        let e : drop i attempts ≡ a ∷ xs = rw (add-one, drop-cons attempts i d) refl in
+        u ∙ ap (undecided k) e
+
+    module _ (p : Plan) (e : Some p ≡ with_columns (tried page s a)) where
+      same : p ≡ tried page s a
+      same = go (leb 1 (tried page s a).run.count) e
+        where
+          go : (b : Bool) → Some p ≡ pick b (Some (tried page s a)) None → p ≡ tried page s a
+          go true e = cc
+          go false e = absurd (cc e)
+
+      says : Counted page s p
+      says = subst (Counted page s) (sym same) (counted_tried a)
+
+      pub named_wins : 1 ≤ p.run.named → (Ok p ≡ plan_of page s) × Counted page s p
+      named_wins n =
+          let f : F (Ok (tried page s a)) ≡ true = rw (← same) (named_yes p says n) in
+          (ap (λ (q : Plan). Ok q) same ∙ sym (next ∙ rw f refl), says)
+
+      pub unnamed_waits : (1 ≤ p.run.named → ⊥) → (l : Option Plan) → l ≡ option_or k (Some p) → plan_of page s ≡ undecided l xs
+      unnamed_waits n l g =
+          let z : p.run.named < 1 = omega (arith, n) in
+          let f : F (Ok (tried page s a)) ≡ false = rw (← same) (named_no p says z) in
+          rw (g, e) (next ∙ passed k a xs f)
+
+    pub none_waits : None ≡ with_columns (tried page s a) → (l : Option Plan) → l ≡ k → plan_of page s ≡ undecided l xs
+    unfolding reading_of
+    none_waits e l g =
+        let c = counted_tried a in
+        let f : F (Ok (tried page s a)) ≡ false = none_named (columns_of page s (tried page s a)) (rw (← c.count) (few (leb 1 (tried page s a).run.count) e)) in
+        rw g (next ∙ (passed k a xs f ∙ rw (← e) (same k)))
       where
-        go : (b : Bool) → plan_of page s ≡ undecided F G L (pick b kept x) xs → Undecided (pick b kept x) xs
-        go true q = record { counted = u.counted; bounded = u.bounded; plan = q }
-        go false q = record { counted = counted_next; bounded = h; plan = q }
+        few : (b : Bool) → None ≡ pick b (Some (tried page s a)) None → b ≡ false
+        few true e = absurd (cc e)
+        few false e = refl
 
-  module _ (kept : Plan) (u : Undecided kept []) where
-    pub some_left : 1 ≤ kept.count → kept ≡ plan_of page s
-    some_left h = sym (u.plan ∙ rw (some_is kept u.counted, le-leb 1 kept.count h) refl)
+        same : (k : Option Plan) → undecided (option_or k None) xs ≡ undecided k xs
+        same (Some k) = refl
+        same None = refl
 
-    pub none_left : (l : Plan) → kept.count < 1 → l ≡ L → l ≡ plan_of page s
-    none_left l h e = e ∙ sym (u.plan ∙ rw (some_is kept u.counted, lt-leb 1 kept.count h) refl)
+  -- no attempt is left
+  module _ (k : Option Plan) (i : ℕ) (h : 4 ≤ i) (l : i ≤ 4) (u : plan_of page s ≡ undecided k (drop i attempts)) where
+    over : plan_of page s ≡ kept_or k (last_plan page s)
+    over = let e : i ≡ 4 = omega arith in u ∙ ap (λ (j : ℕ). undecided k (drop j attempts)) e
+
+    pub first_wins : (p : Plan) → k ≡ Some p → (Ok p ≡ plan_of page s) × Counted page s p
+    first_wins p e = let z : plan_of page s ≡ Ok p = over ∙ ap (λ (j : Option Plan). kept_or j (last_plan page s)) e in (sym z, subst Says z counted_plan)
+
+    pub last_wins : (r : Result Plan Refusal) → r ≡ last_plan page s → k ≡ None → (r ≡ plan_of page s) × Says r
+    last_wins r f e =
+        let z : plan_of page s ≡ r = over ∙ (ap (λ (j : Option Plan). kept_or j (last_plan page s)) e ∙ sym f) in
+        (sym z, subst Says z counted_plan)
 
   -- ---- the plan stands for the reading that is chosen
 
-  reads_standard : (order : ByteOrder) → reading_of page s (standard_plan page order s) ≡ reads false (standard page order s)
+  reads_standard : (order : ByteOrder) → reading_of page s (Ok (standard_plan page order s)) ≡ reads false (standard page order s)
   unfolding reading_of standard_plan counted columns_of walk_of
-  reads_standard order = λ i. record { columns = standard_walk_is page order s i; alone = false; refusal = 0 ∷ [] }
+  reads_standard order = ap (reads false) (standard_walk_is page order s)
 
-  reads_compact : reading_of page s (compact_plan page s) ≡ reads true (compact_columns page s)
+  reads_compact : reading_of page s (Ok (compact_plan page s)) ≡ reads true (compact_columns page s)
   unfolding reading_of compact_plan counted columns_of walk_of compact_columns
   reads_compact = refl
 
-  reads_scan : reading_of page s (scan_plan page s) ≡ reads true (scan_columns page s)
+  reads_scan : reading_of page s (Ok (scan_plan page s)) ≡ reads true (scan_columns page s)
   unfolding reading_of scan_plan counted columns_of walk_of scan_columns
   reads_scan = refl
 
@@ -164,10 +216,10 @@ module _ (page : Page) (s : List ℕ) where
     where
       go : (x y z : Bool)
           → reading_of page s
-          (pick x (empty_plan EmptyReply)
-          (pick y (empty_plan (BufferTooShort (count_at s) (length s)))
-          (pick z (empty_plan Accepted)
-          (counted page s (planned Last LittleEndian false (last_count_at s + 2) (number LittleEndian 2 s (last_count_at s)))))))
+          (pick x (Err EmptyReply)
+          (pick y (Err (BufferTooShort (count_at s) (length s)))
+          (pick z (Ok empty_plan)
+          (Ok (counted page s (planned (layouts.Compact ends.Last) false (last_count_at s + 2) (number LittleEndian 2 s (last_count_at s))))))))
           ≡ pick x (refuses (1 ∷ []))
           (pick y (refuses (2 ∷ count_at s ∷ length s ∷ [])) (pick z (reads false []) (reads false (last_columns page s))))
       go true y z = refl
@@ -185,12 +237,8 @@ module _ (page : Page) (s : List ℕ) where
   G' r = has_columns r.columns
 
   pub plan_reads : reading_of page s (plan_of page s) ≡ choice page s
-  unfolding plan_of choice reading_of
+  unfolding plan_of choice
   plan_reads =
       first_in_view (reading_of page s) F F' (λ x. refl) (plans page s) (first_in G (plans page s) L)
       ∙ ap (first_in F' (map (reading_of page s) (plans page s))) (first_in_view (reading_of page s) G G' (λ x. refl) (plans page s) L)
       ∙ (λ i. first_in F' (reads_plans i) (first_in G' (reads_plans i) (reads_last i)))
-
-  -- a plan that is the chosen one says what it stands for
-  pub planned_is : (r : Plan) → r ≡ plan_of page s → r.limit ≤ 65535 → (r ≡ plan_of page s) × (Counted page s r × (r.limit ≤ 65535))
-  planned_is r e h = (e, (subst (Counted page s) (sym e) counted_plan, h))

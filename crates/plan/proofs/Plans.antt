@@ -1,20 +1,20 @@
 -- The readings' plans: a law for each way out of the functions that make them.
 use mathlib.Core.Path.{◌≡◌, refl, sym, ap, subst, ◌∙◌}
-use mathlib.Core.Bool.{Bool, true, false}
+use mathlib.Core.Bool.{true, false}
 use mathlib.Core.List.{List, [], ◌∷◌}
 use Prim.Native.Nat.{ℕ, ◌+◌, ◌-◌, ◌≤◌, ◌<◌}
 use native.Mathlib.Omega.{arith}
 use lib.Dec.{leb}
 use lib.ListN.{length}
 use borrow.Author.Tests.{eq-eqb, ne_eqb, lt-ltb, le-ltb, le-leb}
+use Rattle.std.specs.Prelude.{Some, None, Ok, Err}
 use Rattle.search.specs.Walks.{chain}
 use Rattle.search.proofs.Best.{best_all}
 use Rattle.codepage.specs.Page.{Page}
 use Rattle.field.specs.declared.ByteOrder.{ByteOrder}
 use Rattle.field.specs.declared.ByteOrder.TheVariants.{BigEndian, LittleEndian}
 use Rattle.field.specs.Numbers.{number}
-use Rattle.outcome.specs.declared.Outcome.{Outcome}
-use Rattle.outcome.specs.declared.Outcome.TheVariants.{Accepted, EmptyReply, BufferTooShort}
+use Rattle.outcome.specs.declared.Refusal.TheVariants.{EmptyReply, BufferTooShort}
 use Rattle.types.specs.declared.ColumnMetadata.{ColumnMetadata}
 use Rattle.column.specs.declared.Run.{Run}
 use Rattle.column.specs.Column.{named_in}
@@ -24,36 +24,32 @@ use Rattle.descriptor.specs.Run.{standard_walk, standard_run}
 use Rattle.descriptor.proofs.Descriptors.{length_views}
 use Rattle.descriptor.proofs.Exchange.{Gives, gives_is}
 use Rattle.compact_table.specs.declared.Table.{Table}
-use Rattle.compact_table.specs.Table.{table_of}
+use Rattle.compact_table.specs.Table.{no_table, table_of}
 use Rattle.compact.specs.declared.Ends.TheVariants as ends
 use Rattle.compact.specs.Compact.{compact_run}
 use Rattle.scan.specs.declared.Best.{Best}
 use Rattle.scan.specs.Scan.{better, no_run, run_from, scan_order, scan_best, limit_of}
 use Rattle.planned.specs.declared.Plan.{Plan}
-use Rattle.planned.specs.declared.Layout.{Layout}
-use Rattle.planned.specs.declared.Layout.TheVariants.{Standard, Compact, Last}
+use Rattle.planned.specs.declared.Layout.TheVariants as layouts
 use Rattle.plan.specs.Choice.{last_count_at}
 use Rattle.planned.specs.Planned.{walk_of, columns_of}
-use Rattle.plan.specs.Plan.{planned, plan_with, no_columns, empty_plan, counted, standard_plan, compact_plan, scan_plan, last_plan}
+use Rattle.plan.specs.Plan.{planned, plan_with, empty_plan, counted, with_columns, standard_plan, compact_plan, scan_plan, last_plan}
 use Rattle.plan.proofs.Standards.{chain_views, chain_full, gives_not}
 
--- the limit of a plan is the one that it was made with
-pub limit_le : (r : Plan) (layout : Layout) (order : ByteOrder) (alone : Bool) (p n : ℕ) (x : Run) → r ≡ plan_with layout order alone p n x → n ≤ 65535
-    → r.limit ≤ 65535
-limit_le r layout order alone p n x e h = let f = ap (λ (y : Plan). y.limit) e in omega arith
+-- ---- a plan, if it has columns
 
-pub limit_none : (r : Plan) (order : ByteOrder) → r ≡ no_columns order → r.limit ≤ 65535
-limit_none r order e = let f = ap (λ (y : Plan). y.limit) e in omega arith
+pub some_columns : (r y : Plan) → r ≡ y → (r.run.count ≡ 0 → ⊥) → Some r ≡ with_columns y
+some_columns r y e h = rw (← e, le-leb 1 r.run.count (omega arith)) refl
 
-pub limit_empty : (r : Plan) (o : Outcome) → r ≡ empty_plan o → r.limit ≤ 65535
-limit_empty r o e = let f = ap (λ (y : Plan). y.limit) e in omega arith
+pub no_columns : (r y : Plan) → r ≡ y → r.run.count ≡ 0 → None ≡ with_columns y
+no_columns r y e h = rw (← e, h) refl
 
 -- ---- standard
 
 module _ (page : Page) (order : ByteOrder) (s : List ℕ) where
-  pub standard_none : (r : Plan) → r ≡ no_columns order → (Gives order s → ⊥) → r ≡ standard_plan page order s
+  pub standard_none : (Gives order s → ⊥) → None ≡ with_columns (standard_plan page order s)
   unfolding standard_plan counted columns_of walk_of chain
-  standard_none r e h = rw (gives_not page order s h) e
+  standard_none h = rw (gives_not page order s h) refl
 
   -- n is the count that stands at p
   module _ (p n : ℕ) (e : p ≡ count_at s) (f : n ≡ number order 2 s p) where
@@ -61,11 +57,8 @@ module _ (page : Page) (order : ByteOrder) (s : List ℕ) where
     unfolding count_in
     count_is = f ∙ ap (number order 2 s) e
 
-    pub standard_zero : (r : Plan) → r ≡ no_columns order → n ≡ 0 → r ≡ standard_plan page order s
-    standard_zero r g h = standard_none r g (λ k. omega (arith, k.some, count_is))
-
-    pub standard_many : (r : Plan) → r ≡ no_columns order → 512 < n → r ≡ standard_plan page order s
-    standard_many r g h = standard_none r g (λ k. omega (arith, k.few, count_is))
+    pub standard_few : (1 ≤ n → n ≤ 512 → ⊥) → None ≡ with_columns (standard_plan page order s)
+    standard_few h = standard_none (λ k. h (omega (arith, k.some, count_is)) (omega (arith, k.few, count_is)))
 
     -- a run of as many as there are, where the reading gives columns
     run_all : Gives order s → (standard_run page order s n (p + 2)).count ≡ n
@@ -75,10 +68,10 @@ module _ (page : Page) (order : ByteOrder) (s : List ℕ) where
         (ap length (chain_views page order s (count_in order s) 0 (count_at s + 2) g.all) ∙ length_views order (column_at page order) 0 (count_in order s) s (count_at s + 2))
 
     module _ (x : Run) (u : x ≡ standard_run page order s n (p + 2)) where
-      pub standard_cut : (r : Plan) → r ≡ no_columns order → (x.count ≡ n → ⊥) → r ≡ standard_plan page order s
-      standard_cut r g v = standard_none r g (λ k. v (ap (λ (y : Run). y.count) u ∙ run_all k))
+      pub standard_cut : (x.count ≡ n → ⊥) → None ≡ with_columns (standard_plan page order s)
+      standard_cut v = standard_none (λ k. v (ap (λ (y : Run). y.count) u ∙ run_all k))
 
-      run_gives : p + 2 ≤ length s → (n ≡ 0 → ⊥) → n ≤ 512 → x.count ≡ n → gives order s ≡ true
+      run_gives : p + 2 ≤ length s → 1 ≤ n → n ≤ 512 → x.count ≡ n → gives order s ≡ true
       unfolding standard_run start_of
       run_gives h a b v =
           let l : length (chain (standard_walk page order s) n 0 (p + 2)) ≡ n = ap (λ (y : Run). y.count) (sym u) ∙ v in
@@ -86,21 +79,29 @@ module _ (page : Page) (order : ByteOrder) (s : List ℕ) where
           let d' : descriptors_end order (count_in order s) s (count_at s + 2) ≤ length s = rw (← count_is, ← e) d in
           gives_is order s (record { room = omega arith; some = omega (arith, count_is); few = omega (arith, count_is); all = d' })
 
-      pub standard_is : (r : Plan) → r ≡ plan_with Standard order false (p + 2) n x → p + 2 ≤ length s → (n ≡ 0 → ⊥) → n ≤ 512 → x.count ≡ n
-          → r ≡ standard_plan page order s
+      pub standard_is : (r : Plan) → r ≡ plan_with (layouts.Standard order) false (p + 2) n x → p + 2 ≤ length s → 1 ≤ n → n ≤ 512 → x.count ≡ n
+          → Some r ≡ with_columns (standard_plan page order s)
       unfolding standard_plan counted columns_of walk_of standard_run
       standard_is r g h a b v =
-          g ∙ (ap (plan_with Standard order false (p + 2) n) u ∙ rw (run_gives h a b v, e, count_is) refl)
+          let c : r.run.count ≡ n = ap (λ (y : Plan). y.run.count) g ∙ v in
+          some_columns r (standard_plan page order s)
+          (g ∙ (ap (plan_with (layouts.Standard order) false (p + 2) n) u ∙ rw (run_gives h a b v, e, count_is) refl))
+          (λ z. omega arith)
 
 -- ---- compact
 
 pub compact_is : (page : Page) (s : List ℕ) (r : Plan) (t : Table) (x : Run) → t ≡ table_of s → x ≡ compact_run page ends.Compact s t.count t.start
-    → r ≡ plan_with Compact LittleEndian true t.start t.count x → r ≡ compact_plan page s
+    → r ≡ plan_with (layouts.Compact ends.Compact) true t.start t.count x → r ≡ compact_plan page s
 unfolding compact_plan counted columns_of walk_of compact_run
 compact_is page s r t x e f g =
     g
-    ∙ (ap (plan_with Compact LittleEndian true t.start t.count) f
-    ∙ ap (λ (u : Table). counted page s (planned Compact LittleEndian true u.start u.count)) e)
+    ∙ (ap (plan_with (layouts.Compact ends.Compact) true t.start t.count) f
+    ∙ ap (λ (u : Table). counted page s (planned (layouts.Compact ends.Compact) true u.start u.count)) e)
+
+-- no table, no columns
+pub compact_none : (page : Page) (s : List ℕ) → no_table ≡ table_of s → None ≡ with_columns (compact_plan page s)
+unfolding compact_plan counted columns_of walk_of chain
+compact_none page s e = rw (← e) refl
 
 -- ---- the scan
 
@@ -140,39 +141,43 @@ counts_scan page s =
     (counts_run page LittleEndian s)
 
 scan_counted : (page : Page) (s : List ℕ) (b : Best) (n : ℕ) → n ≡ limit_of b → Counts page s b
-    → plan_with Standard b.order true b.start n (record { count = b.count; named = b.named })
-    ≡ counted page s (planned Standard b.order true b.start (limit_of b))
+    → plan_with (layouts.Standard b.order) true b.start n (record { count = b.count; named = b.named })
+    ≡ counted page s (planned (layouts.Standard b.order) true b.start (limit_of b))
 unfolding counted columns_of walk_of
-scan_counted page s b n f h = λ i. plan_with Standard b.order true b.start (f i) (record { count = h.count_is i; named = h.named_is i })
+scan_counted page s b n f h = λ i. plan_with (layouts.Standard b.order) true b.start (f i) (record { count = h.count_is i; named = h.named_is i })
 
-pub scan_is : (page : Page) (s : List ℕ) (r : Plan) (b : Best) (n : ℕ) → b ≡ scan_best page s → n ≡ limit_of b
-    → r ≡ plan_with Standard b.order true b.start n (record { count = b.count; named = b.named }) → r ≡ scan_plan page s
-unfolding scan_plan
-scan_is page s r b n e f g =
-    g
-    ∙ (scan_counted page s b n f (subst (Counts page s) (sym e) (counts_scan page s))
-    ∙ ap (λ (x : Best). counted page s (planned Standard x.order true x.start (limit_of x))) e)
+module _ (page : Page) (s : List ℕ) (b : Best) (e : b ≡ scan_best page s) where
+  scan_is : (n : ℕ) → n ≡ limit_of b → plan_with (layouts.Standard b.order) true b.start n (record { count = b.count; named = b.named }) ≡ scan_plan page s
+  unfolding scan_plan
+  scan_is n f =
+      scan_counted page s b n f (subst (Counts page s) (sym e) (counts_scan page s))
+      ∙ ap (λ (x : Best). counted page s (planned (layouts.Standard x.order) true x.start (limit_of x))) e
+
+  pub scan_none : b.count ≡ 0 → None ≡ with_columns (scan_plan page s)
+  scan_none h = no_columns _ _ (scan_is (limit_of b) refl) h
+
+  pub scan_some : (b.count ≡ 0 → ⊥) → Some (plan_with (layouts.Standard b.order) true b.start 512 (record { count = b.count; named = b.named })) ≡ with_columns (scan_plan page s)
+  scan_some h = some_columns _ _ (scan_is 512 (rw (le-leb 1 b.count (omega arith)) refl)) h
 
 -- ---- the last reader
 
 module _ (page : Page) (s : List ℕ) where
-  pub last_empty : (r : Plan) → r ≡ empty_plan EmptyReply → length s ≡ 0 → r ≡ last_plan page s
+  pub last_empty : length s ≡ 0 → Err EmptyReply ≡ last_plan page s
   unfolding last_plan
-  last_empty r e h = rw (eq-eqb (length s) 0 h) e
+  last_empty h = rw (eq-eqb (length s) 0 h) refl
 
   module _ (p : ℕ) (h : length s ≡ 0 → ⊥) (f : p ≡ count_at s) where
-    pub last_early : (r : Plan) → r ≡ empty_plan (BufferTooShort p (length s)) → length s < p → r ≡ last_plan page s
+    pub last_early : length s < p → Err (BufferTooShort p (length s)) ≡ last_plan page s
     unfolding last_plan
-    last_early r e g = rw (ne_eqb (length s) 0 h, ← f, lt-ltb (length s) p g) e
+    last_early g = rw (ne_eqb (length s) 0 h, ← f, lt-ltb (length s) p g) refl
 
-    pub last_none : (r : Plan) → r ≡ empty_plan Accepted → p ≤ length s → length s < p + 2 → r ≡ last_plan page s
+    pub last_none : p ≤ length s → length s < p + 2 → Ok empty_plan ≡ last_plan page s
     unfolding last_plan
-    last_none r e g i = rw (ne_eqb (length s) 0 h, ← f, le-ltb (length s) p g, lt-ltb (length s) (p + 2) i) e
+    last_none g i = rw (ne_eqb (length s) 0 h, ← f, le-ltb (length s) p g, lt-ltb (length s) (p + 2) i) refl
 
     pub last_is : (r : Plan) (q n : ℕ) (x : Run) → p + 2 ≤ length s → q ≡ last_count_at s → n ≡ number LittleEndian 2 s q
-        → x ≡ compact_run page ends.Last s n (q + 2) → r ≡ plan_with Last LittleEndian false (q + 2) n x → r ≡ last_plan page s
+        → x ≡ compact_run page ends.Last s n (q + 2) → r ≡ plan_with (layouts.Compact ends.Last) false (q + 2) n x → Ok r ≡ last_plan page s
     unfolding last_plan counted columns_of walk_of compact_run
     last_is r q n x g i j k l =
-        l
-        ∙ (ap (plan_with Last LittleEndian false (q + 2) n) k
-        ∙ rw (ne_eqb (length s) 0 h, ← f, le-ltb (length s) p (omega arith), le-ltb (length s) (p + 2) g, ← i, ← j) refl)
+        ap (λ (y : Plan). Ok y) (l ∙ ap (plan_with (layouts.Compact ends.Last) false (q + 2) n) k)
+        ∙ rw (ne_eqb (length s) 0 h, ← f, le-ltb (length s) p (omega arith), le-ltb (length s) (p + 2) g, ← i, ← j) refl

@@ -1,1 +1,2 @@
 pub mod Planned
+pub mod Columns

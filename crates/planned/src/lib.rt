@@ -1,60 +1,64 @@
 // A plan, made before anything is written, and its columns one by one: what a descriptor says, the numbers that it is written in, and the record.
 #![tactic(auto)]
 
-ghost use Rattle.std.specs.Prelude.{◌++◌, ◌≡◌, true, ◌+◌, ◌-◌, ◌<◌, ◌≤◌, length, drop};
+ghost use Rattle.std.specs.Prelude.{◌++◌, ◌≡◌, ◌↔◌, IsTrue, true, ◌+◌, ◌-◌, ◌<◌, ◌≤◌, length, drop};
 ghost use Rattle.codepage.specs.Page.{page037};
 ghost use Rattle.column.specs.Column.{StringsInside};
 ghost use Rattle.column.specs.Numbers.{numbers_of, Fits};
 ghost use Rattle.compact.specs.Compact.{compact_at, end_by};
 ghost use Rattle.planned.specs.Planned.{walk_of, described_by, Reads};
 
-use column::Described;
+use column::{Described, Run};
 use compact::Ends;
 use field::ByteOrder;
-use outcome::Outcome;
-use types::ColumnMetadata;
 
-// How the descriptors lie.
-#[derive(Clone, Copy)]
+mod reading;
+
+pub use reading::Columns;
+
+// How the descriptors lie: standard ones in either byte order, or compact ones, which the two readers of them end differently.
+#[derive(Clone, Copy, Debug, PartialEq, Eq)]
 pub enum Layout {
-    Standard,
-    Compact,
-    Last,
+    Standard(ByteOrder),
+    Compact(Ends),
 }
 
-// The descriptors start at `start`; at most `limit` are read, `count` of them can be, and `named` of those have names that are not
-// generated. `alone`: the status is read alone on the whole reply.
+// The descriptors start at `start`, and at most `limit` are read: `run` says how many can be, and how many of those have names that are not
+// generated. `alone`: the status is read alone on the whole reply, else as the group. A bool, as in the definition of a reading.
 #[derive(Clone, Copy)]
 pub struct Plan {
     pub layout: Layout,
-    pub order: ByteOrder,
     pub alone: bool,
     pub start: usize,
-    pub limit: usize,
-    pub count: usize,
-    pub named: usize,
-    pub outcome: Outcome,
+    pub limit: u16,
+    pub run: Run,
 }
 
-fn read_by_ends(reply: &[u8], ends: Ends, left: usize, offset: usize) -> Described
-    requires { (offset + 16 ≤ end_by ends left reply.now offset) × (offset + 16 ≤ length reply.now) }
-    ensures { (result ≡ compact_at reply.now offset (end_by ends left reply.now offset)) × StringsInside reply.now result }
-{
-    let end = compact::compact_end(ends, left, reply, offset);
-    compact::read_compact(reply, offset, end)
+impl Plan {
+    pub fn has_columns(&self) -> bool
+        ensures { IsTrue result ↔ (1 ≤ self.now.run.count) }
+    {
+        self.run.count != 0
+    }
+
+    pub fn has_names(&self) -> bool
+        ensures { IsTrue result ↔ (1 ≤ self.now.run.named) }
+    {
+        self.run.named != 0
+    }
 }
 
-// The descriptor at `offset`, with `left` more to come after it.
+// The descriptor at `offset`, with `left` more to come after it. A plan is kept and its layout known only at run time: so a match, and no closure.
 fn read_descriptor(reply: &[u8], plan: Plan, left: usize, offset: usize) -> Described
     requires { Reads page037 reply.now plan left offset }
-    ensures { (result ≡ described_by plan.layout plan.order left reply.now offset) × StringsInside reply.now result }
+    ensures { (result ≡ described_by plan.layout left reply.now offset) × StringsInside reply.now result }
 {
-    let layout = plan.layout;
-    let order = plan.order;
-    match layout {
-        Layout::Standard => descriptor::read_descriptor(reply, offset, order),
-        Layout::Compact => read_by_ends(reply, Ends::Compact, left, offset),
-        Layout::Last => read_by_ends(reply, Ends::Last, left, offset),
+    match plan.layout {
+        Layout::Standard(order) => descriptor::read_descriptor(reply, offset, order),
+        Layout::Compact(ends) => {
+            let end = compact::compact_end(ends, left, reply, offset);
+            compact::read_compact(reply, offset, end)
+        }
     }
 }
 
@@ -63,50 +67,18 @@ pub fn column_numbers(
     reply: &[u8],
     plan: Plan,
     offset: usize,
-    index: usize,
+    index: u16,
     numbers: &mut [u64],
 ) -> usize
     requires index_lt_limit { index < plan.limit }
-    requires limit_bound { plan.limit ≤ 65535 }
     requires reads { Reads page037 reply.now plan (plan.limit - (index + 1)) offset }
     requires in_bounds { 19 ≤ length numbers.old }
     ensures ends { result ≡ (walk_of page037 reply.now plan).end (plan.limit - (index + 1)) offset }
-    ensures writes { numbers.new ≡ numbers_of page037 reply.now index (described_by plan.layout plan.order (plan.limit - (index + 1)) reply.now offset) ++ drop 19 numbers.old }
+    ensures writes { numbers.new ≡ numbers_of page037 reply.now index (described_by plan.layout (plan.limit - (index + 1)) reply.now offset) ++ drop 19 numbers.old }
     ensures fits { Fits numbers.new }
 {
-    let described = read_descriptor(reply, plan, plan.limit - (index + 1), offset);
-    column::put_column(reply, index as u16, described, numbers);
+    let left = plan.limit - (index + 1);
+    let described = read_descriptor(reply, plan, left as usize, offset);
+    column::put_column(reply, index, described, numbers);
     described.next
-}
-
-// A column, and where the next descriptor starts.
-#[derive(Clone, Copy)]
-pub struct ColumnRead {
-    pub column: ColumnMetadata,
-    pub next: usize,
-}
-
-pub fn column_here(reply: &[u8], plan: Plan, offset: usize, index: usize) -> ColumnRead
-    requires index_lt_limit { index < plan.limit }
-    requires limit_bound { plan.limit ≤ 65535 }
-    requires reads { Reads page037 reply.now plan (plan.limit - (index + 1)) offset }
-    ensures views { result.column ≡ (walk_of page037 reply.now plan).view index offset result.next }
-    ensures ends { result.next ≡ (walk_of page037 reply.now plan).end (plan.limit - (index + 1)) offset }
-{
-    let mut numbers = [0u64; 19];
-    let next = column_numbers(reply, plan, offset, index, &mut numbers);
-    let column = column::column_of(&numbers);
-    ColumnRead { column, next }
-}
-
-pub fn column_of_read(read: ColumnRead) -> ColumnMetadata
-    ensures { result ≡ read.column }
-{
-    read.column
-}
-
-pub fn next_of_read(read: ColumnRead) -> usize
-    ensures { result ≡ read.next }
-{
-    read.next
 }

@@ -30,11 +30,6 @@ pub keep_old : (x y : Best) (b : Bool) → b ≡ better y x → b ≡ false → 
 unfolding keep
 keep_old x y b e f = rw (← e, f) refl
 
-pub run_is : (page : Page) (order : ByteOrder) (s : List ℕ) (p : ℕ) (r : Run) → r ≡ standard_run page order s 512 p
-    → record { start = p; order = order; count = r.count; named = r.named } ≡ run_from page order s p
-unfolding run_from
-run_is page order s p r e = λ i. record { start = p; order = order; count = (e i).count; named = (e i).named }
-
 pub scan_short : (page : Page) (order : ByteOrder) (s : List ℕ) (x : Best) → length s < 18 → x ≡ scan_order page order s x
 unfolding scan_order
 scan_short page order s x h =

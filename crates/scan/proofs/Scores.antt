@@ -1,4 +1,4 @@
--- The difference of two numbers as the machine has it, and a run's score by its cases.
+-- The difference of two numbers as the machine has it, and which of two scores is greater.
 use mathlib.Core.Path.{◌≡◌, refl, sym, ap, ◌∙◌, subst}
 use mathlib.Core.Bool.{Bool, true, false, cond}
 use Prim.Native.Nat.{ℕ, zero, suc, ◌+◌, ◌-◌, ◌^◌, ◌<◌, ◌≤◌}
@@ -9,9 +9,8 @@ use lib.Signed.{mag, lt_z}
 use mir.Syntax.{w64}
 use mir.Val.{SFits, to_z, of_z}
 use mir.Facts.{to_z-of_z, to_z_pos}
-use borrow.Author.Tests.{lt-ltb, le-ltb, ltb-true, ltb-false, le-leb, lt-leb}
+use borrow.Author.Tests.{lt-ltb, le-ltb, ltb-true, ltb-false}
 use Rattle.scan.specs.declared.Best.{Best}
-use Rattle.scan.specs.Score.{exact_score}
 use Rattle.scan.specs.Scan.{score, better}
 
 -- ---- the machine's difference
@@ -51,19 +50,6 @@ pub back64 : (z : ℤ) → mag z < 0x8000_0000_0000_0000 → to_z w64 (of_z w64 
 back64 z h = to_z-of_z {w = w64} {z = z} (record { sfits = h })
 
 -- ---- the score
-
-module _ (x : Best) where
-  pub score_one : x.count < 2 → pos 0 ≡ score x
-  unfolding score
-  score_one h = rw (lt-leb 2 x.count h) refl
-
-  pub score_none : 2 ≤ x.count → x.named ≡ 0 → pos 0 ≡ score x
-  unfolding score
-  score_none h e = rw (le-leb 2 x.count h, lt-leb 1 x.named (omega arith)) refl
-
-  pub score_is : (z : ℤ) → 2 ≤ x.count → (x.named ≡ 0 → ⊥) → z ≡ exact_score x.named x.count (x.count - x.named) → z ≡ score x
-  unfolding score
-  score_is z h e f = rw (le-leb 2 x.count h, le-leb 1 x.named (omega arith)) f
 
 -- a and b are the machine's scores of x and y
 pub better_is : (x y : Best) (a b : ℤ) → mag a < 0x8000_0000_0000_0000 → mag b < 0x8000_0000_0000_0000 → a ≡ score x → b ≡ score y

@@ -7,10 +7,11 @@ ghost use Rattle.codepage.specs.Page.{page037};
 ghost use Rattle.scan.specs.Score.{exact_score};
 ghost use Rattle.scan.specs.Scan.{score, better, run_from, scan_order, scan_best, Few, InHand};
 
+use column::Run;
 use field::ByteOrder;
 
 // A run: where it starts, its byte order, how many columns it has and how many of them have names that are not generated.
-#[derive(Clone, Copy)]
+#[derive(Clone, Copy, Debug, PartialEq, Eq)]
 pub struct Best {
     pub start: usize,
     pub order: ByteOrder,
@@ -27,28 +28,15 @@ pub fn exact_score(named: usize, columns: usize, generated: usize) -> i64
 }
 
 // 0 for a run that does not count: one column, or none named.
+#[tactic(auto, unfolding(crate::specs::Scan::score))]
 fn score_of(run: Best) -> i64
     requires { Few run }
     ensures { result ≡ score run }
 {
-    let columns = run.count;
-    let named = run.named;
-    if columns < 2 {
+    if run.count < 2 || run.named == 0 {
         return 0;
     }
-    if named == 0 {
-        return 0;
-    }
-    exact_score(named, columns, columns - named)
-}
-
-fn is_better(run: Best, best: Best) -> bool
-    requires { (Few run) × (Few best) }
-    ensures { result ≡ better run best }
-{
-    let new = score_of(run);
-    let old = score_of(best);
-    old < new
+    exact_score(run.named, run.count, run.count - run.named)
 }
 
 // Only a strictly greater score replaces.
@@ -56,22 +44,23 @@ fn better_of(best: Best, run: Best) -> Best
     requires { (InHand best) × (Few run) }
     ensures { (result ≡ keep better best run) × (InHand result) }
 {
-    if is_better(run, best) {
+    if score_of(best) < score_of(run) {
         return run;
     }
     best
 }
 
+#[tactic(auto, unfolding(crate::specs::Scan::run_from))]
 fn run_from(reply: &[u8], order: ByteOrder, start: usize) -> Best
     requires { start ≤ length reply.now }
     ensures { (result ≡ run_from page037 order reply.now start) × (Few result) }
 {
-    let run = descriptor::standard_run(reply, order, 512, start);
+    let Run { count, named } = descriptor::standard_run(reply, order, 512, start);
     Best {
         start,
         order,
-        count: run.count,
-        named: run.named,
+        count,
+        named,
     }
 }
 
@@ -91,15 +80,12 @@ fn scan_order(reply: &[u8], order: ByteOrder, from: Best) -> Best
     requires { InHand from }
     ensures { (result ≡ scan_order page037 order reply.now from) × (InHand result) }
 {
-    if reply.len() < 18 {
+    let Some(end) = reply.len().checked_sub(17) else {
         return from;
-    }
-    let end = reply.len() - 17;
+    };
     let mut best = from;
-    let mut start = 0;
-    while start < end {
+    for start in 0..end {
         best = best_with_start(reply, order, best, start);
-        start += 1;
     }
     best
 }

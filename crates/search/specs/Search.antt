@@ -1,5 +1,6 @@
 -- Choosing, testing and searching: the words that the readers' definitions are made of. No document defines them; each is its own source.
 use Rattle.std.specs.Prelude.{ℕ, zero, suc, ◌+◌, List, [], ◌∷◌, ◌++◌, Bool, true, false, ◌&&◌, length, drop}
+use Rattle.std.specs.List.{list_all}
 
 -- the first of two where the test holds, else the second
 abbrev pub pick : {A : Type 0} → Bool → A → A → A
@@ -18,8 +19,7 @@ below (suc n) f = f n && below n f
 
 -- the test holds of every element
 abbrev pub each : {A : Type 0} → (A → Bool) → List A → Bool
-each f [] = true
-each f (x ∷ xs) = f x && each f xs
+each f xs = list_all f xs
 
 -- how many elements pass the test
 abbrev pub count : {A : Type 0} → (A → Bool) → List A → ℕ

@@ -1,4 +1,4 @@
-pub mod Orders
 pub mod Extended
 pub mod Messages
 pub mod Local
+pub mod Made

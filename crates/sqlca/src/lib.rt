@@ -1,187 +1,199 @@
 // The fields of a SQLCA: SQLCODE and its byte order, state and proc, numbers and warnings, the message.
 #![tactic(auto)]
 
-ghost use Rattle.std.specs.Prelude.{◌≡◌, ◌+◌, ◌≤◌, length};
+ghost use Rattle.std.specs.Prelude.{◌≡◌, ◌+◌, ◌<◌, ◌≤◌, true, false, not, eqb, length, get_or, MatchOption};
 ghost use Rattle.search.specs.Search.{each};
 ghost use Rattle.codepage.specs.Page.{page037};
 ghost use Rattle.field.specs.Numbers.{number, signed};
 ghost use Rattle.message.specs.Message.{is_printable, has_text};
-ghost use Rattle.sqlca.specs.Code.{is_near, code_order, code_of, numbers_order, fixed_chars};
-ghost use Rattle.sqlca.specs.Extension.{is_extended, numbers_from, rows_of, warnings_of, extension_of};
+ghost use Rattle.sqlca.specs.Code.{is_near, code_bits, code_order, code_of, state_bytes, proc_bytes, numbers_order, fixed_chars};
+ghost use Rattle.sqlca.specs.Extension.{is_extended, numbers_from, rows_of, warnings_of, extension_in};
 ghost use Rattle.sqlca.specs.Message.{bytes_of, message_at};
 
 use field::ByteOrder;
+use message::Message;
+use std::array;
 use strings::StringRead;
 
 // Within 100,000 of 0 as a signed number.
+#[tactic(auto, unfolding(crate::specs::Code::is_near))]
 fn is_near(bits: u32) -> bool
     ensures { result ≡ is_near bits }
 {
-    (bits <= 100_000) | (bits >= 0xFFFE_7960)
-}
-
-fn sqlcode_order(reply: &[u8]) -> ByteOrder
-    requires { 19 ≤ length reply.now }
-    ensures { result ≡ code_order reply.now }
-{
-    let big = field::u32_at(reply, 1, ByteOrder::BigEndian);
-    let little = field::u32_at(reply, 1, ByteOrder::LittleEndian);
-    if is_near(big) & !is_near(little) {
-        ByteOrder::BigEndian
-    } else {
-        ByteOrder::LittleEndian
-    }
-}
-
-fn number_at(reply: &[u8], offset: usize, order: ByteOrder) -> i32
-    requires { offset + 4 ≤ length reply.now }
-    ensures { result ≡ signed (number order 4 reply.now offset) }
-{
-    field::to_signed(field::u32_at(reply, offset, order))
-}
-
-pub fn sqlcode(reply: &[u8]) -> i32
-    requires { 19 ≤ length reply.now }
-    ensures { result ≡ code_of reply.now }
-{
-    number_at(reply, 1, sqlcode_order(reply))
-}
-
-fn sqlerrd_order(reply: &[u8]) -> ByteOrder
-    requires { 19 ≤ length reply.now }
-    ensures { result ≡ numbers_order reply.now }
-{
-    let big = field::u32_at(reply, 1, ByteOrder::BigEndian);
-    let little = field::u32_at(reply, 1, ByteOrder::LittleEndian);
-    if big != little {
-        return sqlcode_order(reply);
-    }
-    if text::is_ascii(&reply[5..10]) {
-        ByteOrder::LittleEndian
-    } else {
-        ByteOrder::BigEndian
-    }
+    field::to_signed(bits).unsigned_abs() <= 100_000
 }
 
 fn all_printable(bytes: &[u8]) -> bool
     ensures { result ≡ each is_printable bytes.now }
 {
-    let mut i = 0;
-    while i < bytes.len() {
-        if !message::is_printable(bytes[i]) {
-            return false;
-        }
-        i += 1;
-    }
-    true
+    bytes.iter().all(|byte| message::is_printable(*byte))
 }
 
 // The characters of state or proc, untrimmed.
-pub fn fixed_chars(bytes: &[u8], characters: &mut [u8])
-    requires { length bytes.now ≡ length characters.old }
-    ensures { characters.new ≡ fixed_chars page037 bytes.now }
+#[tactic(auto, unfolding(crate::specs::Code::fixed_chars), using(search::proofs::Over::over_whole))]
+fn fixed_chars<const N: usize>(bytes: &[u8]) -> [u8; N]
+    requires { length bytes.now ≡ N }
+    ensures { result ≡ fixed_chars page037 bytes.now }
 {
+    let mut characters = [0; N];
     if all_printable(bytes) {
         characters.copy_from_slice(bytes);
     } else {
-        codepage::write_chars(bytes, characters);
+        codepage::write_chars(bytes, &mut characters);
     }
+    characters
 }
 
-// Whether a status that is read alone has an extension: its flag says so, and its numbers are there.
-pub fn is_extended(reply: &[u8]) -> bool
-    requires { 19 ≤ length reply.now }
-    ensures { result ≡ is_extended reply.now }
-{
-    (reply[18] != 0xFF) & (reply.len() >= 43)
-}
-
-// The numbers, rows updated and warnings of an extension; all 0 where it counts as absent.
-#[derive(Clone, Copy)]
+// The numbers, rows updated and warnings of an extension.
+#[derive(Clone, Copy, Debug, Default, PartialEq, Eq)]
 pub struct Extension {
     pub sqlerrd: [i32; 6],
     pub rows_updated: u32,
     pub sqlwarn: [u8; 11],
 }
 
-fn six_numbers(reply: &[u8], order: ByteOrder) -> [i32; 6]
-    requires { 43 ≤ length reply.now }
-    ensures { result ≡ numbers_from 6 order reply.now 19 }
-{
-    [
-        number_at(reply, 19, order),
-        number_at(reply, 23, order),
-        number_at(reply, 27, order),
-        number_at(reply, 31, order),
-        number_at(reply, 35, order),
-        number_at(reply, 39, order),
-    ]
+// A reply that starts with a SQLCA that is not null. Its extension is there as far as the reply goes.
+#[derive(Clone, Copy, Debug, PartialEq, Eq)]
+pub struct Sqlca<'a> {
+    pub reply: &'a [u8],
+    ghost whole: { 19 ≤ length reply.now },
+    ghost bounded: { length reply.now ≤ 65536 },
 }
 
-fn rows_updated(reply: &[u8], order: ByteOrder) -> u32
-    requires { 43 ≤ length reply.now }
-    ensures { result ≡ rows_of (signed (number order 4 reply.now 27)) }
-{
-    let bits = field::u32_at(reply, 27, order);
-    if bits < 0x8000_0000 { bits } else { 0 }
-}
+impl<'a> Sqlca<'a> {
+    // None where the reply ends within the 19 bytes before the extension.
+    pub fn new(reply: &'a [u8]) -> Option<Sqlca<'a>>
+        requires { length reply.now ≤ 65536 }
+        ensures { MatchOption result (length reply.now < 19) (λ sqlca. sqlca.reply ≡ reply.entry) }
+    {
+        if reply.len() < 19 {
+            return None;
+        }
+        Some(Sqlca { reply })
+    }
 
-fn warnings(reply: &[u8]) -> [u8; 11]
-    ensures { result ≡ warnings_of reply.now }
-{
-    let mut sqlwarn = [0u8; 11];
-    if reply.len() >= 54 {
-        sqlwarn.copy_from_slice(&reply[43..54]);
+    fn code_bits(self, order: ByteOrder) -> u32
+        ensures { result ≡ code_bits order self.entry.reply.now }
+    {
+        field::u32_at(self.reply, 1, order)
     }
-    sqlwarn
-}
 
-pub fn read_extension(reply: &[u8]) -> Extension
-    requires { 19 ≤ length reply.now }
-    ensures { result ≡ extension_of reply.now }
-{
-    if !is_extended(reply) {
-        return Extension {
-            sqlerrd: [0; 6],
-            rows_updated: 0,
-            sqlwarn: [0; 11],
-        };
+    #[tactic(auto, unfolding(crate::specs::Code::code_order))]
+    fn sqlcode_order(self) -> ByteOrder
+        ensures { result ≡ code_order self.entry.reply.now }
+    {
+        let big = is_near(self.code_bits(ByteOrder::BigEndian));
+        let little = is_near(self.code_bits(ByteOrder::LittleEndian));
+        if big && !little {
+            ByteOrder::BigEndian
+        } else {
+            ByteOrder::LittleEndian
+        }
     }
-    let order = sqlerrd_order(reply);
-    Extension {
-        sqlerrd: six_numbers(reply, order),
-        rows_updated: rows_updated(reply, order),
-        sqlwarn: warnings(reply),
-    }
-}
 
-fn string_has_text(reply: &[u8], string: StringRead) -> bool
-    requires reply_len_bound { length reply.now ≤ 65536 }
-    requires length_in_bounds { string.place + string.length ≤ length reply.now }
-    ensures { result ≡ has_text page037 (bytes_of reply.now string) }
-{
-    let start = string.place;
-    let end = start + string.length;
-    message::has_text(&reply[start..end])
-}
+    #[tactic(auto, unfolding(crate::specs::Code::code_of))]
+    pub fn sqlcode(self) -> i32
+        ensures { result ≡ code_of self.entry.reply.now }
+    {
+        field::to_signed(self.code_bits(self.sqlcode_order()))
+    }
 
-// The message of the three strings at `offset`; `next` is past them, also where the reply ends early.
-pub fn message_at(reply: &[u8], offset: usize) -> StringRead
-    requires { length reply.now ≤ 65536 }
-    ensures { result ≡ message_at page037 reply.now offset }
-{
-    let rdb = strings::read_string(reply, offset);
-    let m = strings::read_string(reply, rdb.next);
-    let s = strings::read_string(reply, m.next);
-    if string_has_text(reply, m) {
-        return StringRead {
-            place: m.place,
-            length: m.length,
-            next: s.next,
-        };
+    pub fn sqlstate(self) -> [u8; 5]
+        ensures { result ≡ fixed_chars page037 (state_bytes self.entry.reply.now) }
+    {
+        fixed_chars(&self.reply[5..10])
     }
-    if string_has_text(reply, s) {
-        return s;
+
+    pub fn sqlerrproc(self) -> [u8; 8]
+        ensures { result ≡ fixed_chars page037 (proc_bytes self.entry.reply.now) }
+    {
+        fixed_chars(&self.reply[10..18])
     }
-    strings::no_string(s.next)
+
+    #[tactic(auto, unfolding(crate::specs::Code::numbers_order))]
+    fn sqlerrd_order(self) -> ByteOrder
+        ensures { result ≡ numbers_order self.entry.reply.now }
+    {
+        if self.code_bits(ByteOrder::BigEndian) != self.code_bits(ByteOrder::LittleEndian) {
+            return self.sqlcode_order();
+        }
+        if text::is_ascii(&self.reply[5..10]) {
+            ByteOrder::LittleEndian
+        } else {
+            ByteOrder::BigEndian
+        }
+    }
+
+    // The flag of an extension, which may be due and not there.
+    pub fn has_extension(self) -> bool
+        ensures { result ≡ not (eqb (get_or self.entry.reply.now 18 0) 0xFF) }
+    {
+        self.reply[18] != 0xFF
+    }
+
+    // Whether a status that is read alone has an extension: its flag says so, and its numbers are there.
+    #[tactic(auto, unfolding(crate::specs::Extension::is_extended))]
+    pub fn is_extended(self) -> bool
+        ensures { result ≡ is_extended self.entry.reply.now }
+    {
+        self.has_extension() && self.reply.len() >= 43
+    }
+
+    fn sqlerrd(self) -> [i32; 6]
+        requires { 43 ≤ length self.reply.now }
+        ensures { result ≡ numbers_from 6 (numbers_order self.entry.reply.now) self.entry.reply.now 19 }
+    {
+        let order = self.sqlerrd_order();
+        array::from_fn(|i| field::to_signed(field::u32_at(self.reply, 19 + 4 * i, order)))
+    }
+
+    fn sqlwarn(self) -> [u8; 11]
+        ensures { result ≡ warnings_of self.entry.reply.now }
+    {
+        let mut sqlwarn = [0; 11];
+        if let Some(bytes) = self.reply.get(43..54) {
+            sqlwarn.copy_from_slice(bytes);
+        }
+        sqlwarn
+    }
+
+    // What is there of the extension, where it counts as present.
+    #[tactic(auto, using(crate::proofs::Extended::extended_room))]
+    pub fn extension(self) -> Option<Extension>
+        ensures { MatchOption result (is_extended self.entry.reply.now ≡ false) (λ extension. (is_extended self.entry.reply.now ≡ true) × (extension ≡ extension_in (numbers_order self.entry.reply.now) self.entry.reply.now)) }
+    {
+        if !self.is_extended() {
+            return None;
+        }
+        let sqlerrd = self.sqlerrd();
+        Some(Extension {
+            sqlerrd,
+            rows_updated: u32::try_from(sqlerrd[2]).unwrap_or(0),
+            sqlwarn: self.sqlwarn(),
+        })
+    }
+
+    fn string_has_text(self, string: StringRead) -> bool
+        requires { string.place + string.length ≤ length self.reply.now }
+        ensures { result ≡ has_text page037 (bytes_of self.entry.reply.now string) }
+    {
+        Message::new(&self.reply[string.place..string.place + string.length]).has_text()
+    }
+
+    // The message of the three strings at `offset`; `next` is past them, also where the reply ends early.
+    #[tactic(auto, unfolding(crate::specs::Message::message_at, crate::specs::Message::first_text, strings::specs::Strings::strings_end), using(strings::proofs::Strings::string_inside, strings::proofs::Strings::string_next))]
+    pub fn message_at(self, offset: usize) -> StringRead
+        ensures { result ≡ message_at page037 self.entry.reply.now offset }
+    {
+        let rdb = strings::read_string(self.reply, offset);
+        let m = strings::read_string(self.reply, rdb.next);
+        let s = strings::read_string(self.reply, m.next);
+        if self.string_has_text(m) {
+            return StringRead { next: s.next, ..m };
+        }
+        if self.string_has_text(s) {
+            return s;
+        }
+        strings::no_string(s.next)
+    }
 }

@@ -1,6 +1,6 @@
 -- The ways out of the SQLCA group; and that its status depends on its own bytes alone, and is that of the whole reply read alone.
 use mathlib.Core.Path.{◌≡◌, refl, sym, ap, ◌∙◌}
-use mathlib.Core.Bool.{Bool, true, false, or-true}
+use mathlib.Core.Bool.{Bool, true, false, true≢false, or-true}
 use mathlib.Core.List.{List, [], ◌∷◌}
 use Prim.Native.Nat.{ℕ, ◌≤◌, ◌<◌}
 use native.Mathlib.Nat.{le_refl}
@@ -8,85 +8,68 @@ use native.Mathlib.Omega.{arith}
 use lib.Dec.{ltb, eqb}
 use lib.ListN.{length, get_or, take}
 use lib.Seq.{length-take-le, get_or-take}
-use borrow.Author.Tests.{lt-ltb, le-ltb, ne_eqb, eqb-true, eqb-false, ltb-true, ltb-false}
-use Rattle.search.specs.Search.{pick}
+use borrow.Author.Tests.{ne_eqb, eqb-true, eqb-false, ltb-true, ltb-false}
 use Rattle.codepage.specs.Page.{Page}
 use Rattle.strings.specs.declared.StringRead.{StringRead}
 use Rattle.strings.specs.Strings.{string_end, strings_end, no_string}
 use Rattle.strings.proofs.Strings.{end_inside}
 use Rattle.strings.proofs.Windows.{Window, window_self, window_take, strings_end_grows, part_same, same_here}
-use Rattle.outcome.specs.Refusal.{is_refused}
+use Rattle.std.proofs.Common.{rules}
 use Rattle.sqlca.specs.Message.{message_at}
 use Rattle.sqlca.specs.Code.{fixed_chars}
 use Rattle.sqlca.specs.Extension.{extension_of}
 use Rattle.sqlca.proofs.Messages.{message_next}
 use Rattle.sqlca.proofs.Local as local
-use Rattle.sqlcard.specs.declared.SqlCard.{SqlCard}
 use Rattle.sqlcard.specs.Card.{success_card, card_with}
 use Rattle.sqlcard.specs.Alone.{starts_null, is_null, alone_end, alone_message, alone_card}
-use Rattle.sqlcard.specs.Group.{group_end, group_message, group_refusal, group_bytes, group_card, group_length}
+use Rattle.sqlcard.specs.Group.{group_end, group_message, group_refusal, group_bytes, group_card}
 use Rattle.sqlcard.proofs.Cards.{card_made}
-use Rattle.sqlcard.proofs.Alones.{null_not_empty, message_absent, message_behind_warnings, alone_next, alone_long, alone_null, alone_read}
+use Rattle.sqlcard.proofs.Alones.{message_absent, message_behind_warnings, alone_next, null_card, read_card}
+
+pub null_not_empty : (s : List ℕ) → starts_null s ≡ true → 0 < length s
+null_not_empty [] e = absurd (true≢false (sym e))
+null_not_empty (b ∷ bs) e = omega arith
 
 -- ---- past the group
 
 module _ (s : List ℕ) where
-  abbrev end : Bool → Bool → Bool → Bool → ℕ
-  end a b c d = pick a 1 (pick b 19 (pick c 19 (pick d 56 (strings_end 3 s 54))))
-
-  end_is : (a b c d : Bool) → starts_null s ≡ a → ltb (length s) 19 ≡ b → eqb (get_or s 18 0) 0xFF ≡ c → ltb (length s) 56 ≡ d → group_end s ≡ end a b c d
-  unfolding group_end
-  end_is a b c d p q r t = λ i. end (p i) (q i) (r i) (t i)
-
   pub end_null : starts_null s ≡ true → group_end s ≡ 1
-  end_null e = end_is true _ _ _ e refl refl refl
+  unfolding group_end
+  end_null e = rw e refl
 
   module _ (e : starts_null s ≡ false) where
     pub end_short : length s < 19 → group_end s ≡ 19
-    end_short h = end_is false true _ _ e (lt-ltb (length s) 19 h) refl refl
+    unfolding group_end
+    end_short h = rw e (search rules)
 
     module _ (h : 19 ≤ length s) where
       pub end_plain : eqb (get_or s 18 0) 0xFF ≡ true → group_end s ≡ 19
-      end_plain f = end_is false false true _ e (le-ltb (length s) 19 h) f refl
+      unfolding group_end
+      end_plain f = rw (e, f) (search rules)
 
       pub end_cut : eqb (get_or s 18 0) 0xFF ≡ false → length s < 56 → group_end s ≡ 56
-      end_cut f k = end_is false false false true e (le-ltb (length s) 19 h) f (lt-ltb (length s) 56 k)
+      unfolding group_end
+      end_cut f k = rw (e, f) (search rules)
 
       pub end_extended : eqb (get_or s 18 0) 0xFF ≡ false → 56 ≤ length s → group_end s ≡ strings_end 3 s 54
-      end_extended f k = end_is false false false false e (le-ltb (length s) 19 h) f (le-ltb (length s) 56 k)
+      unfolding group_end
+      end_extended f k = rw (e, f) (search rules)
 
 -- ---- the group's message
 
 module _ (page : Page) (s : List ℕ) where
-  abbrev message : Bool → Bool → StringRead
-  message c d = pick c (no_string 19) (pick d (no_string 56) (message_at page s 54))
-
-  message_is : (c d : Bool) → eqb (get_or s 18 0) 0xFF ≡ c → ltb (length s) 56 ≡ d → group_message page s ≡ message c d
-  unfolding group_message
-  message_is c d r t = λ i. message (r i) (t i)
-
   pub message_plain : eqb (get_or s 18 0) 0xFF ≡ true → group_message page s ≡ no_string 19
-  message_plain f = message_is true _ f refl
-
-  pub message_cut : eqb (get_or s 18 0) 0xFF ≡ false → length s < 56 → group_message page s ≡ no_string 56
-  message_cut f k = message_is false true f (lt-ltb (length s) 56 k)
+  unfolding group_message
+  message_plain f = rw f refl
 
   pub message_due : eqb (get_or s 18 0) 0xFF ≡ false → 56 ≤ length s → group_message page s ≡ message_at page s 54
-  message_due f k = message_is false false f (le-ltb (length s) 56 k)
+  unfolding group_message
+  message_due f k = rw f (search rules)
 
   -- past the message is past the group
   pub group_next : starts_null s ≡ false → 19 ≤ length s → (group_message page s).next ≡ group_end s
-  group_next e h = go (eqb (get_or s 18 0) 0xFF) refl (ltb (length s) 56) refl
-    where
-      past : {m : StringRead} → group_message page s ≡ m → (group_message page s).next ≡ m.next
-      past p = ap (λ (r : StringRead). r.next) p
-
-      go : (c : Bool) → eqb (get_or s 18 0) 0xFF ≡ c → (d : Bool) → ltb (length s) 56 ≡ d → (group_message page s).next ≡ group_end s
-      go true f d g = past (message_plain f) ∙ sym (end_plain s e h f)
-      go false f true g = past (message_cut f (ltb-true (length s) 56 g)) ∙ sym (end_cut s e h f (ltb-true (length s) 56 g))
-      go false f false g =
-          past (message_due f (ltb-false (length s) 56 g))
-          ∙ (message_next page s 54 ∙ sym (end_extended s e h f (ltb-false (length s) 56 g)))
+  unfolding group_message group_end
+  group_next e h = rw e (search (rules, message_next))
 
 -- ---- locality: v begins with the group of s
 
@@ -160,7 +143,7 @@ module _ (s v : List ℕ) (n : ℕ) (w : Window s 0 v 0 n) (e : starts_null s �
         let a : 19 ≤ length v = omega (arith, room, w.inside') in
         let b : eqb (length v) 0 ≡ false = ne_eqb (length v) 0 (λ z. omega arith) in
         let c : is_null v ≡ false = rw (b, not_null) refl in
-        sym (alone_read page v l c a (omega (arith, alone_end_is, w.inside'))).1 ∙ card_same
+        read_card page v l c a (omega (arith, alone_end_is, w.inside')) ∙ card_same
 
   -- and has the same end of the group
   end_same : Read s → group_end v ≡ group_end s
@@ -172,80 +155,25 @@ module _ (s v : List ℕ) (n : ℕ) (w : Window s 0 v 0 n) (e : starts_null s �
       (omega (arith, due k g, w.inside'))
       ∙ (sym (local.end_same s v n w 3 54 (omega arith)) ∙ sym g)
 
--- ---- the ways out
+-- ---- the group's status record
 
--- refusal, status record and length of an answer
-abbrev pub Answers : Page → List ℕ → List ℕ → SqlCard → ℕ → Type 0
-Answers page s refusal card length = (refusal ≡ group_refusal s) × ((card ≡ group_card page s) × (length ≡ group_length s))
+module _ (page : Page) (s : List ℕ) (h : length s ≤ 65536) where
+  taken : group_end s ≤ length s → group_card page s ≡ alone_card page (group_bytes s)
+  unfolding group_card group_refusal
+  taken k = search rules
 
--- a null status, whatever follows
-null_card : (page : Page) (s : List ℕ) → is_null s ≡ true → alone_card page s ≡ success_card
-null_card page s e = go (ltb 65536 (length s)) refl
-  where
-    go : (b : Bool) → ltb 65536 (length s) ≡ b → alone_card page s ≡ success_card
-    go true f = sym (alone_long page s (ltb-true 65536 (length s) f)).1
-    go false f = sym (alone_null page s (ltb-false 65536 (length s) f) e).1
+  pub group_null : starts_null s ≡ true → group_card page s ≡ success_card
+  group_null e =
+      let g = end_null s e in
+      let l : 0 < length s = null_not_empty s e in
+      let b : get_or (group_bytes s) 0 0 ≡ get_or s 0 0 = get_or-take (group_end s) s 0 0 (omega (arith, g)) in
+      let z : is_null (group_bytes s) ≡ true = rw (b, e) (or-true (eqb (length (group_bytes s)) 0)) in
+      taken (omega (arith, g)) ∙ null_card page (group_bytes s) z
 
-module _ (page : Page) (s : List ℕ) where
-  abbrev refusal : Bool → Bool → List ℕ
-  refusal a d = pick a (5 ∷ []) (pick d (2 ∷ group_end s ∷ length s ∷ []) (0 ∷ []))
-
-  answer : (a d : Bool) → ltb 65536 (length s) ≡ a → ltb (length s) (group_end s) ≡ d
-      → Answers page s (refusal a d) (pick (is_refused (refusal a d)) success_card (alone_card page (group_bytes s)))
-      (pick (is_refused (refusal a d)) 0 (group_end s))
-  unfolding group_refusal group_card group_length
-  answer a d p q = (
-    sym (λ i. refusal (p i) (q i)),
-    (sym (λ i. pick (is_refused (refusal (p i) (q i))) success_card (alone_card page (group_bytes s))), sym (λ i. pick (is_refused (refusal (p i) (q i))) 0 (group_end s))),
-  )
-
-  pub group_long : 65536 < length s → Answers page s (5 ∷ []) success_card 0
-  group_long h = answer true _ (lt-ltb 65536 (length s) h) refl
-
-  module _ (h : length s ≤ 65536) where
-    cut : length s < group_end s → Answers page s (2 ∷ group_end s ∷ length s ∷ []) success_card 0
-    cut k = answer false true (le-ltb 65536 (length s) h) (lt-ltb (length s) (group_end s) k)
-
-    taken : group_end s ≤ length s → Answers page s (0 ∷ []) (alone_card page (group_bytes s)) (group_end s)
-    taken k = answer false false (le-ltb 65536 (length s) h) (le-ltb (length s) (group_end s) k)
-
-    pub group_null : starts_null s ≡ true → Answers page s (0 ∷ []) success_card 1
-    group_null e =
-        let g = end_null s e in
-        let l : 0 < length s = null_not_empty s e in
-        let t = taken (omega (arith, g)) in
-        let b : get_or (group_bytes s) 0 0 ≡ get_or s 0 0 = get_or-take (group_end s) s 0 0 (omega (arith, g)) in
-        let z : is_null (group_bytes s) ≡ true = rw (b, e) (or-true (eqb (length (group_bytes s)) 0)) in
-        (t.0, (sym (null_card page (group_bytes s) z) ∙ t.1.0, sym g ∙ t.1.1))
-
-    pub group_read : starts_null s ≡ false → group_end s ≤ length s → Answers page s (0 ∷ []) (card_with page s (group_message page s)) (group_end s)
-    group_read e k =
-        let t = taken k in
-        let n : length (group_bytes s) ≡ group_end s = length-take-le (group_end s) s k in
-        let c = status_alone s (group_bytes s) (group_end s) (window_take s (group_end s) k) e (le_refl (group_end s)) page (omega arith) in
-        (t.0, (sym c ∙ t.1.0, t.1.1))
-
-    module _ (e : starts_null s ≡ false) where
-      pub group_short : length s < 19 → Answers page s (2 ∷ 19 ∷ length s ∷ []) success_card 0
-      group_short k =
-          let g = end_short s e k in
-          let a = cut (omega (arith, g)) in
-          (ap (λ (n : ℕ). 2 ∷ n ∷ length s ∷ []) (sym g) ∙ a.0, a.1)
-
-      -- by the message that was found
-      module _ (k : 19 ≤ length s) (m : StringRead) (x : m ≡ group_message page s) where
-        past : m.next ≡ group_end s
-        past = ap (λ (r : StringRead). r.next) x ∙ group_next page s e k
-
-        pub group_cut : length s < m.next → Answers page s (2 ∷ m.next ∷ length s ∷ []) success_card 0
-        group_cut l =
-            let a = cut (omega (arith, past)) in
-            (ap (λ (n : ℕ). 2 ∷ n ∷ length s ∷ []) past ∙ a.0, a.1)
-
-        pub group_told : m.next ≤ length s → Answers page s (0 ∷ []) (card_with page s m) m.next
-        group_told l =
-            let a = group_read e (omega (arith, past)) in
-            (a.0, (ap (card_with page s) x ∙ a.1.0, past ∙ a.1.1))
+  pub group_read : starts_null s ≡ false → group_end s ≤ length s → group_card page s ≡ card_with page s (group_message page s)
+  group_read e k =
+      let n : length (group_bytes s) ≡ group_end s = length-take-le (group_end s) s k in
+      taken k ∙ status_alone s (group_bytes s) (group_end s) (window_take s (group_end s) k) e (le_refl (group_end s)) page (omega arith)
 
 -- ---- the laws for the layers above
 
@@ -255,8 +183,8 @@ alone_as_group page s h k = go (starts_null s) refl
   where
     go : (b : Bool) → starts_null s ≡ b → alone_card page s ≡ group_card page s
     go true e =
-        null_card page s (rw e (or-true (eqb (length s) 0))) ∙ (group_null page s h e).1.0
-    go false e = status_alone s s (group_end s) (window_self s (group_end s) k) e (le_refl (group_end s)) page h ∙ (group_read page s h e k).1.0
+        null_card page s (rw e (or-true (eqb (length s) 0))) ∙ sym (group_null page s h e)
+    go false e = status_alone s s (group_end s) (window_self s (group_end s) k) e (le_refl (group_end s)) page h ∙ sym (group_read page s h e k)
 
 -- the group and its status depend on the group's bytes alone: another reply that begins with them has both
 module _ (s v : List ℕ) (n : ℕ) (w : Window s 0 v 0 n) (k : group_end s ≤ n) where
@@ -277,4 +205,4 @@ module _ (s v : List ℕ) (n : ℕ) (w : Window s 0 v 0 n) (k : group_end s ≤ 
   group_status_same page a b =
       let i : group_end s ≤ length s = omega (arith, w.inside) in
       let j : group_end v ≤ length v = omega (arith, w.inside', group_end_same) in
-      sym (taken page v b j).1.0 ∙ (ap (alone_card page) group_bytes_same ∙ (taken page s a i).1.0)
+      taken page v b j ∙ (ap (alone_card page) group_bytes_same ∙ sym (taken page s a i))

@@ -1,10 +1,9 @@
 -- A type's code and value are those of a type, and of that one, where what it says fits.
 use mathlib.Core.Path.{◌≡◌, refl, ap}
-use mathlib.Core.Bool.{Bool, true, false}
+use mathlib.Core.Bool.{true}
 use Prim.Native.Nat.{◌+◌, ◌*◌, ◌/◌, ◌%◌, ◌<◌}
 use native.Mathlib.Omega.{arith}
 use borrow.Author.Tests.{lt-ltb, eq-eqb}
-use Rattle.search.specs.Search.{pick}
 use Rattle.types.specs.declared.Db2Type.{Db2Type}
 use Rattle.sqlda.specs.Types.{code_of}
 use Rattle.sqlda.specs.Codes.{value_of, type_with, is_type, TypeHeld}
@@ -64,8 +63,3 @@ value_held Db2Type.Xml h = omega arith
 pub type_fits : (t : Db2Type) → TypeHeld t → is_type (code_of t) (value_of t) ≡ true
 unfolding is_type
 type_fits t h = rw (lt-ltb (value_of t) 65536 (value_held t h), type_back t h, eq-eqb (code_of t) (code_of t) refl, eq-eqb (value_of t) (value_of t) refl) refl
-
--- the type past the last code, whether or not it is Xml's
-pub same_either : (b : Bool) (t : Db2Type) → t ≡ pick b t t
-same_either true t = refl
-same_either false t = refl

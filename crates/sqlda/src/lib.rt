@@ -8,7 +8,7 @@ ghost use Rattle.sqlda.specs.Codes.{value_of, type_with, is_type};
 use types::{ColumnMetadata, Db2Type, Kind, TypeRow};
 
 // What SQLTYPE and its length, precision, scale and CCSID say of a column.
-#[derive(Clone, Copy)]
+#[derive(Clone, Copy, Debug, PartialEq, Eq)]
 pub struct SqldaType {
     pub db2_type: Db2Type,
     pub drda_type: u8,
@@ -17,50 +17,47 @@ pub struct SqldaType {
 }
 
 // Whether the base type has a row. Scans ask at every byte of a reply, so what the table cannot have is not searched for.
+#[tactic(auto, using(crate::proofs::Laws::below_unknown, crate::proofs::Laws::above_unknown))]
 pub fn is_known_sql_type(sql_type: u16) -> bool
     ensures { result ≡ is_known sql_type }
 {
-    if (sql_type < 384) | (2437 < sql_type) {
-        return false;
-    }
-    let row = types::find_type(sql_type - sql_type % 2);
-    0 < row.base
+    (384..=2437).contains(&sql_type) && types::find_type(sql_type - sql_type % 2).is_some()
 }
 
 // The base type to look up: CCSID 0 says that the characters are bytes, so the character types are the binary ones.
+#[tactic(auto, unfolding(crate::specs::Types::searched_base))]
 fn searched_base(base: u16, ccsid: u16) -> u16
     ensures { result ≡ searched_base base ccsid }
 {
-    let binary = ccsid == 0;
-    if binary & ((base == 448) | (base == 456)) {
-        return 908;
+    match (base, ccsid) {
+        (448 | 456, 0) => 908,
+        (452, 0) => 912,
+        _ => base,
     }
-    if binary & (base == 452) {
-        return 912;
-    }
-    base
 }
 
 // The row that describes the column: 480 below raw length 8 is Real, which has no row of its own.
+#[tactic(auto, unfolding(crate::specs::Types::row_for))]
 fn row_for(sql_type: u16, raw: u64, ccsid: u16) -> TypeRow
     ensures { result ≡ row_for sql_type raw ccsid }
 {
     let base = sql_type - sql_type % 2;
-    if (base == 480) & (raw < 8) {
+    if base == 480 && raw < 8 {
         return TypeRow {
-            base: 480,
+            base,
             kind: Kind::Real,
             code: ColumnMetadata::DRDA_TYPE_FLOAT4,
         };
     }
-    types::find_type(searched_base(base, ccsid))
+    types::find_type(searched_base(base, ccsid)).unwrap_or(TypeRow::UNKNOWN)
 }
 
 // A length has 16 bits: a longer raw one counts as 65,535.
+#[tactic(auto, unfolding(crate::specs::Types::cap_of))]
 fn capped(raw: u64) -> u16
     ensures { result ≡ cap_of raw }
 {
-    if raw < 65535 { raw as u16 } else { 65535 }
+    raw.min(65535) as u16
 }
 
 fn db2_type_for(kind: Kind, raw: u64, precision: u8, scale: u8) -> Db2Type
@@ -74,11 +71,7 @@ fn db2_type_for(kind: Kind, raw: u64, precision: u8, scale: u8) -> Db2Type
         Kind::Real => Db2Type::Real,
         Kind::Double => Db2Type::Double,
         Kind::Decimal => Db2Type::Decimal { precision, scale },
-        Kind::DecFloat => if 8 < raw {
-            Db2Type::DecFloat(34)
-        } else {
-            Db2Type::DecFloat(16)
-        },
+        Kind::DecFloat => Db2Type::DecFloat(if 8 < raw { 34 } else { 16 }),
         Kind::Char => Db2Type::Char(n),
         Kind::VarChar => Db2Type::VarChar(n),
         Kind::Clob => Db2Type::Clob,
@@ -100,48 +93,29 @@ fn db2_type_for(kind: Kind, raw: u64, precision: u8, scale: u8) -> Db2Type
 fn length_for(kind: Kind, raw: u64, precision: u8) -> u16
     ensures { result ≡ length_of kind raw precision }
 {
-    let n = capped(raw);
     match kind {
-        Kind::SmallInt => 2,
-        Kind::Integer => 4,
-        Kind::BigInt => 8,
-        Kind::Real => 4,
-        Kind::Double => 8,
-        Kind::Decimal => (precision as u16 + 2) / 2,
-        Kind::DecFloat => n,
-        Kind::Char => n,
-        Kind::VarChar => n,
-        Kind::Clob => n,
-        Kind::Binary => n,
-        Kind::VarBinary => n,
-        Kind::Blob => n,
+        Kind::SmallInt | Kind::Boolean => 2,
+        Kind::Integer | Kind::Real => 4,
+        Kind::BigInt | Kind::Double | Kind::Time => 8,
+        Kind::Decimal => (u16::from(precision) + 2) / 2,
         Kind::Date => 10,
-        Kind::Time => 8,
-        Kind::Timestamp => if raw == 0 { 26 } else { n },
-        Kind::Graphic => n,
-        Kind::VarGraphic => n,
-        Kind::DbClob => n,
-        Kind::RowId => n,
-        Kind::Boolean => 2,
-        Kind::Xml => n,
+        Kind::Timestamp if raw == 0 => 26,
+        _ => capped(raw),
     }
 }
 
 // One search of the table says all: nullable, SQLTYPE's low bit, adds 1 to the code.
+#[tactic(auto, using(crate::proofs::Laws::code_small, crate::proofs::Laws::bit_is), unfolding(crate::specs::Types::sqlda_type))]
 pub fn sqlda_type(sql_type: u16, raw: u64, precision: u8, scale: u8, ccsid: u16) -> SqldaType
     ensures { result ≡ sqlda_type sql_type raw precision scale ccsid }
 {
     let row = row_for(sql_type, raw, ccsid);
-    let kind = row.kind;
-    let low = sql_type % 2;
-    let db2_type = db2_type_for(kind, raw, precision, scale);
-    let drda_type = row.code + low as u8;
-    let length = length_for(kind, raw, precision);
+    let nullable = sql_type % 2 == 1;
     SqldaType {
-        db2_type,
-        drda_type,
-        length,
-        nullable: low == 1,
+        db2_type: db2_type_for(row.kind, raw, precision, scale),
+        drda_type: row.code + u8::from(nullable),
+        length: length_for(row.kind, raw, precision),
+        nullable,
     }
 }
 
@@ -155,21 +129,21 @@ pub fn type_code(db2_type: Db2Type) -> u8
         Db2Type::BigInt => ColumnMetadata::DRDA_TYPE_BIGINT,
         Db2Type::Real => ColumnMetadata::DRDA_TYPE_FLOAT4,
         Db2Type::Double => ColumnMetadata::DRDA_TYPE_FLOAT8,
-        Db2Type::Decimal { precision, scale } => ColumnMetadata::DRDA_TYPE_DECIMAL,
-        Db2Type::DecFloat(digits) => ColumnMetadata::DRDA_TYPE_DECFLOAT,
-        Db2Type::Char(n) => ColumnMetadata::DRDA_TYPE_CHAR,
-        Db2Type::VarChar(n) => ColumnMetadata::DRDA_TYPE_VARCHAR,
+        Db2Type::Decimal { .. } => ColumnMetadata::DRDA_TYPE_DECIMAL,
+        Db2Type::DecFloat(_) => ColumnMetadata::DRDA_TYPE_DECFLOAT,
+        Db2Type::Char(_) => ColumnMetadata::DRDA_TYPE_CHAR,
+        Db2Type::VarChar(_) => ColumnMetadata::DRDA_TYPE_VARCHAR,
         Db2Type::Clob => ColumnMetadata::DRDA_TYPE_CLOB,
-        Db2Type::Binary(n) => ColumnMetadata::DRDA_TYPE_BINARY,
-        Db2Type::VarBinary(n) => ColumnMetadata::DRDA_TYPE_VARBINARY,
+        Db2Type::Binary(_) => ColumnMetadata::DRDA_TYPE_BINARY,
+        Db2Type::VarBinary(_) => ColumnMetadata::DRDA_TYPE_VARBINARY,
         Db2Type::Blob => ColumnMetadata::DRDA_TYPE_BLOB,
         Db2Type::Date => ColumnMetadata::DRDA_TYPE_DATE,
         Db2Type::Time => ColumnMetadata::DRDA_TYPE_TIME,
         Db2Type::Timestamp => ColumnMetadata::DRDA_TYPE_TIMESTAMP,
-        Db2Type::Graphic(n) => ColumnMetadata::DRDA_TYPE_GRAPHIC,
-        Db2Type::VarGraphic(n) => ColumnMetadata::DRDA_TYPE_VARGRAPH,
+        Db2Type::Graphic(_) => ColumnMetadata::DRDA_TYPE_GRAPHIC,
+        Db2Type::VarGraphic(_) => ColumnMetadata::DRDA_TYPE_VARGRAPH,
         Db2Type::DbClob => ColumnMetadata::DRDA_TYPE_DBCLOB,
-        Db2Type::RowId(n) => ColumnMetadata::DRDA_TYPE_ROWID,
+        Db2Type::RowId(_) => ColumnMetadata::DRDA_TYPE_ROWID,
         Db2Type::Boolean => ColumnMetadata::DRDA_TYPE_BOOLEAN,
         Db2Type::Xml => ColumnMetadata::DRDA_TYPE_XML,
     }
@@ -180,71 +154,59 @@ pub fn type_value(db2_type: Db2Type) -> u64
     ensures { result ≡ value_of db2_type }
 {
     match db2_type {
-        Db2Type::SmallInt => 0,
-        Db2Type::Integer => 0,
-        Db2Type::BigInt => 0,
-        Db2Type::Real => 0,
-        Db2Type::Double => 0,
-        Db2Type::Decimal { precision, scale } => precision as u64 * 256 + scale as u64,
-        Db2Type::DecFloat(digits) => digits as u64,
-        Db2Type::Char(n) => n as u64,
-        Db2Type::VarChar(n) => n as u64,
-        Db2Type::Clob => 0,
-        Db2Type::Binary(n) => n as u64,
-        Db2Type::VarBinary(n) => n as u64,
-        Db2Type::Blob => 0,
-        Db2Type::Date => 0,
-        Db2Type::Time => 0,
-        Db2Type::Timestamp => 0,
-        Db2Type::Graphic(n) => n as u64,
-        Db2Type::VarGraphic(n) => n as u64,
-        Db2Type::DbClob => 0,
-        Db2Type::RowId(n) => n as u64,
-        Db2Type::Boolean => 0,
-        Db2Type::Xml => 0,
+        Db2Type::Decimal { precision, scale } => u64::from(u16::from_be_bytes([precision, scale])),
+        Db2Type::DecFloat(digits) => u64::from(digits),
+        Db2Type::Char(n)
+        | Db2Type::VarChar(n)
+        | Db2Type::Binary(n)
+        | Db2Type::VarBinary(n)
+        | Db2Type::Graphic(n)
+        | Db2Type::VarGraphic(n)
+        | Db2Type::RowId(n) => u64::from(n),
+        _ => 0,
     }
 }
 
 // The type with this code, and what the value says of it. Codes that are none stand for Xml.
+#[tactic(auto, unfolding(crate::specs::Codes::type_with))]
 pub fn type_with(code: u64, value: u16) -> Db2Type
     ensures { result ≡ type_with code value }
 {
-    match code {
-        0x04 => Db2Type::SmallInt,
-        0x02 => Db2Type::Integer,
-        0x16 => Db2Type::BigInt,
-        0x0A => Db2Type::Real,
-        0x0E => Db2Type::Double,
-        0x0C => Db2Type::Decimal {
-            precision: (value / 256) as u8,
-            scale: (value % 256) as u8,
-        },
-        0xBA => Db2Type::DecFloat((value % 256) as u8),
-        0x30 => Db2Type::Char(value),
-        0x32 => Db2Type::VarChar(value),
-        0xCA => Db2Type::Clob,
-        0x60 => Db2Type::Binary(value),
-        0x62 => Db2Type::VarBinary(value),
-        0xC8 => Db2Type::Blob,
-        0x20 => Db2Type::Date,
-        0x22 => Db2Type::Time,
-        0x24 => Db2Type::Timestamp,
-        0x3C => Db2Type::Graphic(value),
-        0x3E => Db2Type::VarGraphic(value),
-        0xCC => Db2Type::DbClob,
-        0x1E => Db2Type::RowId(value),
-        0xBE => Db2Type::Boolean,
+    let [precision, scale] = value.to_be_bytes();
+    match u8::try_from(code) {
+        Ok(ColumnMetadata::DRDA_TYPE_SMALLINT) => Db2Type::SmallInt,
+        Ok(ColumnMetadata::DRDA_TYPE_INTEGER) => Db2Type::Integer,
+        Ok(ColumnMetadata::DRDA_TYPE_BIGINT) => Db2Type::BigInt,
+        Ok(ColumnMetadata::DRDA_TYPE_FLOAT4) => Db2Type::Real,
+        Ok(ColumnMetadata::DRDA_TYPE_FLOAT8) => Db2Type::Double,
+        Ok(ColumnMetadata::DRDA_TYPE_DECIMAL) => Db2Type::Decimal { precision, scale },
+        Ok(ColumnMetadata::DRDA_TYPE_DECFLOAT) => Db2Type::DecFloat(scale),
+        Ok(ColumnMetadata::DRDA_TYPE_CHAR) => Db2Type::Char(value),
+        Ok(ColumnMetadata::DRDA_TYPE_VARCHAR) => Db2Type::VarChar(value),
+        Ok(ColumnMetadata::DRDA_TYPE_CLOB) => Db2Type::Clob,
+        Ok(ColumnMetadata::DRDA_TYPE_BINARY) => Db2Type::Binary(value),
+        Ok(ColumnMetadata::DRDA_TYPE_VARBINARY) => Db2Type::VarBinary(value),
+        Ok(ColumnMetadata::DRDA_TYPE_BLOB) => Db2Type::Blob,
+        Ok(ColumnMetadata::DRDA_TYPE_DATE) => Db2Type::Date,
+        Ok(ColumnMetadata::DRDA_TYPE_TIME) => Db2Type::Time,
+        Ok(ColumnMetadata::DRDA_TYPE_TIMESTAMP) => Db2Type::Timestamp,
+        Ok(ColumnMetadata::DRDA_TYPE_GRAPHIC) => Db2Type::Graphic(value),
+        Ok(ColumnMetadata::DRDA_TYPE_VARGRAPH) => Db2Type::VarGraphic(value),
+        Ok(ColumnMetadata::DRDA_TYPE_DBCLOB) => Db2Type::DbClob,
+        Ok(ColumnMetadata::DRDA_TYPE_ROWID) => Db2Type::RowId(value),
+        Ok(ColumnMetadata::DRDA_TYPE_BOOLEAN) => Db2Type::Boolean,
         _ => Db2Type::Xml,
     }
 }
 
 // Whether there is a type that has just this code and this value.
+#[tactic(auto, unfolding(crate::specs::Codes::is_type))]
 pub fn is_type(code: u64, value: u64) -> bool
     ensures { result ≡ is_type code value }
 {
-    if value < 65536 {
-        let db2_type = type_with(code, value as u16);
-        return (type_code(db2_type) as u64 == code) & (type_value(db2_type) == value);
-    }
-    false
+    let Ok(low) = u16::try_from(value) else {
+        return false;
+    };
+    let db2_type = type_with(code, low);
+    u64::from(type_code(db2_type)) == code && type_value(db2_type) == value
 }

@@ -1,60 +1,81 @@
 // The description entries for programs that cannot lend a list of records: each column in 22 words of 64 bits.
 #![tactic(auto)]
 
-ghost use Rattle.std.specs.Prelude.{◌≡◌, ◌≤◌, ◌*◌, ◌/◌, length};
+ghost use Rattle.std.specs.Prelude.{◌≡◌, ◌≤◌, ◌*◌, ◌/◌, length, MatchResult};
 ghost use Rattle.search.specs.Search.{over};
 ghost use Rattle.codepage.specs.Page.{page037};
-ghost use Rattle.outcome.specs.Refusal.{refusal_of, in_numbers};
+ghost use Rattle.outcome.specs.Refusal.{accepted, refusal_of, in_numbers};
+ghost use Rattle.sqlcard.specs.Card.{success_card};
 ghost use Rattle.planned.specs.Planned.{columns_of};
 ghost use Rattle.column_words.specs.Words.{all_words};
-ghost use Rattle.plan.specs.Description.{description, with_code_point};
+ghost use Rattle.plan.specs.Decision.{Decides};
+ghost use Rattle.plan.specs.Description.{Description, description, with_code_point};
+ghost use Rattle.sqldard_words.specs.Given.{Gives};
 
-use outcome::Refusal;
-use plan::SqldardAnswer;
-use planned::Plan;
+use outcome::{Refusal, RefusalNumbers};
+use plan::{Decision, Sqldard};
+use planned::Columns;
 use sqlcard::SqlCard;
 
 // How many columns were written, 22 words each. Where the refusal's number is not 0, it is 0, and the card is that for success.
 #[repr(C)]
 #[derive(Clone, Copy)]
 pub struct SqldardResult {
-    pub refusal: Refusal,
+    pub refusal: RefusalNumbers,
     pub card: SqlCard,
     pub count: usize,
 }
 
-fn result_of(answer: SqldardAnswer) -> SqldardResult
-    ensures { (result.refusal ≡ in_numbers (refusal_of answer.outcome)) × ((result.card ≡ answer.card) × (result.count ≡ answer.count)) }
-{
-    let outcome = answer.outcome;
-    let card = answer.card;
-    let refusal = outcome::refusal_of(outcome);
-    SqldardResult {
-        refusal,
-        card,
-        count: answer.count,
+impl From<Result<Sqldard, Refusal>> for SqldardResult {
+    ghost from_gives = { λ answer result. MatchResult answer
+        (λ given. result ≡ record { refusal = in_numbers accepted; card = given.card; count = given.count })
+        (λ refusal. result ≡ record { refusal = in_numbers (refusal_of refusal); card = success_card; count = 0 }) };
+
+    fn from(answer: Result<Sqldard, Refusal>) -> Self {
+        match answer {
+            Ok(given) => SqldardResult {
+                refusal: RefusalNumbers::alone(0),
+                card: given.card,
+                count: given.count,
+            },
+            Err(refusal) => SqldardResult {
+                refusal: refusal.into(),
+                card: SqlCard::success(),
+                count: 0,
+            },
+        }
     }
 }
 
-// Writes a plan's columns as words.
-fn fill_words(reply: &[u8], plan: Plan, words: &mut [u64])
-    requires limit_bound { plan.limit ≤ 65535 }
-    requires count_value { plan.count ≡ length (columns_of page037 reply.now plan) }
-    requires count_in_bounds { plan.count * 22 ≤ length words.old }
-    ensures { words.new ≡ over (all_words (columns_of page037 reply.now plan)) words.old }
+// Writes a decision's columns as words. By places, and no `zip` with `chunks_exact_mut`: an invariant cannot name the words that are lent out then.
+fn fill_words(reply: &[u8], decision: Decision, words: &mut [u64]) -> Sqldard
+    requires count_value { decision.plan.run.count ≡ length (columns_of page037 reply.now decision.plan) }
+    requires count_in_bounds { decision.plan.run.count * 22 ≤ length words.old }
+    ensures gives { result.card ≡ decision.card }
+    ensures counts { result.count ≡ decision.plan.run.count }
+    ensures fills { words.new ≡ over (all_words (columns_of page037 reply.now decision.plan)) words.old }
 {
-    let count = plan.count;
-    let mut offset = plan.start;
-    let mut at = 0;
-    let mut i = 0;
-    while i < count {
-        let read = planned::column_here(reply, plan, offset, i);
-        let column = planned::column_of_read(read);
-        column_words::put_column_words(column, words, at);
-        offset = planned::next_of_read(read);
-        at += 22;
-        i += 1;
+    for (i, column) in Columns::new(reply, decision.plan).enumerate() {
+        column_words::put_column_words(column, words, i * 22);
     }
+    Sqldard {
+        card: decision.card,
+        count: decision.plan.run.count,
+    }
+}
+
+// Writes and answers what was decided, whichever description that carries out.
+fn written(
+    reply: &[u8],
+    decision: Result<Decision, Refusal>,
+    words: &mut [u64],
+) -> Result<Sqldard, Refusal>
+    requires { (wanted : Description) × Decides page037 (length words.old / 22) reply.now decision wanted }
+    ensures gives { (wanted : Description) → Decides page037 (length words.old / 22) reply.now decision wanted → Gives result wanted }
+    ensures fills { (wanted : Description) → Decides page037 (length words.old / 22) reply.now decision wanted → words.new ≡ over (all_words wanted.columns) words.old }
+{
+    let decision = decision?;
+    Ok(fill_words(reply, decision, words))
 }
 
 // The entry description, with room for a column in each 22 words. Nothing is written where it refuses.
@@ -65,10 +86,7 @@ pub fn parse_sqldard_data(reply: &[u8], columns: &mut [u64]) -> SqldardResult
     ensures fills { columns.new ≡ over (all_words (description page037 (length columns.old / 22) reply.now).columns) columns.old }
 {
     let decision = plan::decide(reply, columns.len() / 22);
-    let plan = decision.plan;
-    let answer = decision.answer;
-    fill_words(reply, plan, columns);
-    result_of(answer)
+    written(reply, decision, columns).into()
 }
 
 // The same with the reply's code point, which must be SQLDARD's.
@@ -79,8 +97,5 @@ pub fn parse_sqldard(code_point: u16, reply: &[u8], columns: &mut [u64]) -> Sqld
     ensures fills { columns.new ≡ over (all_words (with_code_point page037 (length columns.old / 22) code_point reply.now).columns) columns.old }
 {
     let decision = plan::decide_at(code_point, reply, columns.len() / 22);
-    let plan = decision.plan;
-    let answer = decision.answer;
-    fill_words(reply, plan, columns);
-    result_of(answer)
+    written(reply, decision, columns).into()
 }

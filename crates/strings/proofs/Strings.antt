@@ -6,7 +6,7 @@ use mathlib.Core.List.{List}
 use mathlib.Core.Bool.{Bool, true, false}
 use lib.Dec.{ltb, leb, eqb}
 use lib.ListN.{length}
-use borrow.Author.Tests.{lt-ltb, le-ltb, le-leb, lt-leb, eq-eqb, ne_eqb, ltb-true, ltb-false, leb-true}
+use borrow.Author.Tests.{le-ltb, le-leb, eq-eqb, ne_eqb, ltb-true, ltb-false, leb-true}
 use Rattle.search.specs.Search.{pick}
 use Rattle.field.specs.declared.ByteOrder.TheVariants.{BigEndian}
 use Rattle.strings.specs.declared.StringRead.{StringRead}
@@ -16,29 +16,12 @@ use Rattle.strings.specs.Strings.{string_end, strings_end, no_string, string_at,
 -- ---- one string
 
 module _ (s : List ℕ) (p : ℕ) where
-  unread : (n : ℕ) → string_end s p ≡ n → length s < n → no_string n ≡ string_at s p
-  unfolding string_at
-  unread n e h = rw (e, lt-leb n (length s) h) refl
-
-  pub string_past : length s < p → no_string p ≡ string_at s p
-  unfolding string_end
-  string_past h = unread p (rw (lt-ltb (length s) p h) refl) h
-
-  pub string_short : p ≤ length s → length s - p < 2 → no_string (p + 2) ≡ string_at s p
-  unfolding string_end
-  string_short l h =
-      let k : length s < p + 2 = omega arith in
-      unread (p + 2) (rw (le-ltb (length s) p l, lt-ltb (length s) (p + 2) k) refl) k
-
   module _ (l : p ≤ length s) (h : 2 ≤ length s - p) (n : ℕ) (e : n ≡ number BigEndian 2 s p) where
     pub end_known : string_end s p ≡ p + 2 + n
     unfolding string_end
     end_known =
         let k : p + 2 ≤ length s = omega arith in
         rw (le-ltb (length s) p l, le-ltb (length s) (p + 2) k, e) refl
-
-    pub string_cut : length s - (p + 2) < n → no_string (p + 2 + n) ≡ string_at s p
-    string_cut k = unread (p + 2 + n) end_known (omega arith)
 
     pub string_full : n ≤ length s - (p + 2) → record { place = p + 2; length = n; next = p + 2 + n } ≡ string_at s p
     unfolding string_at
@@ -78,20 +61,18 @@ module _ (s : List ℕ) (p : ℕ) where
       go true e = let i = end_inside (leb-true (string_end s p) (length s) e) in omega (arith, leb-true (string_end s p) (length s) e)
       go false e = omega arith
 
--- ---- several strings: t is the answer, `t ≡ strings_end left s next` the loop's invariant
+-- ---- several strings
 
-module _ (s : List ℕ) (left next t : ℕ) (e : t ≡ strings_end left s next) where
-  pub strings_more : (r : StringRead) → 0 < left → r ≡ string_at s next → t ≡ strings_end (left - 1) s r.next
-  unfolding strings_end
-  strings_more r h f =
-      let k : left ≡ suc (left - 1) = omega arith in
-      e ∙ ap (λ (n : ℕ). strings_end n s next) k ∙ ap (strings_end (left - 1) s) (sym (ap (λ (x : StringRead). x.next) f ∙ string_next s next))
+-- one string more is read
+pub strings_more : (count i : ℕ) (s : List ℕ) (p : ℕ) → i < count → strings_end (count - i) s p ≡ strings_end (count - (i + 1)) s (string_at s p).next
+unfolding strings_end
+strings_more count i s p h =
+    let k : count - i ≡ suc (count - (i + 1)) = omega arith in
+    rw (k, string_next s p) refl
 
-  pub strings_done : left ≤ 0 → next ≡ t
-  unfolding strings_end
-  strings_done h =
-      let k : left ≡ 0 = omega arith in
-      sym (e ∙ ap (λ (n : ℕ). strings_end n s next) k)
+pub strings_done : (count i : ℕ) (s : List ℕ) (p : ℕ) → count ≤ i → strings_end (count - i) s p ≡ p
+unfolding strings_end
+strings_done count i s p h = let k : count - i ≡ 0 = omega arith in rw k refl
 
 -- ---- two strings
 

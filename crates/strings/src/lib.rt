@@ -8,18 +8,32 @@ ghost use Rattle.strings.specs.Strings.{no_string, string_at, strings_end, chose
 use field::ByteOrder;
 
 // A string's bytes lie at `place`, `length` of them, and `next` is past it. Where the reply ended early, place and length are 0.
-#[derive(Clone, Copy)]
+#[derive(Clone, Copy, Debug, PartialEq, Eq)]
 pub struct StringRead {
     pub place: usize,
     pub length: usize,
     pub next: usize,
 }
 
-// A walker holds a reply and a position in it. The functions over it are thin: each takes it apart and calls one on the slice and the number.
-#[derive(Clone, Copy)]
+// A walker holds a reply and a position in it. Its methods are thin: each takes it apart and calls one function on the slice and the number.
+#[derive(Clone, Copy, Debug, PartialEq, Eq)]
 pub struct Walker<'a> {
     pub reply: &'a [u8],
     pub offset: usize,
+}
+
+impl<'a> Walker<'a> {
+    pub fn new(reply: &'a [u8], offset: usize) -> Walker<'a>
+        ensures { (result.reply ≡ reply.entry) × (result.offset ≡ offset) }
+    {
+        Walker { reply, offset }
+    }
+
+    pub fn string(self) -> StringRead
+        ensures { result ≡ string_at self.entry.reply.now self.entry.offset }
+    {
+        string_at(self.reply, self.offset)
+    }
 }
 
 pub fn no_string(next: usize) -> StringRead
@@ -32,6 +46,7 @@ pub fn no_string(next: usize) -> StringRead
     }
 }
 
+#[tactic(auto, unfolding(crate::specs::Strings::string_at, crate::specs::Strings::string_end))]
 fn string_at(reply: &[u8], offset: usize) -> StringRead
     ensures { result ≡ string_at reply.now offset }
 {
@@ -44,44 +59,32 @@ fn string_at(reply: &[u8], offset: usize) -> StringRead
     }
     let length = field::u16_at(reply, offset, ByteOrder::BigEndian) as usize;
     let place = offset + 2;
-    if end - place < length {
-        return no_string(place + length);
+    let next = place + length;
+    if end < next {
+        return no_string(next);
     }
     StringRead {
         place,
         length,
-        next: place + length,
+        next,
     }
-}
-
-pub fn walker_at<'a>(reply: &'a [u8], offset: usize) -> Walker<'a>
-    ensures { (result.reply ≡ reply.entry) × (result.offset ≡ offset) }
-{
-    Walker { reply, offset }
-}
-
-pub fn string<'a>(walker: Walker<'a>) -> StringRead
-    ensures { result ≡ string_at walker.entry.reply.now walker.entry.offset }
-{
-    string_at(walker.reply, walker.offset)
 }
 
 // The string at a position: what every group of strings is read by.
 pub fn read_string(reply: &[u8], offset: usize) -> StringRead
     ensures { result ≡ string_at reply.now offset }
 {
-    string(walker_at(reply, offset))
+    Walker::new(reply, offset).string()
 }
 
 // Past `count` strings.
+#[tactic(auto, using(crate::proofs::Strings::strings_more, crate::proofs::Strings::strings_done))]
 pub fn skip_strings(reply: &[u8], offset: usize, count: usize) -> usize
     ensures { result ≡ strings_end count reply.now offset }
 {
     let mut next = offset;
-    let mut left = count;
-    while 0 < left {
+    for _ in 0..count {
         next = read_string(reply, next).next;
-        left -= 1;
     }
     next
 }
@@ -94,15 +97,12 @@ pub fn choose(m: StringRead, s: StringRead) -> StringRead
     if m.length == 0 {
         s
     } else {
-        StringRead {
-            place: m.place,
-            length: m.length,
-            next: s.next,
-        }
+        StringRead { next: s.next, ..m }
     }
 }
 
 // The pair of strings at a position.
+#[tactic(auto, using(crate::proofs::Strings::pair_is))]
 pub fn read_pair(reply: &[u8], offset: usize) -> StringRead
     ensures { result ≡ pair_at reply.now offset }
 {

@@ -1,3 +1,4 @@
+pub mod Alphabets
 pub mod Trim
 pub mod Decode
 pub mod Generated

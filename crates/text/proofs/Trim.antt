@@ -1,99 +1,91 @@
--- What one element more tells of `leading` and `kept`: the laws that their loops go by.
+-- `leading` and `kept`, which are std's `prefix_len` and `suffix_len`, with one element more in front, and bounds on them.
 use Prim.Native.Nat.{ℕ, suc, ◌+◌, ◌-◌, ◌≤◌, ◌<◌}
-use native.Mathlib.Nat.{le_refl}
 use native.Mathlib.Omega.{arith}
 use mathlib.Core.Path.{◌≡◌, refl, sym, ap, subst, ◌∙◌}
-use mathlib.Core.List.{List, [], ◌∷◌, ◌++◌}
-use mathlib.Core.Bool.{Bool, true, false, ◌&&◌}
-use lib.ListN.{length, get_or, take, drop, drop_of_length-le}
-use lib.Seq.{take-suc, length-take-le}
-use lib.Dec.{T, eqb, eqb-suc-zero}
-use borrow.Author.Tests.{eqb-true}
+use mathlib.Core.List.{List, [], ◌∷◌, reverse}
+use mathlib.Core.Bool.{Bool, true, false, ◌&&◌, cond, not}
+use lib.ListN.{length, length-reverse}
+use lib.Dec.{T, eqb, ltb}
+use borrow.Author.Tests.{eqb-true, eqb-false, eq-eqb, ne_eqb, ltb-false}
+use Rattle.std.specs.List.{prefix_len, suffix_len, position_or_len}
+use Rattle.std.proofs.Common.{Option, Some, None}
+use Rattle.std.proofs.lemmas.List.{reverse-append}
+use Rattle.std.proofs.lemmas.List.Folds.{prefix_len-append}
+use Rattle.std.proofs.lemmas.List.Sums.{prefix_len-le-length, suffix_len-le-length}
 use Rattle.search.specs.Search.{pick, each}
-use Rattle.search.proofs.Each.{drop_next}
 use Rattle.text.specs.Text.{leading, kept}
 
--- ---- from the front: t is the answer, `t ≡ i + leading f (drop i l)` the loop's invariant
-
-module _ (f : ℕ → Bool) (l : List ℕ) (i t : ℕ) (e : t ≡ i + leading f (drop i l)) where
-  pub leading_more : i < length l → f (get_or l i 0) ≡ true → t ≡ i + 1 + leading f (drop (i + 1) l)
+module _ (f : ℕ → Bool) where
+  pub leading_le : (xs : List ℕ) → leading f xs ≤ length xs
   unfolding leading
-  leading_more h g =
-      let z : leading f (drop i l) ≡ suc (leading f (drop (i + 1) l)) = ap (leading f) (drop_next l i 0 h) ∙ rw g refl in
-      omega arith
+  leading_le xs = prefix_len-le-length f xs
 
-  pub leading_stop : i < length l → f (get_or l i 0) ≡ false → i ≡ t
-  unfolding leading
-  leading_stop h g =
-      let z : leading f (drop i l) ≡ 0 = ap (leading f) (drop_next l i 0 h) ∙ rw g refl in
-      omega arith
-
-  pub leading_done : length l ≤ i → i ≡ t
-  unfolding leading
-  leading_done h =
-      let z : leading f (drop i l) ≡ 0 = ap (leading f) (drop_of_length-le l h) in
-      omega arith
-
--- ---- from the end: t is the answer, `t ≡ kept f (take n l)` the loop's invariant
-
-kept_snoc : (f : ℕ → Bool) (xs : List ℕ) (x : ℕ) → kept f (xs ++ (x ∷ [])) ≡ pick (f x) (kept f xs) (suc (length xs))
-unfolding kept
-kept_snoc f [] x = refl
-kept_snoc f (y ∷ ys) x = rw (kept_snoc f ys x) (go (f x))
-  where
-    go : (b : Bool)
-        → pick (eqb (pick b (kept f ys) (suc (length ys))) 0) (pick (f y) 0 1) (suc (pick b (kept f ys) (suc (length ys))))
-        ≡ pick b (kept f (y ∷ ys)) (suc (suc (length ys)))
-    go true = refl
-    go false = rw (eqb-suc-zero (length ys)) refl
-
-module _ (f : ℕ → Bool) (l : List ℕ) (n t : ℕ) (e : t ≡ kept f (take n l)) where
-  turn : 0 < n → n ≤ length l → t ≡ pick (f (get_or l (n - 1) 0)) (kept f (take (n - 1) l)) n
-  turn z h =
-      let k : n ≡ suc (n - 1) = omega arith in
-      let m : suc (length (take (n - 1) l)) ≡ n = ap suc (length-take-le (n - 1) l (omega arith)) ∙ sym k in
-      e ∙ ap (λ (j : ℕ). kept f (take j l)) k ∙ ap (kept f) (take-suc l (n - 1) 0 (omega arith))
-      ∙ kept_snoc f (take (n - 1) l) (get_or l (n - 1) 0)
-      ∙ ap (pick (f (get_or l (n - 1) 0)) (kept f (take (n - 1) l))) m
-
-  pub kept_less : 0 < n → n ≤ length l → f (get_or l (n - 1) 0) ≡ true → t ≡ kept f (take (n - 1) l)
-  kept_less z h g = turn z h ∙ rw g refl
-
-  pub kept_stop : 0 < n → n ≤ length l → f (get_or l (n - 1) 0) ≡ false → n ≡ t
-  kept_stop z h g = sym (turn z h ∙ rw g refl)
-
-  pub kept_done : n ≤ 0 → 0 ≡ t
+  pub kept_le : (xs : List ℕ) → kept f xs ≤ length xs
   unfolding kept
-  kept_done h =
-      let k : n ≡ 0 = omega arith in
-      sym (e ∙ ap (λ (j : ℕ). kept f (take j l)) k)
+  kept_le xs = omega arith
 
--- ---- bounds
+  pub leading_cons : (x : ℕ) (xs : List ℕ) → leading f (x ∷ xs) ≡ pick (f x) (suc (leading f xs)) 0
+  unfolding leading
+  leading_cons x xs = go (f x)
+    where
+      go : (b : Bool) → cond b (1 + prefix_len f xs) 0 ≡ pick b (suc (prefix_len f xs)) 0
+      go true = omega arith
+      go false = refl
 
-pub kept_le : (f : ℕ → Bool) (xs : List ℕ) → kept f xs ≤ length xs
-unfolding kept
-kept_le f [] = le_refl 0
-kept_le f (x ∷ xs) = go (eqb (kept f xs) 0) (f x) (kept_le f xs)
-  where
-    go : (t u : Bool) → kept f xs ≤ length xs → pick t (pick u 0 1) (suc (kept f xs)) ≤ suc (length xs)
-    go true true h = omega arith
-    go true false h = omega arith
-    go false u h = omega arith
+  pub kept_cons : (x : ℕ) (xs : List ℕ) → kept f (x ∷ xs) ≡ pick (eqb (kept f xs) 0) (pick (f x) 0 1) (suc (kept f xs))
+  unfolding kept
+  kept_cons x xs = ap (λ (n : ℕ). suc (length xs) - n) from_end ∙ go (eqb (suffix_len f xs) (length xs)) refl (f x)
+    where
+      from_end : suffix_len f (x ∷ xs) ≡ cond (eqb (suffix_len f xs) (length xs)) (length xs + cond (f x) 1 0) (suffix_len f xs)
+      from_end =
+          ap (prefix_len f) (reverse-append (x ∷ []) xs) ∙ prefix_len-append f (reverse xs) (x ∷ [])
+          ∙ ap (λ (n : ℕ). cond (eqb (suffix_len f xs) n) (n + cond (f x) 1 0) (suffix_len f xs)) (length-reverse xs)
 
-pub leading_le : (f : ℕ → Bool) (xs : List ℕ) → leading f xs ≤ length xs
-unfolding leading
-leading_le f [] = le_refl 0
-leading_le f (x ∷ xs) = go (f x) (leading_le f xs)
-  where
-    go : (b : Bool) → leading f xs ≤ length xs → pick b (suc (leading f xs)) 0 ≤ suc (length xs)
-    go true h = omega arith
-    go false h = omega arith
+      go : (t : Bool) → eqb (suffix_len f xs) (length xs) ≡ t → (b : Bool)
+          → suc (length xs) - cond t (length xs + cond b 1 0) (suffix_len f xs)
+          ≡ pick (eqb (length xs - suffix_len f xs) 0) (pick b 0 1) (suc (length xs - suffix_len f xs))
+      go true e true = rw (eq-eqb (length xs - suffix_len f xs) 0 (omega (arith, eqb-true (suffix_len f xs) (length xs) e))) (omega arith)
+      go true e false = rw (eq-eqb (length xs - suffix_len f xs) 0 (omega (arith, eqb-true (suffix_len f xs) (length xs) e))) (omega arith)
+      go false e b =
+          let n = suffix_len-le-length f xs in
+          let l : suffix_len f xs < length xs = omega (arith, eqb-false (suffix_len f xs) (length xs) e) in
+          rw (ne_eqb (length xs - suffix_len f xs) 0 (λ z. omega arith)) (omega arith)
+
+-- what `position` finds from the end: the first element that fails f
+module _ (f : ℕ → Bool) (xs : List ℕ) (r : Option ℕ) (e : r ≡ cond (ltb (position_or_len (λ x. not (f x)) (reverse xs)) (length (reverse xs)))
+    (Some (position_or_len (λ x. not (f x)) (reverse xs))) None) where
+  same : position_or_len (λ x. not (f x)) (reverse xs) ≡ suffix_len f xs
+  same = ap (λ (g : ℕ → Bool). prefix_len g (reverse xs)) (λ i x. twice (f x) i)
+    where
+      twice : (b : Bool) → not (not b) ≡ b
+      twice true = refl
+      twice false = refl
+
+  found : r ≡ cond (ltb (suffix_len f xs) (length xs)) (Some (suffix_len f xs)) None
+  found = e ∙ ap (λ (n : ℕ). cond (ltb n (length (reverse xs))) (Some n) None) same
+      ∙ ap (λ (n : ℕ). cond (ltb (suffix_len f xs) n) (Some (suffix_len f xs)) None) (length-reverse xs)
+
+  pub kept_found : (k : ℕ) → r ≡ Some k → length xs - k ≡ kept f xs
+  unfolding kept
+  kept_found k g = go (ltb (suffix_len f xs) (length xs)) (sym g ∙ found)
+    where
+      go : (t : Bool) → ◌≡◌ {A = Option ℕ} (Some k) (cond t (Some (suffix_len f xs)) None) → length xs - k ≡ length xs - suffix_len f xs
+      go true h = let u : k ≡ suffix_len f xs = cc in ap (λ (n : ℕ). length xs - n) u
+      go false h = absurd cc
+
+  pub kept_none : r ≡ None → 0 ≡ kept f xs
+  unfolding kept
+  kept_none g = go (ltb (suffix_len f xs) (length xs)) refl (sym g ∙ found)
+    where
+      go : (t : Bool) → ltb (suffix_len f xs) (length xs) ≡ t → ◌≡◌ {A = Option ℕ} None (cond t (Some (suffix_len f xs)) None)
+          → 0 ≡ length xs - suffix_len f xs
+      go true u h = absurd cc
+      go false u h = omega (arith, ltb-false (suffix_len f xs) (length xs) u)
 
 -- where every element that passes f passes g too, and not all pass g, something is kept
 pub kept_some : (f g : ℕ → Bool) → ((x : ℕ) → f x ≡ true → g x ≡ true) → (xs : List ℕ) → each g xs ≡ false → leading f xs < kept f xs
-unfolding leading kept
 kept_some f g h [] e = absurd (subst T e tt)
-kept_some f g h (x ∷ xs) e = go (f x) refl (eqb (kept f xs) 0) refl (kept_some f g h xs)
+kept_some f g h (x ∷ xs) e = rw (leading_cons f x xs, kept_cons f x xs) (go (f x) refl (eqb (kept f xs) 0) refl (kept_some f g h xs))
   where
     go : (b : Bool) → f x ≡ b → (z : Bool) → eqb (kept f xs) 0 ≡ z → (each g xs ≡ false → leading f xs < kept f xs)
         → pick b (suc (leading f xs)) 0 < pick z (pick b 0 1) (suc (kept f xs))

@@ -1,3 +1,4 @@
+pub mod Alphabet
 pub mod Chars
 pub mod Text
 pub mod Generated

@@ -1,5 +1,6 @@
 -- What a text is: place, length and alphabet (01, Parts 2 and Answers).
-use Rattle.std.specs.Prelude.{Bool, List, [], ◌∷◌, ℕ, suc, ◌+◌, ◌-◌, eqb}
+use Rattle.std.specs.Prelude.{Bool, List, ℕ, ◌+◌, ◌-◌, eqb}
+use Rattle.std.specs.List.{prefix_len, suffix_len}
 use lib.ListN.{take, drop}
 use Rattle.search.specs.Search.{pick}
 use Rattle.codepage.specs.Page.{Page}
@@ -25,13 +26,11 @@ bytes_of s t = take t.length (drop t.place s)
 
 -- how many elements at the front pass the test: what trimming drops there (01, Parts 2)
 unfoldable pub leading : (ℕ → Bool) → List ℕ → ℕ
-leading f [] = 0
-leading f (x ∷ xs) = pick (f x) (suc (leading f xs)) 0
+leading f xs = prefix_len f xs
 
 -- how many are left when those at the end that pass the test are dropped: trimming there (01, Parts 2)
 unfoldable pub kept : (ℕ → Bool) → List ℕ → ℕ
-kept f [] = 0
-kept f (x ∷ xs) = pick (eqb (kept f xs) 0) (pick (f x) 0 1) (suc (kept f xs))
+kept f xs = lib.ListN.length xs - suffix_len f xs
 
 -- what trimming leaves: neither at the front nor at the end one that passes the test (01, Parts 2)
 abbrev pub trimmed_of : (ℕ → Bool) → List ℕ → List ℕ

@@ -5,117 +5,141 @@ ghost use Rattle.std.specs.Prelude.{◌&&◌, ◌≡◌, ◌+◌, ◌/◌, ◌%�
 ghost use lib.ListN.{length};
 ghost use Rattle.search.specs.Search.{each};
 ghost use Rattle.codepage.specs.Page.{page037};
-ghost use Rattle.text.specs.Chars.{is_ascii, is_name_char, is_name_of, is_blank_of};
-ghost use Rattle.text.specs.Text.{leading, kept, text_of};
+ghost use Rattle.text.specs.Alphabet.{alphabet_number, alphabet_of};
+ghost use Rattle.text.specs.Chars.{char_of, is_ascii, is_name_char, is_digit_of, is_name_of, is_blank_of};
+ghost use Rattle.text.specs.Text.{empty_text, leading, kept, text_of};
 
-// Place and length of what trimming leaves; alphabet 0 is a generated name, 1 ASCII, 2 page 037. An empty text is 0, 0, 1.
-#[derive(Clone, Copy)]
+// What characters bytes stand for: in ASCII themselves, also above 7F.
+#[derive(Clone, Copy, Debug, PartialEq, Eq)]
+pub enum Alphabet {
+    Ascii,
+    Page037,
+}
+
+impl Alphabet {
+    #[tactic(auto, unfolding(crate::specs::Chars::char_of))]
+    pub fn character(self, byte: u8) -> u8
+        ensures { result ≡ char_of page037 (alphabet_number self) byte }
+    {
+        match self {
+            Alphabet::Ascii => byte,
+            Alphabet::Page037 => codepage::ebcdic037_to_unicode(byte),
+        }
+    }
+
+    fn is_name_char(self, byte: u8) -> bool
+        ensures { result ≡ is_name_of page037 (alphabet_number self) byte }
+    {
+        is_name_char(self.character(byte))
+    }
+
+    #[tactic(auto, unfolding(crate::specs::Chars::char_of, codepage::specs::Blank::is_blank_in))]
+    fn is_blank(self, byte: u8) -> bool
+        ensures { result ≡ is_blank_of page037 (alphabet_number self) byte }
+    {
+        match self {
+            Alphabet::Ascii => {
+                (byte >= 0x09) & (byte <= 0x0D) | (byte == 0x20) | (byte == 0x85) | (byte == 0xA0)
+            }
+            Alphabet::Page037 => codepage::is_blank_byte(byte),
+        }
+    }
+
+    // By the byte, as `is_blank`: by its character, over many digits, it was measured twice as slow.
+    #[tactic(auto, unfolding(crate::specs::Chars::char_of))]
+    pub fn is_digit(self, byte: u8) -> bool
+        ensures { result ≡ is_digit_of page037 (alphabet_number self) byte }
+    {
+        match self {
+            Alphabet::Ascii => (byte >= b'0') & (byte <= b'9'),
+            Alphabet::Page037 => (byte >= 0xF0) & (byte <= 0xF9),
+        }
+    }
+}
+
+// From a text's number: the bytes of any alphabet but page 037 stand for themselves.
+impl From<u8> for Alphabet {
+    ghost from_gives = { λ number alphabet. alphabet ≡ alphabet_of number };
+
+    fn from(number: u8) -> Self {
+        if number == 2 {
+            Alphabet::Page037
+        } else {
+            Alphabet::Ascii
+        }
+    }
+}
+
+impl From<Alphabet> for u8 {
+    ghost from_gives = { λ alphabet number. number ≡ alphabet_number alphabet };
+
+    fn from(alphabet: Alphabet) -> Self {
+        match alphabet {
+            Alphabet::Ascii => 1,
+            Alphabet::Page037 => 2,
+        }
+    }
+}
+
+// Place and length of what trimming leaves; alphabet 0 is a generated name, 1 ASCII, 2 page 037. A number and no `Alphabet`: the words of a
+// column may hold any byte there, and the entries name text and same cut take them as they come.
+#[derive(Clone, Copy, Debug, PartialEq, Eq)]
 pub struct Text {
     pub place: usize,
     pub length: usize,
     pub alphabet: u8,
 }
 
-// A bit for each of 64 characters, those below 64 or the next: whether it is a name character.
-fn name_bits(character: u8) -> u64
-    ensures { (ltb character 128 && eqb (result / 2 ^ (character % 64) % 2) 1) ≡ is_name_char character }
-{
-    if character < 64 {
-        0x03FF_0018_0000_0000
-    } else {
-        0x07FF_FFFE_87FF_FFFF
+impl Text {
+    pub fn empty() -> Self
+        ensures { result ≡ empty_text }
+    {
+        Text {
+            place: 0,
+            length: 0,
+            alphabet: 1,
+        }
     }
 }
+
+// A bit for each character, 64 to a number: whether it is a name character.
+static NAME_CHARS: [u64; 4] = [0x03FF_0018_0000_0000, 0x07FF_FFFE_87FF_FFFF, 0, 0];
 
 // By bits: in a loop over a name, a chain of tests would go now this way, now that.
 fn is_name_char(character: u8) -> bool
     ensures { result ≡ is_name_char character }
 {
-    let bit = (character % 64) as u64;
-    (character < 128) & ((name_bits(character) >> bit) % 2 == 1)
+    (NAME_CHARS[(character / 64) as usize] >> (character % 64) as u64) % 2 == 1
 }
 
-// This and the tests below tell characters of page 037 by their bytes: naming its table would copy it at each call.
-fn is_name_char_in(byte: u8, alphabet: u8) -> bool
-    ensures { result ≡ is_name_of page037 alphabet byte }
+pub fn all_name_chars(bytes: &[u8], alphabet: Alphabet) -> bool
+    ensures { result ≡ each (is_name_of page037 (alphabet_number alphabet)) bytes.now }
 {
-    if alphabet == 2 {
-        (byte >= 0xC1) & (byte <= 0xC9)
-            | (byte >= 0xD1) & (byte <= 0xD9)
-            | (byte >= 0xE2) & (byte <= 0xE9)
-            | (byte >= 0x81) & (byte <= 0x89)
-            | (byte >= 0x91) & (byte <= 0x99)
-            | (byte >= 0xA2) & (byte <= 0xA9)
-            | (byte >= 0xF0) & (byte <= 0xF9)
-            | (byte == 0x6D)
-            | (byte == 0x5B)
-            | (byte == 0x7B)
-            | (byte == 0x7C)
-    } else {
-        is_name_char(byte)
-    }
+    bytes.iter().all(|byte| alphabet.is_name_char(*byte))
 }
 
-pub fn all_name_chars(bytes: &[u8], alphabet: u8) -> bool
-    ensures { result ≡ each (is_name_of page037 alphabet) bytes.now }
-{
-    let mut i = 0;
-    while i < bytes.len() {
-        if !is_name_char_in(bytes[i], alphabet) {
-            return false;
-        }
-        i += 1;
-    }
-    true
-}
-
+#[tactic(auto, unfolding(crate::specs::Chars::is_ascii))]
 pub fn is_ascii(bytes: &[u8]) -> bool
     ensures { result ≡ is_ascii bytes.now }
 {
-    let mut i = 0;
-    while i < bytes.len() {
-        if bytes[i] >= 0x80 {
-            return false;
-        }
-        i += 1;
-    }
-    true
+    bytes.iter().all(|byte| *byte < 0x80)
 }
 
-fn is_blank_in(byte: u8, alphabet: u8) -> bool
-    ensures { result ≡ is_blank_of page037 alphabet byte }
+pub fn leading_blanks(bytes: &[u8], alphabet: Alphabet) -> usize
+    ensures { result ≡ leading (is_blank_of page037 (alphabet_number alphabet)) bytes.now }
 {
-    if alphabet == 2 {
-        codepage::is_blank_byte(byte)
-    } else {
-        (byte >= 0x09) & (byte <= 0x0D) | (byte == 0x20) | (byte == 0x85) | (byte == 0xA0)
-    }
+    let blanks = bytes.iter().take_while(|byte| alphabet.is_blank(**byte));
+    blanks.count()
 }
 
-pub fn leading_blanks(bytes: &[u8], alphabet: u8) -> usize
-    ensures { result ≡ leading (is_blank_of page037 alphabet) bytes.now }
+pub fn kept_bytes(bytes: &[u8], alphabet: Alphabet) -> usize
+    ensures { result ≡ kept (is_blank_of page037 (alphabet_number alphabet)) bytes.now }
 {
-    let mut i = 0;
-    while i < bytes.len() {
-        if !is_blank_in(bytes[i], alphabet) {
-            return i;
-        }
-        i += 1;
+    let mut from_end = bytes.iter().rev();
+    match from_end.position(|byte| !alphabet.is_blank(*byte)) {
+        Some(blanks) => bytes.len() - blanks,
+        None => 0,
     }
-    i
-}
-
-pub fn kept_bytes(bytes: &[u8], alphabet: u8) -> usize
-    ensures { result ≡ kept (is_blank_of page037 alphabet) bytes.now }
-{
-    let mut end = bytes.len();
-    while 0 < end {
-        if !is_blank_in(bytes[end - 1], alphabet) {
-            return end;
-        }
-        end -= 1;
-    }
-    0
 }
 
 // The text of the `length` bytes from `start` on. One that is not ASCII has a byte above 7F, which trimming keeps: it is never empty.
@@ -124,25 +148,21 @@ pub fn decode_text(reply: &[u8], start: usize, length: usize) -> Text
     ensures { result ≡ text_of page037 reply.now start length }
 {
     if length == 0 {
-        return Text {
-            place: 0,
-            length: 0,
-            alphabet: 1,
-        };
+        return Text::empty();
     }
     let bytes = &reply[start..start + length];
     if is_ascii(bytes) {
         return Text {
             place: start,
             length,
-            alphabet: 1,
+            alphabet: Alphabet::Ascii.into(),
         };
     }
-    let first = leading_blanks(bytes, 2);
-    let end = kept_bytes(bytes, 2);
+    let first = leading_blanks(bytes, Alphabet::Page037);
+    let end = kept_bytes(bytes, Alphabet::Page037);
     Text {
         place: start + first,
         length: end - first,
-        alphabet: 2,
+        alphabet: Alphabet::Page037.into(),
     }
 }

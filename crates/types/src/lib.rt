@@ -3,14 +3,14 @@
 
 mod table;
 
-ghost use Rattle.std.specs.Prelude.{◌≡◌};
-ghost use Rattle.types.specs.Rows.{type_rows, lookup};
+ghost use Rattle.std.specs.Prelude.{◌≡◌, ◌<◌, MatchOption};
+ghost use Rattle.types.specs.Rows.{unknown_row, lookup};
 
 use field::ByteOrder;
 use table::TYPES;
 use text::Text;
 
-#[derive(Clone, Copy)]
+#[derive(Clone, Copy, Debug, PartialEq, Eq)]
 pub enum Db2Type {
     SmallInt,
     Integer,
@@ -37,7 +37,7 @@ pub enum Db2Type {
 }
 
 // A column of the reply; number counts from 0.
-#[derive(Clone, Copy)]
+#[derive(Clone, Copy, Debug, PartialEq, Eq)]
 pub struct ColumnMetadata {
     pub number: u16,
     pub db2_type: Db2Type,
@@ -102,7 +102,7 @@ impl ColumnMetadata {
 }
 
 // Which Db2Type a row of the table stands for, without its data.
-#[derive(Clone, Copy)]
+#[derive(Clone, Copy, Debug, PartialEq, Eq)]
 pub enum Kind {
     SmallInt,
     Integer,
@@ -128,37 +128,30 @@ pub enum Kind {
     Xml,
 }
 
-// Base 0 says that the type is not known.
-#[derive(Clone, Copy)]
+#[derive(Clone, Copy, Debug, PartialEq, Eq)]
 pub struct TypeRow {
     pub base: u16,
     pub kind: Kind,
     pub code: u8,
 }
 
-// The rows, by a function of their own: a proof over a literal array writes it out at every step.
-fn type_rows() -> [TypeRow; 24]
-    ensures { result ≡ type_rows }
-{
-    TYPES
-}
-
-// The row of a base type. Naming a constant array copies it, so the loop searches one copy.
-pub fn find_type(base: u16) -> TypeRow
-    ensures { result ≡ lookup base }
-{
-    let rows = type_rows();
-    let mut i = 0;
-    while i < 24 {
-        let row = rows[i];
-        if row.base == base {
-            return row;
-        }
-        i += 1;
-    }
-    TypeRow {
+impl TypeRow {
+    // What stands for the row of a type that is not known: no base type is 0.
+    pub const UNKNOWN: TypeRow = TypeRow {
         base: 0,
         kind: Kind::VarChar,
         code: ColumnMetadata::DRDA_TYPE_VARCHAR,
+    };
+}
+
+// The row of a base type, none where the type is not known.
+pub fn find_type(base: u16) -> Option<TypeRow>
+    ensures { MatchOption result (lookup base ≡ unknown_row) (λ row. (row ≡ lookup base) × (0 < row.base)) }
+{
+    for row in &TYPES {
+        if row.base == base {
+            return Some(*row);
+        }
     }
+    None
 }

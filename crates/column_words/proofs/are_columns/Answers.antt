@@ -1,24 +1,15 @@
--- Each turn looks at one record more.
-use Rattle.std.proofs.Common.{sym, ◌∙◌, arith}
-use Rattle.column_words.proofs.Columns.{are_cut, are_more, are_no, are_yes}
+-- All arrays are columns', and no word is left over.
+use Rattle.std.proofs.Common.{◌≡◌, refl, length, rules, tests, sym, ◌∙◌, arith}
+use borrow.Author.Tests.{eqb-true}
+use Rattle.std.proofs.lemmas.Iterator.{YieldsList-from_slice}
+use Rattle.std.proofs.lemmas.Iterator.Search.{all_from_yields_List}
+use Rattle.column_words.specs.Columns.{is_column}
+use Rattle.column_words.proofs.Chunks.{arrays_are_columns}
 use Rattle.column_words.proofs.are_columns.Goals as goal
 
-pub returns-then-words-ne0 : goal.returns-then-words-ne0
-returns-then-words-ne0 c = are_cut c.args.words.now c.if-words-ne0.true
-
-pub returns-then-not-is_column : goal.returns-then-not-is_column
-returns-then-not-is_column c =
-    are_no c.args.words.now c.loop-i.i c.loop-i.at c.loop-i.invariant.rest c.if-words-ne0.false c.loop-i-test.true
-    (sym c.is_column.ensures ∙ c.if-not-is_column.true)
-
-pub loop-i-preserved : goal.loop-i-preserved
-loop-i-preserved c = record {
-  in_range = omega arith;
-  at_is = omega arith;
-  rest =
-      are_more c.args.words.now _ c.loop-i.i c.loop-i.at c.loop-i.invariant.rest c.loop-i-test.true
-      (sym c.is_column.ensures ∙ c.if-not-is_column.false);
-}
-
-pub returns : goal.returns
-returns c = are_yes c.args.words.now c.loop-i.i c.loop-i.at c.loop-i.invariant.rest c.if-words-ne0.false c.loop-i-test.false
+pub returns-then-is_empty : goal.returns-then-is_empty
+returns-then-is_empty c =
+    let arrays = c.as_chunks.result.0.now in
+    let all = all_from_yields_List (λ words. is_column words 0) _ _ c.all.result c.all.ensures.ran (YieldsList-from_slice arrays cc) (λ x b q k. search (rules, tests)) in
+    let none : length c.as_chunks.result.1.now ≡ 0 = eqb-true _ _ (sym c.is_empty.ensures ∙ c.if-is_empty.true) in
+    arrays_are_columns c.args.words.now c.all.result (omega arith) (all ∙ rw c.as_chunks.ensures.front refl)

@@ -1,31 +1,33 @@
 -- Each turn adds one column's width, or stops at a large column.
-use Rattle.std.proofs.Common.{sym, ◌∙◌}
-use borrow.Author.Tests.{lt-ltb, le-ltb}
-use Rattle.columns.proofs.Summing.{summing_more, row_refused, row_large, row_done}
+use Rattle.std.proofs.Common.{sym, ap, ◌∙◌, arith, ◌∷◌, []}
+use borrow.Author.Tests.{le-ltb}
+use Rattle.types.specs.declared.ColumnMetadata.{ColumnMetadata}
+use Rattle.widths.specs.Width.{is_large, column_width}
+use Rattle.columns.specs.Blank.{no_column}
+use Rattle.columns.proofs.Summing.{summing_more, row_large, row_done_refusal, row_done_answer}
 use Rattle.columns.proofs.widest_row.Goals as goal
 
-pub returns-then-columns-gt4095 : goal.returns-then-columns-gt4095
-returns-then-columns-gt4095 c =
-    let w = row_refused c.args.columns.now (lt-ltb _ _ c.if-columns-gt4095.true) in
-    record { refuses = w.0; gives = w.1 }
-
-pub returns-then-is_large_column : goal.returns-then-is_large_column
-returns-then-is_large_column c =
+pub returns-then-is_large_column-clause-refuses : goal.returns-then-is_large_column-clause-refuses
+returns-then-is_large_column-clause-refuses g c =
+    let list = g.L.ColumnList.columns c.args.columns in
     let l = c.loop-i in
-    let w =
-    row_large c.args.columns.now (le-ltb _ _ c.if-columns-gt4095.false) l.width l.i l.invariant _ c.loop-i-test.true
-    (sym c.if-is_large_column.true ∙ c.is_large_column.ensures) _ c.number_of.ensures in
-    record { refuses = w.0; gives = w.1 }
+    ap (λ (d : ColumnMetadata). 8 ∷ d.number ∷ []) c.column-column.ensures
+    ∙ row_large list (le-ltb _ _ (omega arith)) l.width l.i l.invariant no_column (omega arith)
+    (sym c.if-is_large_column.true ∙ c.is_large_column.ensures ∙ ap (λ (d : ColumnMetadata). is_large d.db2_type) c.column-column.ensures)
 
 pub loop-i-preserved : goal.loop-i-preserved
-loop-i-preserved c =
+loop-i-preserved g c =
+    let list = g.L.ColumnList.columns c.args.columns in
     let l = c.loop-i in
     let k = c.column_width-width in
-    summing_more c.args.columns.now l.width l.i l.invariant _ c.loop-i-test.true
-    (sym c.if-is_large_column.false ∙ c.is_large_column.ensures) k.result k.ensures.value k.ensures.upper_bound
+    summing_more list l.width l.i l.invariant no_column (omega arith)
+    (sym c.if-is_large_column.false ∙ c.is_large_column.ensures ∙ ap (λ (d : ColumnMetadata). is_large d.db2_type) c.column-column.ensures)
+    k.result (k.ensures.value ∙ ap column_width c.column-column.ensures) k.ensures.upper_bound
 
-pub returns : goal.returns
-returns c =
-    let l = c.loop-i in
-    let w = row_done c.args.columns.now (le-ltb _ _ c.if-columns-gt4095.false) l.width l.i l.invariant c.loop-i-test.false in
-    record { refuses = w.0; gives = w.1 }
+pub returns-clause-refuses : goal.returns-clause-refuses
+returns-clause-refuses g c =
+    row_done_refusal (g.L.ColumnList.columns c.args.columns) (le-ltb _ _ (omega arith)) c.loop-i.width c.loop-i.i c.loop-i.invariant (omega arith)
+
+pub returns-clause-gives : goal.returns-clause-gives
+returns-clause-gives g c =
+    row_done_answer (g.L.ColumnList.columns c.args.columns) (le-ltb _ _ (omega arith)) c.loop-i.width c.loop-i.i c.loop-i.invariant (omega arith)

@@ -1,16 +1,12 @@
--- The answer is that from i on, and if `stop` is past i, the name characters behind i stop there.
-use Rattle.std.proofs.Common.{◌≡◌, ◌≤◌, ◌-◌}
+-- The first name is that from `place` on, and if `stop` is past it, the name characters behind it stop there.
+use Rattle.std.proofs.Common.{◌≡◌}
 use Rattle.search.specs.Walks.{first}
 use Rattle.compact.specs.Compact.{name_here, name_at, Stops}
 use Rattle.compact.proofs.extract_column_name.Given as goal
 
-abbrev pub invariant-loop-i : goal.invariant-loop-i
-invariant-loop-i l =
+abbrev pub invariant-loop-place : goal.invariant-loop-place
+invariant-loop-place l =
     record {
-      in_range : l.i ≤ l.end;
-      same : name_at l.reply l.offset l.end ≡ first (name_here l.reply l.end) l.i l.end;
-      stops : Stops l.reply l.end l.i l.stop;
+      same : name_at l.reply l.fn.offset l.end ≡ first (name_here l.reply l.end) l.place l.end;
+      stops : Stops l.reply l.end l.place l.stop;
     }
-
-abbrev pub decreases-loop-i : goal.decreases-loop-i
-decreases-loop-i l = l.end - l.i

@@ -1,22 +1,32 @@
 -- FF FF FF, or from an FF on to the one after it, or none.
-use Rattle.std.proofs.Common.{rules, arith, sym, ◌+◌}
-use Rattle.search.proofs.Index.{first_more, first_found, first_done}
-use Rattle.compact_table.proofs.Skips.{ff_after}
-use Rattle.compact.proofs.Laws.{last_found, last_none, last_later}
+use Rattle.std.proofs.Common.{rules, arith, refl, sym}
+use Rattle.compact.specs.Compact.{ffs_here}
+use Rattle.compact_table.proofs.Skips.{found_some, found_none, by_ff_found, by_ff_more, by_ff_none, ff_is}
+use Rattle.compact.proofs.Laws.{last_found, last_none, no_ffs}
 use Rattle.compact.proofs.last_descriptor_end.Goals as goal
 
 pub returns-then-ffs_here : goal.returns-then-ffs_here
 returns-then-ffs_here c =
-    let found = first_found _ _ _ _ c.loop-i.invariant.same c.loop-i-test.true (sym c.if-ffs_here.ensures) in
-    (last_found _ _ _ found c.loop-i-test.true, search rules)
+    let ff = found_some _ _ _ c.in-Some.ensures in
+    let at = by_ff_found _ (ffs_here _) (no_ffs _) _ _ _ _ c.loop-ff.invariant.in_range ff.0 c.loop-ff.invariant.same ff.1 (sym c.if-ffs_here.ensures) in
+    (last_found _ _ _ at ff.1, omega arith)
 
-pub loop-i-smaller : goal.loop-i-smaller
-loop-i-smaller c = omega (arith, ff_after _ (c.loop-i.i + 1) _ _ (omega arith) c.next_ff-i.ensures.0)
+pub loop-ff-smaller : goal.loop-ff-smaller
+loop-ff-smaller c =
+    let ff = found_some _ _ _ c.in-Some.ensures in
+    let later = (ff_is _ _ _ _ c.loop-ff.invariant.in_range ff.0).0 in
+    omega arith
 
-pub loop-i-preserved : goal.loop-i-preserved
-loop-i-preserved c =
-    let more = first_more _ _ _ _ c.loop-i.invariant.same c.loop-i-test.true (sym c.if-ffs_here.ensures) in
-    record { in_range = c.next_ff-i.ensures.1; same = last_later _ _ _ _ _ (omega arith) c.next_ff-i.ensures.0 more }
+pub loop-ff-preserved : goal.loop-ff-preserved
+loop-ff-preserved c =
+    let ff = found_some _ _ _ c.in-Some.ensures in
+    record {
+      in_range = omega arith;
+      same = by_ff_more _ (ffs_here _) (no_ffs _) _ _ _ _ c.loop-ff.invariant.in_range ff.0 c.loop-ff.invariant.same ff.1 (sym c.if-ffs_here.ensures);
+    }
 
 pub returns : goal.returns
-returns c = (last_none _ _ _ (first_done _ _ _ _ c.loop-i.invariant.same c.loop-i-test.false) c.loop-i-test.false, search rules)
+returns c =
+    let none = found_none _ _ c.in_default.ensures in
+    let at = by_ff_none _ (ffs_here _) (no_ffs _) _ _ _ _ c.loop-ff.invariant.in_range refl c.loop-ff.invariant.same none in
+    (last_none _ _ _ at none, search rules)

@@ -1,36 +1,44 @@
 -- A length byte of 1 to 64, its bytes inside the descriptor, and all of them name characters.
-use Rattle.std.proofs.Common.{arith}
+use Rattle.std.proofs.Common.{rules, not}
+use Rattle.text.specs.Chars.{is_name_char}
+use Rattle.compact.specs.Compact.{stop_at}
 use Rattle.compact.proofs.Laws.{name_size, name_over}
 use Rattle.compact.proofs.Stops.{stops_later, name_known, name_whole, name_broken}
 use Rattle.compact.proofs.name_here.Goals as goal
 
+pub returns-then-not-contains-clause-finds : goal.returns-then-not-contains-clause-finds
+returns-then-not-contains-clause-finds c = name_size _ _ _ (search rules)
+
+pub returns-then-not-contains-clause-ends : goal.returns-then-not-contains-clause-ends
+returns-then-not-contains-clause-ends c = stops_later _ _ _ _ c.requires.in_range.0 c.requires.stops
+
+pub returns-then-end-start-clause-finds : goal.returns-then-end-start-clause-finds
+returns-then-end-start-clause-finds c = name_over _ _ _ (search rules) c.if-end-start.true
+
+pub returns-then-end-start-clause-ends : goal.returns-then-end-start-clause-ends
+returns-then-end-start-clause-ends c = stops_later _ _ _ _ c.requires.in_range.0 c.requires.stops
+
 pub returns-then-offset-stop-clause-finds : goal.returns-then-offset-stop-clause-finds
 returns-then-offset-stop-clause-finds c =
-    name_known _ _ _ c.requires.offset_lt_end.1 c.if-length.true c.if-start-length.true _ c.if-offset-stop.true c.requires.stops
+    name_known _ _ _ c.requires.in_range.1 (search rules) c.if-end-start.false _ c.if-offset-stop.true c.requires.stops
 
 pub returns-then-offset-stop-clause-ends : goal.returns-then-offset-stop-clause-ends
-returns-then-offset-stop-clause-ends c = stops_later _ _ _ _ c.requires.offset_lt_end.0 c.requires.stops
+returns-then-offset-stop-clause-ends c = stops_later _ _ _ _ c.requires.in_range.0 c.requires.stops
 
-pub returns-then-next-start-clause-finds : goal.returns-then-next-start-clause-finds
-returns-then-next-start-clause-finds c =
-    name_whole _ _ _ c.requires.offset_lt_end.1 c.if-length.true c.if-start-length.true _ c.name_stop-next.ensures.0 c.if-next-start.true
+pub returns-in-Some-clause-finds : goal.returns-in-Some-clause-finds
+unfolding stop_at
+returns-in-Some-clause-finds c =
+    let other = c.in-Some.ensures (λ byte. not (is_name_char byte)) (λ byte answer small post. search rules) in
+    (name_broken _ _ _ c.requires.in_range.1 (search rules) c.if-end-start.false _ other).0
 
-pub returns-then-start-length-clause-finds : goal.returns-then-start-length-clause-finds
-returns-then-start-length-clause-finds c =
-    (name_broken _ _ _ c.requires.offset_lt_end.1 c.if-length.true c.if-start-length.true _ c.name_stop-next.ensures.0 (omega arith)).0
+pub returns-in-Some-clause-ends : goal.returns-in-Some-clause-ends
+unfolding stop_at
+returns-in-Some-clause-ends c =
+    let other = c.in-Some.ensures (λ byte. not (is_name_char byte)) (λ byte answer small post. search rules) in
+    (name_broken _ _ _ c.requires.in_range.1 (search rules) c.if-end-start.false _ other).1
 
-pub returns-then-start-length-clause-ends : goal.returns-then-start-length-clause-ends
-returns-then-start-length-clause-ends c =
-    (name_broken _ _ _ c.requires.offset_lt_end.1 c.if-length.true c.if-start-length.true _ c.name_stop-next.ensures.0 (omega arith)).1
-
-pub returns-then-length-clause-finds : goal.returns-then-length-clause-finds
-returns-then-length-clause-finds c = name_over _ _ _ c.if-length.true c.if-start-length.false
-
-pub returns-then-length-clause-ends : goal.returns-then-length-clause-ends
-returns-then-length-clause-ends c = stops_later _ _ _ _ c.requires.offset_lt_end.0 c.requires.stops
-
-pub returns-clause-finds : goal.returns-clause-finds
-returns-clause-finds c = name_size _ _ _ c.if-length.false
-
-pub returns-clause-ends : goal.returns-clause-ends
-returns-clause-ends c = stops_later _ _ _ _ c.requires.offset_lt_end.0 c.requires.stops
+pub returns-in-None-clause-finds : goal.returns-in-None-clause-finds
+unfolding stop_at
+returns-in-None-clause-finds c =
+    name_whole _ _ _ c.requires.in_range.1 (search rules) c.if-end-start.false
+    (c.in-None.ensures (λ byte. not (is_name_char byte)) (λ byte answer small post. search rules))

@@ -1,21 +1,36 @@
 -- The next, or from an FF on to the one after it, or none.
-use Rattle.std.proofs.Common.{arith, sym, ◌+◌}
-use Rattle.search.proofs.Index.{first_more, first_found, first_done}
-use Rattle.compact_table.proofs.Laws.{next_is}
-use Rattle.compact_table.proofs.Skips.{ff_after, next_later}
+use Rattle.std.proofs.Common.{arith, refl, sym}
+use Rattle.compact_table.specs.Table.{next_here}
+use Rattle.compact_table.proofs.Laws.{next_at, next_is}
+use Rattle.compact_table.proofs.Skips.{found, not_found, found_some, found_none, by_ff_found, by_ff_more, by_ff_none, ff_is, no_next}
 use Rattle.compact_table.proofs.next_compact_descriptor_offset.Goals as goal
 
-pub returns-then-next_here : goal.returns-then-next_here
-returns-then-next_here c =
-    next_is _ _ _ (first_found _ _ _ _ c.loop-i.invariant.same c.loop-i-test.true (sym c.if-next_here.ensures))
+pub returns-then-looks_like_compact_descriptor_start : goal.returns-then-looks_like_compact_descriptor_start
+returns-then-looks_like_compact_descriptor_start c =
+    let ff = found_some _ _ _ c.in-Some.ensures in
+    let here = (ff_is _ _ _ _ c.loop-ff.invariant.in_range ff.0).1 ff.1 in
+    let next = sym (next_at _ _ _ here c.if-looks_like_compact_descriptor_start.ensures) in
+    found _ _ _ (next_is _ _ _ (by_ff_found _ (next_here _) (no_next _) _ _ _ _ c.loop-ff.invariant.in_range ff.0 c.loop-ff.invariant.same ff.1 next)) (omega arith)
 
-pub loop-i-smaller : goal.loop-i-smaller
-loop-i-smaller c = omega (arith, ff_after _ (c.loop-i.i + 1) _ _ (omega arith) c.next_ff-i.ensures.0)
+pub loop-ff-smaller : goal.loop-ff-smaller
+loop-ff-smaller c =
+    let ff = found_some _ _ _ c.in-Some.ensures in
+    let later = (ff_is _ _ _ _ c.loop-ff.invariant.in_range ff.0).0 in
+    omega arith
 
-pub loop-i-preserved : goal.loop-i-preserved
-loop-i-preserved c =
-    let more = first_more _ _ _ _ c.loop-i.invariant.same c.loop-i-test.true (sym c.if-next_here.ensures) in
-    record { in_range = c.next_ff-i.ensures.1; same = next_later _ _ _ _ _ (omega arith) c.next_ff-i.ensures.0 more }
+pub loop-ff-preserved : goal.loop-ff-preserved
+loop-ff-preserved c =
+    let ff = found_some _ _ _ c.in-Some.ensures in
+    let here = (ff_is _ _ _ _ c.loop-ff.invariant.in_range ff.0).1 ff.1 in
+    let next = sym (next_at _ _ _ here c.if-looks_like_compact_descriptor_start.ensures) in
+    record {
+      in_range = omega arith;
+      same = by_ff_more _ (next_here _) (no_next _) _ _ _ _ c.loop-ff.invariant.in_range ff.0 c.loop-ff.invariant.same ff.1 next;
+    }
 
 pub returns : goal.returns
-returns c = next_is _ _ _ (first_done _ _ _ _ c.loop-i.invariant.same c.loop-i-test.false)
+returns c =
+    let none = found_none _ _ c.in_default.ensures in
+    let last = by_ff_none _ (next_here _) (no_next _) _ _ _ _ c.loop-ff.invariant.in_range refl c.loop-ff.invariant.same none in
+    let end = next_is _ _ _ last in
+    not_found _ _ (omega arith)

@@ -1,5 +1,5 @@
 -- The loop walks from descriptor to descriptor.
-use Rattle.std.proofs.Common.{◌-◌, ◌≤◌, length}
+use Rattle.std.proofs.Common.{◌≤◌, length}
 use Rattle.search.proofs.Walks.{Walking}
 use Rattle.codepage.specs.Page.{page037}
 use Rattle.column.specs.Column.{is_named}
@@ -11,6 +11,3 @@ invariant-loop-count l = record {
   within : l.offset ≤ length l.reply;
   walking : Walking (standard_walk page037 l.order l.reply) (is_named page037 l.reply) l.limit l.start l.count l.named l.offset;
 }
-
-abbrev pub decreases-loop-count : goal.decreases-loop-count
-decreases-loop-count l = l.limit - l.count

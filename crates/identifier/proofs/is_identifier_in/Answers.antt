@@ -1,21 +1,36 @@
--- The four ways out: no bytes, too many, one that is no name character, and the answer that is_generated gives.
-use Rattle.std.proofs.Common.{sym, ◌∙◌, arith}
+-- The ways out: too few or too many bytes, one that is no name character, and the answer that is_generated gives.
+use Rattle.std.proofs.lemmas.Bool.{le-leb, lt-leb}
+use Rattle.std.proofs.Common.{sym, refl, ◌∙◌}
 use Rattle.codepage.specs.Page.{page037}
-use Rattle.identifier.proofs.Identifiers.{identifier_none, identifier_long, identifier_other, identifier_named}
+use Rattle.identifier.proofs.Identifiers.{identifier_is}
 use Rattle.identifier.proofs.is_identifier_in.Goals as goal
+use Rattle.identifier.proofs.is_identifier_in.Goals.{then-is_empty-via-then-is_empty, then-is_empty-via-else-is_empty+then-bytes-gt128}
 
-pub returns-then-bytes-lt1 : goal.returns-then-bytes-lt1
-returns-then-bytes-lt1 c = identifier_none page037 c.args.alphabet c.args.bytes.now (omega (arith, c.if-bytes-lt1.true))
+pub returns-then-is_empty : goal.returns-then-is_empty
+returns-then-is_empty c =
+    rw (identifier_is page037 _ c.args.bytes.now, ← c.is_empty.ensures)
+    (elim c.then-is_empty.branch [
+      | then-is_empty-via-then-is_empty w ↦ rw w.if-is_empty.true refl
+      | then-is_empty-via-else-is_empty+then-bytes-gt128 w ↦ rw (w.if-is_empty.false, lt-leb _ 128 w.if-bytes-gt128.true) refl
+    ])
 
-pub returns-then-bytes-gt128 : goal.returns-then-bytes-gt128
-returns-then-bytes-gt128 c = identifier_long page037 c.args.alphabet c.args.bytes.now (omega (arith, c.if-bytes-lt1.false)) (omega (arith, c.if-bytes-gt128.true))
+pub returns-then-all_name_chars : goal.returns-then-all_name_chars
+returns-then-all_name_chars c =
+    rw (
+      identifier_is page037 _ c.args.bytes.now,
+      ← c.is_empty.ensures,
+      c.if-is_empty.false,
+      le-leb _ 128 c.if-bytes-gt128.false,
+      sym c.all_name_chars.ensures ∙ c.if-all_name_chars.true,
+      ← c.is_generated.ensures,
+    ) refl
 
-pub returns-then-not-all_name_chars : goal.returns-then-not-all_name_chars
-returns-then-not-all_name_chars c =
-    identifier_other page037 c.args.alphabet c.args.bytes.now (omega (arith, c.if-bytes-lt1.false)) (omega (arith, c.if-bytes-gt128.false)) c.all_name_chars.result
-    c.all_name_chars.ensures (c.all_name_chars.ensures ∙ sym c.if-not-all_name_chars.ensures)
-
-pub returns : goal.returns
-returns c =
-    identifier_named page037 c.args.alphabet c.args.bytes.now (omega (arith, c.if-bytes-lt1.false)) (omega (arith, c.if-bytes-gt128.false)) c.all_name_chars.result
-    c.all_name_chars.ensures (c.all_name_chars.ensures ∙ sym c.if-not-all_name_chars.ensures) c.is_generated.result c.is_generated.ensures
+pub returns-else-all_name_chars : goal.returns-else-all_name_chars
+returns-else-all_name_chars c =
+    rw (
+      identifier_is page037 _ c.args.bytes.now,
+      ← c.is_empty.ensures,
+      c.if-is_empty.false,
+      le-leb _ 128 c.if-bytes-gt128.false,
+      sym c.all_name_chars.ensures ∙ c.if-all_name_chars.false,
+    ) c.if-all_name_chars.false

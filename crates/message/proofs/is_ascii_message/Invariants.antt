@@ -1,17 +1,13 @@
--- Each count and what is left to count are that of all bytes. Of at most 65,536 bytes, 100 times as many fit.
-use Rattle.std.proofs.Common.{◌≡◌, ◌≤◌, ◌-◌, ◌+◌, length, drop}
+-- Each count and what is left to count are that of all bytes.
+use Rattle.std.proofs.Common.{◌≡◌, ◌+◌}
+use Rattle.std.specs.Slice.Iter.{chunks_rest, chunks_size}
 use Rattle.search.specs.Search.{count}
 use Rattle.message.specs.Message.{is_printable, others}
 use Rattle.message.proofs.is_ascii_message.Given as goal
 
-abbrev pub invariant-loop-i : goal.invariant-loop-i
-invariant-loop-i l = record {
-  within : l.i ≤ length l.bytes;
-  few_printables : l.printables ≤ l.i;
-  few_others : l.others ≤ l.i;
-  printables : l.printables + count is_printable (drop l.i l.bytes) ≡ count is_printable l.bytes;
-  rest : l.others + others (drop l.i l.bytes) ≡ others l.bytes;
+abbrev pub invariant-loop-block : goal.invariant-loop-block
+invariant-loop-block l = record {
+  size : chunks_size l.block-iterator ≡ 128;
+  printables : l.printables + count is_printable (chunks_rest l.block-iterator) ≡ count is_printable l.bytes;
+  rest : l.others + others (chunks_rest l.block-iterator) ≡ others l.bytes;
 }
-
-abbrev pub decreases-loop-i : goal.decreases-loop-i
-decreases-loop-i l = length l.bytes - l.i

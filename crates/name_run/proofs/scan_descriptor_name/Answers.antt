@@ -1,84 +1,73 @@
 -- The ways out: no room for the option flag, FF, a layout that cannot be read, one without a name, and its name.
-use Rattle.std.proofs.Common.{arith}
+use Rattle.std.proofs.Common.{arith, ◌∙◌}
 use Rattle.codepage.specs.Page.{page037}
-use Rattle.name_run.proofs.Layouts.{named_short, named_null, read_inside, named_cut, named_none, named_some}
+use Rattle.name_run.proofs.Layouts.{named_short, named_null, read_inside, named_cut, named_none, named_some, named_inside}
 use Rattle.name_run.proofs.scan_descriptor_name.Goals as goal
 
-pub returns-then-end-offset-lt17 : goal.returns-then-end-offset-lt17
-returns-then-end-offset-lt17 c =
-    named_short page037 c.args.reply.now c.args.offset c.no_name.result c.no_name.ensures c.if-end-offset-lt17.true
+pub returns-then-saturating_sub-lt17-clause-scanned : goal.returns-then-saturating_sub-lt17-clause-scanned
+returns-then-saturating_sub-lt17-clause-scanned c = named_short _ _ _ (omega (arith, c.saturating_sub.ensures, c.if-saturating_sub-lt17.true))
 
-pub returns-then-reply-offset : goal.returns-then-reply-offset
-returns-then-reply-offset c =
-    named_null page037 c.args.reply.now c.args.offset c.no_name-then-reply-offset.result c.no_name-then-reply-offset.ensures
-    (omega (arith, c.if-end-offset-lt17.false))
-    c.if-reply-offset.true
+pub returns-then-reply-offset-clause-scanned : goal.returns-then-reply-offset-clause-scanned
+returns-then-reply-offset-clause-scanned c =
+    named_null _ _ _ (omega (arith, c.saturating_sub.ensures, c.if-saturating_sub-lt17.false)) c.if-reply-offset.true
 
-pub returns-then-end-extension : goal.returns-then-end-extension
-returns-then-end-extension c =
-    named_cut page037 c.args.reply.now c.args.offset (omega (arith, c.if-end-offset-lt17.false)) c.if-reply-offset.false
-    c.read_string-m.result
-    c.read_string-s.result
-    c.skip_strings-comments_end.result
-    c.skip_sqludtgrp.result
-    c.read_sqldxgrp-extension.result
+pub returns-then-end-extension-clause-scanned : goal.returns-then-end-extension-clause-scanned
+returns-then-end-extension-clause-scanned c =
+    named_cut _ _ _ (omega (arith, c.saturating_sub.ensures, c.if-saturating_sub-lt17.false)) c.if-reply-offset.false _ _ _ _ _
     c.read_string-m.ensures
     c.read_string-s.ensures
     c.skip_strings-comments_end.ensures
     c.skip_sqludtgrp.ensures
     c.read_sqldxgrp-extension.ensures
-    c.no_name-then-end-extension.result
-    c.no_name-then-end-extension.ensures
     c.if-end-extension.true
 
-pub first_name-name-requires : goal.first_name-name-requires
-first_name-name-requires c =
-    read_inside page037 c.args.reply.now c.args.offset (omega (arith, c.if-end-offset-lt17.false)) c.if-reply-offset.false
-    c.read_string-m.result
-    c.read_string-s.result
-    c.skip_strings-comments_end.result
-    c.skip_sqludtgrp.result
-    c.read_sqldxgrp-extension.result
+pub first_name-requires : goal.first_name-requires
+first_name-requires c =
+    read_inside page037 _ _ (omega (arith, c.saturating_sub.ensures, c.if-saturating_sub-lt17.false)) c.if-reply-offset.false _ _ _ _ _
     c.read_string-m.ensures
     c.read_string-s.ensures
     c.skip_strings-comments_end.ensures
     c.skip_sqludtgrp.ensures
     c.read_sqldxgrp-extension.ensures
 
-pub returns-then-name-eq0 : goal.returns-then-name-eq0
-returns-then-name-eq0 c =
-    named_none page037 c.args.reply.now c.args.offset (omega (arith, c.if-end-offset-lt17.false)) c.if-reply-offset.false
-    c.read_string-m.result
-    c.read_string-s.result
-    c.skip_strings-comments_end.result
-    c.skip_sqludtgrp.result
-    c.read_sqldxgrp-extension.result
+pub returns-in_err-name-clause-scanned : goal.returns-in_err-name-clause-scanned
+returns-in_err-name-clause-scanned c =
+    c.from_residual.ensures
+    ∙ named_none _ _ _ (omega (arith, c.saturating_sub.ensures, c.if-saturating_sub-lt17.false)) c.if-reply-offset.false _ _ _ _ _
     c.read_string-m.ensures
     c.read_string-s.ensures
     c.skip_strings-comments_end.ensures
     c.skip_sqludtgrp.ensures
     c.read_sqldxgrp-extension.ensures
     c.if-end-extension.false
-    c.first_name-name.result
-    c.first_name-name.ensures
-    c.no_name-then-name-eq0.result
-    c.no_name-then-name-eq0.ensures
-    c.if-name-eq0.true
+    _
+    c.first_name.ensures
+    c.in_err-name.was
 
-pub returns : goal.returns
-returns c =
-    named_some page037 c.args.reply.now c.args.offset (omega (arith, c.if-end-offset-lt17.false)) c.if-reply-offset.false
-    c.read_string-m.result
-    c.read_string-s.result
-    c.skip_strings-comments_end.result
-    c.skip_sqludtgrp.result
-    c.read_sqldxgrp-extension.result
+pub returns-clause-scanned : goal.returns-clause-scanned
+returns-clause-scanned c =
+    named_some _ _ _ (omega (arith, c.saturating_sub.ensures, c.if-saturating_sub-lt17.false)) c.if-reply-offset.false _ _ _ _ _
     c.read_string-m.ensures
     c.read_string-s.ensures
     c.skip_strings-comments_end.ensures
     c.skip_sqludtgrp.ensures
     c.read_sqldxgrp-extension.ensures
     c.if-end-extension.false
-    c.first_name-name.result
-    c.first_name-name.ensures
-    c.if-name-eq0.false
+    _
+    c.first_name.ensures
+    c.in_ok-name.name
+    c.in_ok-name.was
+
+pub returns-clause-inside : goal.returns-clause-inside
+returns-clause-inside c =
+    named_inside _ _ _ (omega (arith, c.saturating_sub.ensures, c.if-saturating_sub-lt17.false)) c.if-reply-offset.false _ _ _ _ _
+    c.read_string-m.ensures
+    c.read_string-s.ensures
+    c.skip_strings-comments_end.ensures
+    c.skip_sqludtgrp.ensures
+    c.read_sqldxgrp-extension.ensures
+    c.if-end-extension.false
+    _
+    c.first_name.ensures
+    c.in_ok-name.name
+    c.in_ok-name.was

@@ -1,29 +1,22 @@
 -- Each way out is a law of Choosing.
-use Rattle.listing.proofs.Lists.{first_to_come, first_within}
-use Rattle.names.proofs.Choosing.{plan_second, plan_first, plan_run}
+use Rattle.codepage.specs.Page.{page037}
+use Rattle.names.proofs.Choosing.{names_second, names_first, names_run, plan_listed, plan_run}
 use Rattle.names.proofs.plan_names.Goals as goal
 
 pub returns-then-before-returning : goal.returns-then-before-returning
 returns-then-before-returning c =
     let n = c.count_names-counts.ensures in
-    let f = c.first_cursor-cursor.ensures in
-    plan_second _ _ _ (first_within _ _ _ f n.1.1) (λ rule. first_to_come _ rule _ _ f n.1.0) _ _ n.0.0 n.0.1 _ c.if-before-returning.true
-    c.listed_plan.ensures
+    plan_listed _ _ _ _ _ _ n.in_view n.same_reply c.by.ensures n.before_first
+    (names_second page037 _ _ _ n.returning n.before_first c.if-before-returning.true)
 
 pub returns-then-returning-ge2 : goal.returns-then-returning-ge2
 returns-then-returning-ge2 c =
     let n = c.count_names-counts.ensures in
-    let f = c.first_cursor-cursor.ensures in
-    plan_first _ _ _ (first_within _ _ _ f n.1.1) (λ rule. first_to_come _ rule _ _ f n.1.0) _ _ n.0.0 n.0.1 _ c.if-before-returning.false
-    c.if-returning-ge2.true
-    c.listed_plan-then-returning-ge2.ensures
+    plan_listed _ _ _ _ _ _ n.in_view n.same_reply c.by-then-returning-ge2.ensures n.returning
+    (names_first page037 _ _ _ n.returning n.before_first c.if-before-returning.false c.if-returning-ge2.true)
 
 pub returns : goal.returns
 returns c =
     let n = c.count_names-counts.ensures in
-    let f = c.first_cursor-cursor.ensures in
-    plan_run _ _ _ (first_within _ _ _ f n.1.1) (λ rule. first_to_come _ rule _ _ f n.1.0) _ _ n.0.0 n.0.1 _ c.if-before-returning.false
-    c.if-returning-ge2.false
-    _
-    c.longest_name_run.ensures
-    c.run_plan.ensures
+    plan_run _ _ _ _ c.longest_name_run-run.ensures c.of.ensures
+    (names_run page037 _ _ _ n.returning n.before_first c.if-before-returning.false c.if-returning-ge2.false)

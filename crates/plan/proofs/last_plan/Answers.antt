@@ -1,30 +1,23 @@
 -- Refusals 1 and 2, no columns before the whole count, else the last reader's run.
-use Rattle.std.proofs.Common.{arith}
+use Rattle.std.proofs.Common.{refl, arith}
 use Rattle.codepage.specs.Page.{page037}
-use Rattle.plan.proofs.Plans.{limit_le, limit_empty, last_empty, last_early, last_none, last_is}
+use Rattle.plan.proofs.Plans.{last_empty, last_early, last_none, last_is}
 use Rattle.plan.proofs.last_plan.Goals as goal
 
 pub returns-then-size-eq0 : goal.returns-then-size-eq0
-returns-then-size-eq0 c = (last_empty page037 _ _ c.empty_plan.ensures c.if-size-eq0.true, limit_empty _ _ c.empty_plan.ensures)
+returns-then-size-eq0 c = last_empty page037 _ c.if-size-eq0.true
 
 pub returns-then-size-offset : goal.returns-then-size-offset
-returns-then-size-offset c =
-    let e = c.empty_plan-then-size-offset.ensures in
-    (last_early page037 _ _ c.if-size-eq0.false c.requires _ e c.if-size-offset.true, limit_empty _ _ e)
+returns-then-size-offset c = last_early page037 _ _ c.if-size-eq0.false c.requires c.if-size-offset.true
 
 pub returns-then-size-offset-lt2 : goal.returns-then-size-offset-lt2
 returns-then-size-offset-lt2 c =
-    let e = c.empty_plan-then-size-offset-lt2.ensures in (
-      last_none page037 _ _ c.if-size-eq0.false c.requires _ e c.if-size-offset.false (omega (arith, c.if-size-offset.false, c.if-size-offset-lt2.true)),
-      limit_empty _ _ e,
-    )
+    last_none page037 _ _ c.if-size-eq0.false c.requires (omega (arith, c.if-size-offset.false)) (omega (arith, c.if-size-offset.false, c.if-size-offset-lt2.true))
 
 pub returns : goal.returns
-returns c = (
-  last_is page037 _ _ c.if-size-eq0.false c.requires _ _ _ _ (omega (arith, c.if-size-offset.false, c.if-size-offset-lt2.false))
-      c.last_count_offset-count_offset.ensures.0
-      c.u16_at-count.ensures
-      c.compact_run-run.ensures.value
-      c.plan_with.ensures,
-  limit_le _ _ _ _ _ _ _ c.plan_with.ensures (omega (arith, c.u16_at-count.type_inv)),
-)
+returns c =
+    last_is page037 _ _ c.if-size-eq0.false c.requires _ _ _ _ (omega (arith, c.if-size-offset.false, c.if-size-offset-lt2.false))
+    c.last_count_offset-count_offset.ensures.0
+    c.u16_at-limit.ensures
+    c.compact_run-run.ensures.value
+    refl

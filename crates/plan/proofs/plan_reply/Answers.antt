@@ -1,71 +1,32 @@
--- The plans are looked at one after the other: after each that has no names, `Undecided` says what is still open.
+-- One attempt after the other: the first with a name wins, else the first with columns, else the last reader.
+use Rattle.std.proofs.Common.{◌∙◌, refl}
 use Rattle.codepage.specs.Page.{page037}
-use Rattle.field.specs.declared.ByteOrder.TheVariants.{LittleEndian}
-use Rattle.plan.proofs.Choices.{planned_is, named_first, unnamed_first, named_next, unnamed_next, some_left, none_left, counted_standard, counted_compact, counted_scan}
+use Rattle.plan.proofs.Choices.{undecided_start, named_wins, unnamed_waits, none_waits, first_wins, last_wins}
 use Rattle.plan.proofs.plan_reply.Goals as goal
+use Rattle.plan.proofs.plan_reply.Goals.{in-Some+else-has_names, in_default}
 
-pub returns-then-big-ge1 : goal.returns-then-big-ge1
-returns-then-big-ge1 c =
-    let big = c.standard_plan-big.ensures in
-    let t = planned_is page037 _ _ (named_first page037 _ _ big.0 c.if-big-ge1.true) big.1 in
-    record { plans = t.0; counts = t.1.0; bounds = t.1.1 }
+pub loop-attempt-init : goal.loop-attempt-init
+loop-attempt-init c = undecided_start page037 _
 
-pub returns-then-compact-ge1 : goal.returns-then-compact-ge1
-returns-then-compact-ge1 c =
-    let big = c.standard_plan-big.ensures in
-    let compact = c.compact_plan-compact.ensures in
-    let u₁ = unnamed_first page037 _ _ big.0 big.1 c.if-big-ge1.false in
-    let t = planned_is page037 _ _ (named_next page037 _ _ _ _ _ u₁ compact.0 (counted_compact page037 _) c.if-compact-ge1.true) compact.1 in
-    record { plans = t.0; counts = t.1.0; bounds = t.1.1 }
+pub returns-then-has_names : goal.returns-then-has_names
+returns-then-has_names c =
+    let t = named_wins page037 _ _ _ _ c.loop-attempt-test.true c.loop-attempt.invariant _ c.in-Some.ensures (c.if-has_names.ensures.0 refl) in
+    record { plans = t.0; counts = t.1 }
 
-pub returns-then-little-ge1 : goal.returns-then-little-ge1
-returns-then-little-ge1 c =
-    let big = c.standard_plan-big.ensures in
-    let compact = c.compact_plan-compact.ensures in
-    let little = c.standard_plan-little.ensures in
-    let u₁ = unnamed_first page037 _ _ big.0 big.1 c.if-big-ge1.false in
-    let u₂ = unnamed_next page037 _ _ _ _ _ u₁ compact.0 (counted_compact page037 _) compact.1 c.if-compact-ge1.false _ c.first_with_columns-unnamed.ensures in
-    let t = planned_is page037 _ _ (named_next page037 _ _ _ _ _ u₂ little.0 (counted_standard page037 _ LittleEndian) c.if-little-ge1.true) little.1 in
-    record { plans = t.0; counts = t.1.0; bounds = t.1.1 }
+pub loop-attempt-preserved : goal.loop-attempt-preserved
+loop-attempt-preserved c =
+    elim c.match-plan.branch [
+      | in-Some+else-has_names w ↦ unnamed_waits page037 _ _ _ _ c.loop-attempt-test.true c.loop-attempt.invariant _ w.in-Some.ensures (λ n. absurd (cc (w.if-has_names.ensures.1 n)))
+          _ (w.unnamed-is ∙ w.or-unnamed.ensures)
+      | in_default w ↦ none_waits page037 _ _ _ _ c.loop-attempt-test.true c.loop-attempt.invariant w.in_default.ensures _ w.unnamed-is
+    ]
 
-pub returns-then-scan-ge1 : goal.returns-then-scan-ge1
-returns-then-scan-ge1 c =
-    let big = c.standard_plan-big.ensures in
-    let compact = c.compact_plan-compact.ensures in
-    let little = c.standard_plan-little.ensures in
-    let scan = c.scan_plan-scan.ensures in
-    let u₁ = unnamed_first page037 _ _ big.0 big.1 c.if-big-ge1.false in
-    let u₂ = unnamed_next page037 _ _ _ _ _ u₁ compact.0 (counted_compact page037 _) compact.1 c.if-compact-ge1.false _ c.first_with_columns-unnamed.ensures in
-    let u₃ = unnamed_next page037 _ _ _ _ _ u₂ little.0 (counted_standard page037 _ LittleEndian) little.1 c.if-little-ge1.false _ c.first_with_columns-unnamed-2.ensures in
-    let t = planned_is page037 _ _ (named_next page037 _ _ _ _ _ u₃ scan.0 (counted_scan page037 _) c.if-scan-ge1.true) scan.1 in
-    record { plans = t.0; counts = t.1.0; bounds = t.1.1 }
+pub returns-in-Some-unnamed : goal.returns-in-Some-unnamed
+returns-in-Some-unnamed c =
+    let t = first_wins page037 _ _ _ c.loop-attempt-test.false c.loop-attempt.auto.attempt-index-end c.loop-attempt.invariant _ c.in-Some-unnamed.is in
+    record { plans = t.0; counts = t.1 }
 
-pub returns-then-unnamed-ge1 : goal.returns-then-unnamed-ge1
-returns-then-unnamed-ge1 c =
-    let big = c.standard_plan-big.ensures in
-    let compact = c.compact_plan-compact.ensures in
-    let little = c.standard_plan-little.ensures in
-    let scan = c.scan_plan-scan.ensures in
-    let u₁ = unnamed_first page037 _ _ big.0 big.1 c.if-big-ge1.false in
-    let u₂ = unnamed_next page037 _ _ _ _ _ u₁ compact.0 (counted_compact page037 _) compact.1 c.if-compact-ge1.false _ c.first_with_columns-unnamed.ensures in
-    let u₃ = unnamed_next page037 _ _ _ _ _ u₂ little.0 (counted_standard page037 _ LittleEndian) little.1 c.if-little-ge1.false _ c.first_with_columns-unnamed-2.ensures in
-    let u₄ = unnamed_next page037 _ _ _ _ _ u₃ scan.0 (counted_scan page037 _) scan.1 c.if-scan-ge1.false _ c.first_with_columns-unnamed-3.ensures in
-    let t = planned_is page037 _ _ (some_left page037 _ _ u₄ c.if-unnamed-ge1.true) u₄.bounded in
-    record { plans = t.0; counts = t.1.0; bounds = t.1.1 }
-
-pub last_plan-requires : goal.last_plan-requires
-last_plan-requires c = c.count_offset-offset.ensures
-
-pub returns : goal.returns
-returns c =
-    let big = c.standard_plan-big.ensures in
-    let compact = c.compact_plan-compact.ensures in
-    let little = c.standard_plan-little.ensures in
-    let scan = c.scan_plan-scan.ensures in
-    let last = c.last_plan.ensures in
-    let u₁ = unnamed_first page037 _ _ big.0 big.1 c.if-big-ge1.false in
-    let u₂ = unnamed_next page037 _ _ _ _ _ u₁ compact.0 (counted_compact page037 _) compact.1 c.if-compact-ge1.false _ c.first_with_columns-unnamed.ensures in
-    let u₃ = unnamed_next page037 _ _ _ _ _ u₂ little.0 (counted_standard page037 _ LittleEndian) little.1 c.if-little-ge1.false _ c.first_with_columns-unnamed-2.ensures in
-    let u₄ = unnamed_next page037 _ _ _ _ _ u₃ scan.0 (counted_scan page037 _) scan.1 c.if-scan-ge1.false _ c.first_with_columns-unnamed-3.ensures in
-    let t = planned_is page037 _ _ (none_left page037 _ _ u₄ _ c.if-unnamed-ge1.false last.0) last.1 in
-    record { plans = t.0; counts = t.1.0; bounds = t.1.1 }
+pub returns-in-None : goal.returns-in-None
+returns-in-None c =
+    let t = last_wins page037 _ _ _ c.loop-attempt-test.false c.loop-attempt.auto.attempt-index-end c.loop-attempt.invariant _ c.last_plan.ensures c.in-None.is in
+    record { plans = t.0; counts = t.1 }

@@ -6,16 +6,17 @@ use Rattle.scan.specs.Scan.{scan_order}
 use Rattle.scan.proofs.Scans.{scan_short}
 use Rattle.scan.proofs.scan_order.Goals as goal
 
-pub returns-then-reply-lt18 : goal.returns-then-reply-lt18
-returns-then-reply-lt18 c = (scan_short page037 _ _ _ c.if-reply-lt18.true, c.requires)
+pub returns-in_default : goal.returns-in_default
+returns-in_default c =
+    let short = c.in_default.ensures in
+    (scan_short page037 _ _ _ (omega arith), c.requires)
 
 pub loop-start-init : goal.loop-start-init
 unfolding scan_order
-loop-start-init c = record { within = omega arith; in_hand = c.requires; best_of_all = refl }
+loop-start-init c = record { in_hand = c.requires; best_of_all = rw c.in-Some.ensures.1 refl }
 
 pub loop-start-preserved : goal.loop-start-preserved
 loop-start-preserved c = record {
-  within = omega arith;
   in_hand = c.best_with_start-best.ensures.1;
   best_of_all =
       best_more _ _ _ _ _ _ c.loop-start.invariant.best_of_all _ _ c.loop-start-test.true refl c.best_with_start-best.ensures.0;

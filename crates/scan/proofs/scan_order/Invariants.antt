@@ -1,5 +1,5 @@
 -- The loop keeps the best run of the starts that it has seen: the best of all is that of those to come and the one in hand.
-use Rattle.std.proofs.Common.{◌≡◌, ◌-◌, ◌≤◌}
+use Rattle.std.proofs.Common.{◌≡◌}
 use Rattle.search.specs.Walks.{best}
 use Rattle.codepage.specs.Page.{page037}
 use Rattle.scan.specs.Scan.{InHand, better, run_from, scan_order}
@@ -7,10 +7,6 @@ use Rattle.scan.proofs.scan_order.Given as goal
 
 abbrev pub invariant-loop-start : goal.invariant-loop-start
 invariant-loop-start l = record {
-  within : l.start ≤ l.end;
   in_hand : InHand l.best;
   best_of_all : scan_order page037 l.order l.reply l.fn.from ≡ best better (run_from page037 l.order l.reply) l.start l.end l.best;
 }
-
-abbrev pub decreases-loop-start : goal.decreases-loop-start
-decreases-loop-start l = l.end - l.start

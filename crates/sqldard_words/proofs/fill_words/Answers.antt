@@ -1,44 +1,34 @@
--- Each turn writes the words of what one more step of the plan's walk finds.
-use Rattle.std.proofs.Common.{ℕ, ◌≡◌, ◌++◌, ◌∙◌, ap, arith, drop, length}
-use Rattle.search.proofs.Filling.{filling_by_reads, filling_by_more, filling_by_done}
+-- Each turn writes the words of the first of the columns that are still to come.
+use Rattle.std.proofs.Common.{ℕ, ◌≡◌, ◌+◌, ◌*◌, ◌++◌, arith, ap, ◌∙◌, drop, length}
+use Rattle.std.specs.Iterator.Adapters.{enumerate_count}
+use mathlib.Core.List.{flat_map}
+use Rattle.search.proofs.Writing.{writing_block, writing_end}
 use Rattle.codepage.specs.Page.{page037}
-use Rattle.column_words.specs.Words.{all_words}
-use Rattle.column_words.proofs.Words.{words_length, all_length}
 use Rattle.planned.specs.Planned.{columns_of}
+use Rattle.column_words.specs.Words.{words_of, all_words}
+use Rattle.column_words.proofs.Words.{words_length, all_length}
 use Rattle.sqldard_words.proofs.fill_words.Goals as goal
 
-pub column_here-read-requires-clause-index_lt_limit : goal.column_here-read-requires-clause-index_lt_limit
-unfolding columns_of
-column_here-read-requires-clause-index_lt_limit c =
-    (filling_by_reads _ _ _ _ _ _ _ _ _ c.loop-i.invariant.filling (omega (arith, c.requires.count_value, c.loop-i-test.true))).0
-
-pub column_here-read-requires-clause-reads : goal.column_here-read-requires-clause-reads
-unfolding columns_of
-column_here-read-requires-clause-reads c =
-    (filling_by_reads _ _ _ _ _ _ _ _ _ c.loop-i.invariant.filling (omega (arith, c.requires.count_value, c.loop-i-test.true))).1
-
 pub loop-i-preserved : goal.loop-i-preserved
-unfolding columns_of
+unfolding flat_map
 loop-i-preserved c =
+    let t = c.in-Some.ensures.steps in
     let inv = c.loop-i.invariant in
-    let column = c.column_of_read-column in
-    let next = c.next_of_read-offset in
-    let read = c.column_here-read.ensures in
+    let e : enumerate_count c.next.new.self * 22 ≡ c.in-Some.i * 22 + 22 = omega (arith, t.1, t.2) in
     record {
-      in_range = omega arith;
-      place = omega (arith, inv.place);
-      filling = filling_by_more _ _ _ _ _ _ _ _ _ inv.filling _ column.result 22 _ (words_length column.result)
-          (omega (arith, c.requires.count_in_bounds, inv.place, inv.filling.writing.as_long, c.loop-i-test.true))
-          c.put_column_words.ensures (omega (arith, c.requires.count_value, c.loop-i-test.true)) (next.ensures ∙ read.ends)
-          (column.ensures ∙ rw (← next.ensures) at read.views);
+      counts = omega (arith, inv.counts, ap length t.0, t.2);
+      writing = rw e
+          (writing_block (words_of c.in-Some.column) _ 22 (words_length c.in-Some.column)
+          (omega (arith, c.requires.count_value, c.requires.count_in_bounds, inv.counts, inv.writing.as_long, ap length t.0, t.1))
+          c.put_column_words.ensures
+          (rw (t.0, ← t.1) at inv.writing));
     }
 
-pub returns : goal.returns
-unfolding columns_of
-returns c =
+pub returns-clause-fills : goal.returns-clause-fills
+unfolding flat_map
+returns-clause-fills c =
+    let t = c.in-None.ensures.steps in
     let inv = c.loop-i.invariant in
-    let columns = columns_of page037 c.args.reply.now c.args.plan in
-    let e : c.loop-i.at ≡ length (all_words columns) =
-    omega (arith, all_length columns, inv.in_range, inv.place, c.requires.count_value, c.loop-i-test.false) in
-    filling_by_done _ _ _ _ _ _ _ _ _ inv.filling _ c.requires.count_value c.loop-i-test.false
-    ∙ ap (λ (n : ℕ). all_words columns ++ drop n c.args.words.now) e
+    let columns = columns_of page037 c.args.reply.now c.args.decision.plan in
+    let e : enumerate_count c.loop-i.i-iterator * 22 ≡ length (all_words columns) = omega (arith, inv.counts, ap length t.0.0, all_length columns) in
+    writing_end (rw t.0.0 at inv.writing) ∙ ap (λ (n : ℕ). all_words columns ++ drop n c.args.words.now) e

@@ -1,18 +1,18 @@
--- The words of the first i columns are written, and the next descriptor starts at `offset`.
-use Rattle.std.proofs.Common.{◌≡◌, ◌≤◌, ◌*◌, ◌-◌}
-use Rattle.search.proofs.Filling.{FillingBy}
+-- Each turn writes the words of the first of the columns that are still to come.
+use Rattle.std.proofs.Common.{◌≡◌, ◌+◌, ◌*◌, length}
+use Rattle.std.specs.Iterator.Adapters.{enumerate_source, enumerate_count}
+use Rattle.search.proofs.Writing.{Writing}
 use Rattle.codepage.specs.Page.{page037}
-use Rattle.column_words.specs.Words.{words_of}
-use Rattle.planned.specs.Planned.{walk_of}
+use Rattle.column_words.specs.Words.{all_words}
+use Rattle.planned.specs.Planned.{columns_of}
+use Rattle.planned.specs.Columns.{columns_left}
 use Rattle.sqldard_words.proofs.fill_words.Given as goal
 
 abbrev pub invariant-loop-i : goal.invariant-loop-i
 invariant-loop-i l =
+    let left = columns_left (enumerate_source l.i-iterator) in
+    let columns = columns_of page037 l.fn.reply l.fn.decision.plan in
     record {
-      in_range : l.i ≤ l.count;
-      place : l.at ≡ l.i * 22;
-      filling : FillingBy words_of (walk_of page037 l.reply l.plan) l.plan.limit l.plan.start l.fn.words l.words l.i l.at l.offset;
+      counts : enumerate_count l.i-iterator + length left ≡ length columns;
+      writing : Writing l.fn.words l.words (all_words left) (all_words columns) (enumerate_count l.i-iterator * 22);
     }
-
-abbrev pub decreases-loop-i : goal.decreases-loop-i
-decreases-loop-i l = l.count - l.i

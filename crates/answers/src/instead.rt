@@ -1,0 +1,28 @@
+// What a line has instead of an answer: every entry tells it before it writes anything.
+use outcome::RefusalNumbers;
+use std::io;
+
+#[derive(Debug, Drop)]
+pub(crate) enum Instead {
+    // The case is malformed; its line is the last one.
+    Bad,
+    Refusal(RefusalNumbers),
+    // More was written to what was lent than the answer says.
+    Touched,
+    // A read or a write failed, which ends the program.
+    Error(io::Error),
+}
+
+impl From<io::Error> for Instead {
+    fn from(error: io::Error) -> Self {
+        Instead::Error(error)
+    }
+}
+
+pub(crate) fn accepted(refusal: RefusalNumbers) -> Result<(), Instead> {
+    if refusal.is_refused() {
+        Err(Instead::Refusal(refusal))
+    } else {
+        Ok(())
+    }
+}

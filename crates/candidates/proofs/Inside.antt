@@ -1,0 +1,35 @@
+-- Every candidate lies in the reply, and so do all that are in view.
+use Rattle.std.proofs.Common.{arith, ◌≡◌, Bool, true, false, Option, Some, None, List, ℕ, zero, suc, ◌+◌, ◌-◌, leb, length, All, refl}
+use Rattle.std.proofs.lemmas.List.Elements.{All-cons}
+use mathlib.Core.Bool.{and-eq-true_iff}
+use borrow.Author.Tests.{leb-true}
+use Rattle.search.specs.Search.{pick, front}
+use Rattle.field.specs.declared.ByteOrder.TheVariants.{BigEndian}
+use Rattle.field.specs.Numbers.{number}
+use Rattle.text.specs.declared.Text.{Text}
+use Rattle.candidates.specs.Candidates.{string_text_at, is_candidate, is_kept, candidates_in, candidates_from, candidates}
+use Rattle.candidates.specs.View.{Inside}
+
+kept_inside : (s : List ℕ) (last : Option Text) (p : ℕ) → is_kept s last p ≡ true → Inside s (string_text_at s p)
+unfolding is_kept is_candidate
+kept_inside s last p e =
+    let n = number BigEndian 2 s p in
+    let a = (and-eq-true_iff (is_candidate s p) _).0 e in
+    let b = ((and-eq-true_iff (leb (p + 2) (length s)) _).0 a.0).1 in
+    let c = ((and-eq-true_iff (leb 2 n) _).0 b).1 in
+    leb-true (p + 2 + n) (length s) ((and-eq-true_iff (leb (p + 2 + n) (length s)) _).0 c).0
+
+all_front : (P : Text → Type 0) (b : Bool) (x : Text) (l : List Text) → (b ≡ true → P x) → All P l → All P (front b x l)
+all_front P true x l f r = All-cons P x l (f refl) r
+all_front P false x l f r = r
+
+all_inside : (s : List ℕ) (last : Option Text) (k p : ℕ) → All (Inside s) (candidates_in s last k p)
+unfolding candidates_in
+all_inside s last zero p = λ k d h. absurd (omega arith)
+all_inside s last (suc k) p =
+    all_front (Inside s) (is_kept s last p) (string_text_at s p) (candidates_in s (pick (is_kept s last p) (Some (string_text_at s p)) last) k (suc p))
+    (kept_inside s last p) (all_inside s (pick (is_kept s last p) (Some (string_text_at s p)) last) k (suc p))
+
+pub candidates_inside : (s : List ℕ) → All (Inside s) (candidates s)
+unfolding candidates candidates_from
+candidates_inside s = all_inside s None (length s - 0) 0
