@@ -60,6 +60,15 @@ module _ (s : List ℕ) (p q : ℕ) where
       go false e true h = cc
       go false e false h = let k : q ≡ p + 1 = cc in omega (arith, leb-false (length s) p e)
 
+  pub gone_room : Err q ≡ group_start s p → p ≤ length s → q ≤ length s
+  unfolding group_start
+  gone_room = go (leb (length s) p) refl (eqb (get_or s p 0) 0xFF)
+    where
+      go : (t : Bool) → leb (length s) p ≡ t → (u : Bool) → Err q ≡ pick t (Err p) (pick u (Err (p + 1)) (Ok (p + 1))) → p ≤ length s → q ≤ length s
+      go true e u h k = let z : q ≡ p = cc in omega arith
+      go false e true h k = let z : q ≡ p + 1 = cc in omega (arith, leb-false (length s) p e)
+      go false e false h k = cc
+
   module _ (f : List ℕ → ℕ → ℕ) where
     pub end_held : Ok q ≡ group_start s p → nullable_end lenient f s p ≡ f s q
     unfolding group_start nullable_end

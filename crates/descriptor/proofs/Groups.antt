@@ -1,19 +1,20 @@
 -- The groups of a descriptor: for each way out of their readers a law, from what the callees promise to what the reader does.
 use mathlib.Core.List.{List}
 use mathlib.Core.Path.{◌≡◌, sym, ap, ◌∙◌}
-use Prim.Native.Nat.{ℕ, ◌+◌, ◌≤◌}
+use Prim.Native.Nat.{ℕ, ◌+◌, ◌≤◌, ◌<◌}
 use native.Mathlib.Omega.{arith}
 use lib.ListN.{length}
 use Rattle.std.specs.Prelude.{Ok, Err}
 use Rattle.strings.specs.declared.StringRead.{StringRead}
 use Rattle.strings.specs.Strings.{strings_end, no_string, chosen, pair_at}
-use Rattle.strings.proofs.Strings.{pair_next, pair_inside, chosen_inside}
+use Rattle.strings.proofs.Strings.{strings_cut, pair_next, pair_inside, chosen_inside}
 use Rattle.descriptor.specs.declared.Sqldxgrp.{Sqldxgrp}
 use Rattle.descriptor.specs.declared.Names.{Names}
 use Rattle.descriptor.specs.Nullable.{lenient, nullable_end, in_nullable, group_start}
 use Rattle.descriptor.specs.Descriptor.{udt_end, dx_end, dx_start, opt_end, dx_pair, opt_name, opt_label, opt_pair}
 use Rattle.descriptor.specs.Groups.{NamesAt, sqldxgrp_at, sqldoptgrp_at}
-use Rattle.descriptor.proofs.Flags.{end_held, end_gone, in_held, in_gone, in_nullable_all}
+use Rattle.descriptor.proofs.NameStrings.{names_end}
+use Rattle.descriptor.proofs.Flags.{nullable_end_missing, end_held, end_gone, in_held, in_gone, in_nullable_all, gone_room}
 
 -- past a pair that was read
 past_pair : (s : List ℕ) (p : ℕ) (r : StringRead) → r ≡ pair_at s p → r.next ≡ strings_end 2 s p
@@ -21,6 +22,14 @@ past_pair s p r e = ap (λ (x : StringRead). x.next) e ∙ pair_next s p
 
 module _ (s : List ℕ) (p q : ℕ) where
   -- ---- SQLDXGRP
+
+  -- one of the first k strings cannot be read
+  dx_stays : (k : ℕ) → k ≤ 9 → Ok q ≡ group_start s p → length s < strings_end k s (q + 8) → strings_end k s (q + 8) ≡ nullable_end lenient dx_end s p
+  unfolding dx_end
+  dx_stays k h g l = strings_cut k 9 s (q + 8) h l ∙ sym (end_held s p q dx_end g)
+
+  pub dx_cut : Ok q ≡ group_start s p → length s < strings_end 3 s (q + 8) → strings_end 3 s (q + 8) ≡ nullable_end lenient dx_end s p
+  dx_cut g l = dx_stays 3 (omega arith) g l
 
   pub dx_gone : (n : StringRead) → Err q ≡ group_start s p → n ≡ no_string 0
       → record { base_table_name = n; schema_name = n; name = n; next = q } ≡ sqldxgrp_at s p
@@ -33,29 +42,77 @@ module _ (s : List ℕ) (p q : ℕ) where
   unfolding dx_pair
   dx_pair_held k h = in_held s p q (no_string 0) (λ s p. pair_at s (strings_end k s (p + 8))) h
 
-  pub dx_held : (a : ℕ) (b c n : StringRead) → Ok q ≡ group_start s p → a ≡ strings_end 3 s (q + 8)
-      → b ≡ pair_at s a → c ≡ pair_at s b.next → n ≡ pair_at s c.next
-      → record { base_table_name = b; schema_name = c; name = n; next = n.next } ≡ sqldxgrp_at s p
-  unfolding strings_end dx_end
-  dx_held a b c n h e x y z =
-      let x' = past_pair s a b x in
-      let y' = past_pair s b.next c y in
-      let z' = past_pair s c.next n z in
-      cc (dx_pair_held 3 h, dx_pair_held 5 h, dx_pair_held 7 h, end_held s p q dx_end h)
+  module _ (h : Ok q ≡ group_start s p) (a : ℕ) (e : a ≡ strings_end 3 s (q + 8)) where
+    pub base_cut : length s < strings_end 2 s a → strings_end 2 s a ≡ nullable_end lenient dx_end s p
+    unfolding strings_end
+    base_cut l = let k : strings_end 2 s a ≡ strings_end 5 s (q + 8) = ap (strings_end 2 s) e in k ∙ dx_stays 5 (omega arith) h (rw (← k) l)
+
+    module _ (b : StringRead) (x : b ≡ pair_at s a) where
+      base_end : b.next ≡ strings_end 5 s (q + 8)
+      unfolding strings_end
+      base_end = past_pair s a b x ∙ ap (strings_end 2 s) e
+
+      pub schema_cut : length s < strings_end 2 s b.next → strings_end 2 s b.next ≡ nullable_end lenient dx_end s p
+      unfolding strings_end
+      schema_cut l = let k : strings_end 2 s b.next ≡ strings_end 7 s (q + 8) = ap (strings_end 2 s) base_end in k ∙ dx_stays 7 (omega arith) h (rw (← k) l)
+
+      module _ (c : StringRead) (y : c ≡ pair_at s b.next) where
+        schema_end : c.next ≡ strings_end 7 s (q + 8)
+        unfolding strings_end
+        schema_end = past_pair s b.next c y ∙ ap (strings_end 2 s) base_end
+
+        pub name_cut : strings_end 2 s c.next ≡ nullable_end lenient dx_end s p
+        unfolding strings_end dx_end
+        name_cut = ap (strings_end 2 s) schema_end ∙ sym (end_held s p q dx_end h)
+
+        pub dx_held : (n : StringRead) → n ≡ pair_at s c.next → strings_end 2 s c.next ≤ length s
+            → (record { base_table_name = b; schema_name = c; name = n; next = n.next } ≡ sqldxgrp_at s p) × (nullable_end lenient dx_end s p ≤ length s)
+        dx_held n z l =
+            let z' = past_pair s c.next n z in
+            let f = name_cut in
+            let u : c ≡ pair_at s (strings_end 5 s (q + 8)) = y ∙ ap (pair_at s) base_end in
+            let v : n ≡ pair_at s (strings_end 7 s (q + 8)) = z ∙ ap (pair_at s) schema_end in (
+              cc (dx_pair_held 3 h, dx_pair_held 5 h, dx_pair_held 7 h),
+              omega (arith, f),
+            )
 
   -- ---- SQLDOPTGRP
 
-  pub opt_gone : (n : StringRead) → Err q ≡ group_start s p → n ≡ no_string 0
-      → record { name = n; label = n; base_table_name = n; schema_name = n; next = q } ≡ sqldoptgrp_at s p
-  opt_gone n h e =
+  pub opt_gone : (n : StringRead) → Err q ≡ group_start s p → n ≡ no_string 0 → p ≤ length s
+      → (record { name = n; label = n; base_table_name = n; schema_name = n; next = q } ≡ sqldoptgrp_at s p)
+      × (nullable_end lenient (opt_end lenient) s p ≤ length s)
+  opt_gone n h e l =
       let t : (v : List ℕ → ℕ → StringRead) → n ≡ in_nullable (no_string 0) v s p = λ v. e ∙ sym (in_gone s p q (no_string 0) v h) in
-      λ i. record {
-        name = t opt_name i;
-        label = t opt_label i;
-        base_table_name = t (opt_pair 3) i;
-        schema_name = t (opt_pair 5) i;
-        next = sym (end_gone s p q (opt_end lenient) h) i;
-      }
+      let f : nullable_end lenient (opt_end lenient) s p ≡ q = end_gone s p q (opt_end lenient) h in (
+        (λ i. record {
+          name = t opt_name i;
+          label = t opt_label i;
+          base_table_name = t (opt_pair 3) i;
+          schema_name = t (opt_pair 5) i;
+          next = sym f i;
+        }),
+        omega (arith, gone_room s p q h l),
+      )
+
+  -- where one of its groups cannot be read, no more can
+  pub opt_names_cut : Ok q ≡ group_start s p → length s < strings_end 6 s (q + 2) → strings_end 6 s (q + 2) ≡ nullable_end lenient (opt_end lenient) s p
+  unfolding dx_start opt_end
+  opt_names_cut h l =
+      let d = nullable_end_missing lenient udt_end s (strings_end 6 s (q + 2)) (omega arith) in
+      let e = nullable_end_missing lenient dx_end s (strings_end 6 s (q + 2)) (omega arith) in
+      sym (end_held s p q (opt_end lenient) h ∙ ap (nullable_end lenient dx_end s) d ∙ e)
+
+  module _ (h : Ok q ≡ group_start s p) (m : Names) (a : NamesAt s (q + 2) m) where
+    pub udt_cut : length s < nullable_end lenient udt_end s m.next → nullable_end lenient udt_end s m.next ≡ nullable_end lenient (opt_end lenient) s p
+    unfolding dx_start opt_end
+    udt_cut l =
+        let e = nullable_end_missing lenient dx_end s (nullable_end lenient udt_end s m.next) (omega arith) in
+        sym (end_held s p q (opt_end lenient) h ∙ ap (λ (x : ℕ). nullable_end lenient dx_end s (nullable_end lenient udt_end s x)) (sym (names_end s (q + 2) m a)) ∙ e)
+
+    pub dx_last : (u : ℕ) → u ≡ nullable_end lenient udt_end s m.next → nullable_end lenient dx_end s u ≡ nullable_end lenient (opt_end lenient) s p
+    unfolding dx_start opt_end
+    dx_last u d =
+        ap (nullable_end lenient dx_end s) (d ∙ ap (nullable_end lenient udt_end s) (names_end s (q + 2) m a)) ∙ sym (end_held s p q (opt_end lenient) h)
 
   pub opt_held : (m : Names) (u : ℕ) (x : Sqldxgrp) (n : StringRead) → Ok q ≡ group_start s p → NamesAt s (q + 2) m
       → u ≡ nullable_end lenient udt_end s m.next → x ≡ sqldxgrp_at s u → n ≡ chosen m.name x.name

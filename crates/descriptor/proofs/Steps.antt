@@ -79,21 +79,24 @@ module _ (order : ByteOrder) (s : List ℕ) (p : ℕ) where
     step_unknown g =
         none_stepped (length s + 1) (sym (descriptor_end_unknown lenient order s p h (known_is ∙ g) ∙ omega arith)) (omega arith)
 
-    module _ (g : k ≡ true) (o : Sqldoptgrp) (x : o ≡ sqldoptgrp_at s (p + 16)) where
-      past_group : o.next ≡ descriptor_end lenient order s p
-      past_group = ap (λ (o : Sqldoptgrp). o.next) x ∙ sym (descriptor_end_known lenient order s p h (known_is ∙ g))
+    module _ (g : k ≡ true) where
+      past_group : nullable_end lenient (opt_end lenient) s (p + 16) ≡ descriptor_end lenient order s p
+      past_group = sym (descriptor_end_known lenient order s p h (known_is ∙ g))
 
-      pub step_cut : length s < o.next → no_step o.next ≡ step_at order s p
-      step_cut l = none_stepped o.next past_group l
+      pub step_cut : (n : ℕ) → n ≡ nullable_end lenient (opt_end lenient) s (p + 16) → length s < nullable_end lenient (opt_end lenient) s (p + 16)
+          → no_step n ≡ step_at order s p
+      step_cut n f l = none_stepped n (f ∙ past_group) (omega arith)
 
-      pub step_read : o.next ≤ length s
-          → (record { name = o.name; next = o.next } ≡ step_at order s p) × (p + 16 ≤ o.next) × Inside s o.name
+      pub step_read : (o : Sqldoptgrp) → o ≡ sqldoptgrp_at s (p + 16) → nullable_end lenient (opt_end lenient) s (p + 16) ≤ length s
+          → (record { name = o.name; next = o.next } ≡ step_at order s p) × (p + 16 ≤ o.next) × (o.next ≤ length s) × Inside s o.name
       unfolding step_at described_at
-      step_read l =
+      step_read o x l =
+          let next : o.next ≡ descriptor_end lenient order s p = ap (λ (o : Sqldoptgrp). o.next) x ∙ past_group in
           let n : o.name ≡ in_nullable (no_string 0) opt_name s (p + 16) = ap (λ (o : Sqldoptgrp). o.name) x in
           let u : leb (descriptor_end lenient order s p) (length s) ≡ true = le-leb (descriptor_end lenient order s p) (length s) (omega (arith, past_group)) in (
-            (λ i. record { name = n i; next = past_group i }) ∙ sym (ap step_by u),
-            omega (arith, descriptor_end_grows lenient order s p, past_group),
+            (λ i. record { name = n i; next = next i }) ∙ sym (ap step_by u),
+            omega (arith, descriptor_end_grows lenient order s p, next),
+            omega (arith, past_group),
             rw n (name_inside s (p + 16)),
           )
 
@@ -125,6 +128,10 @@ module _ (order : ByteOrder) (s : List ℕ) (p : ℕ) where
     schema_name = o.schema_name;
     next = next;
   }
+
+  -- one that can be read has its options in full
+  pub options_read : descriptor_end lenient order s p ≤ length s → nullable_end lenient (opt_end lenient) s (p + 16) ≤ length s
+  options_read h = rw (descriptor_end_inside lenient order s p h) at h
 
   pub described_read : (g : Sqldagrp) (o : Sqldoptgrp) → descriptor_end lenient order s p ≤ length s → g ≡ sqldagrp_at order s p → o ≡ sqldoptgrp_at s (p + 16)
       → (described_by g o o.next ≡ described_at order s p) × StringsInside s (described_by g o o.next)

@@ -7,10 +7,11 @@ ghost use Rattle.std.specs.Prelude.{◌≡◌, true, ◌+◌, ◌≤◌, ◌<◌
 ghost use Rattle.codepage.specs.Page.{page037};
 ghost use Rattle.column.specs.Column.{StringsInside};
 ghost use Rattle.descriptor.specs.Nullable.{lenient, nullable_end, group_start};
-ghost use Rattle.descriptor.specs.Descriptor.{udt_end, descriptor_end, described_at};
+ghost use Rattle.descriptor.specs.Descriptor.{udt_end, dx_end, opt_end, descriptor_end, described_at};
 ghost use Rattle.descriptor.specs.Groups.{sqldagrp_at, sqldxgrp_at, sqldoptgrp_at, step_of, step_at, AllEmpty, LabelAt, NamesAt};
 ghost use Rattle.descriptor.specs.Reading.{count_at};
 ghost use Rattle.descriptor.specs.Run.{standard_run};
+ghost use Rattle.strings.specs.Strings.{IsRead, strings_end};
 
 use column::{Described, Run};
 use field::ByteOrder;
@@ -31,12 +32,14 @@ fn group_start(reply: &[u8], offset: usize) -> Result<usize, usize>
 
 // Past SQLUDTGRP: nothing of it is kept.
 #[tactic(auto, using(crate::proofs::Flags::start_room, crate::proofs::Flags::end_held, crate::proofs::Flags::end_gone), unfolding(crate::specs::Descriptor::udt_end))]
-pub fn skip_sqludtgrp(reply: &[u8], offset: usize) -> usize
-    ensures { result ≡ nullable_end lenient udt_end reply.now offset }
+#[inline(always)]
+pub fn skip_sqludtgrp(reply: &[u8], offset: usize) -> Result<usize, usize>
+    ensures { IsRead reply.now (nullable_end lenient udt_end reply.now offset) (λ next. next ≡ nullable_end lenient udt_end reply.now offset) result }
 {
     match group_start(reply, offset) {
         Ok(start) => strings::skip_strings(reply, start + 4, 5),
-        Err(next) => next,
+        Err(next) if reply.len() < next => Err(next),
+        Err(next) => Ok(next),
     }
 }
 
@@ -49,32 +52,33 @@ pub struct Sqldxgrp {
     pub next: usize,
 }
 
-#[tactic(auto, using(crate::proofs::Flags::start_room))]
+#[tactic(auto, using(crate::proofs::Flags::start_room, crate::proofs::Groups::dx_cut, crate::proofs::Groups::base_cut, crate::proofs::Groups::schema_cut, crate::proofs::Groups::name_cut, crate::proofs::Groups::dx_gone, crate::proofs::Flags::end_gone))]
 #[inline(always)]
-pub fn read_sqldxgrp(reply: &[u8], offset: usize) -> Sqldxgrp
-    ensures { result ≡ sqldxgrp_at reply.now offset }
+pub fn read_sqldxgrp(reply: &[u8], offset: usize) -> Result<Sqldxgrp, usize>
+    ensures { IsRead reply.now (nullable_end lenient dx_end reply.now offset) (λ extension. extension ≡ sqldxgrp_at reply.now offset) result }
 {
     match group_start(reply, offset) {
         Ok(start) => {
-            let names = strings::skip_strings(reply, start + 8, 3);
-            let base_table_name = strings::read_pair(reply, names);
-            let schema_name = strings::read_pair(reply, base_table_name.next);
-            let name = strings::read_pair(reply, schema_name.next);
-            Sqldxgrp {
+            let names = strings::skip_strings(reply, start + 8, 3)?;
+            let base_table_name = strings::read_pair(reply, names)?;
+            let schema_name = strings::read_pair(reply, base_table_name.next)?;
+            let name = strings::read_pair(reply, schema_name.next)?;
+            Ok(Sqldxgrp {
                 base_table_name,
                 schema_name,
                 name,
                 next: name.next,
-            }
+            })
         }
+        Err(next) if reply.len() < next => Err(next),
         Err(next) => {
             let none = strings::no_string(0);
-            Sqldxgrp {
+            Ok(Sqldxgrp {
                 base_table_name: none,
                 schema_name: none,
                 name: none,
                 next,
-            }
+            })
         }
     }
 }
@@ -121,24 +125,25 @@ pub struct Label {
 }
 
 // Of most pairs only m has bytes, and most columns have no comment.
-fn read_label(reply: &[u8], offset: usize) -> Label
-    ensures { LabelAt reply.now offset result }
+#[tactic(auto, using(crate::proofs::NameStrings::label_cut, crate::proofs::NameStrings::s_cut, crate::proofs::NameStrings::comment_cut, crate::proofs::NameStrings::label_read))]
+fn read_label(reply: &[u8], offset: usize) -> Result<Label, usize>
+    ensures { IsRead reply.now (strings_end 4 reply.now offset) (LabelAt reply.now offset) result }
 {
-    let m = strings::read_string(reply, offset);
+    let m = strings::read_string(reply, offset)?;
     if is_alone(reply, m, 3) {
-        return Label {
+        return Ok(Label {
             label: StringRead {
                 next: m.next + 2,
                 ..m
             },
             next: m.next + 6,
-        };
+        });
     }
-    let label = strings::choose(m, strings::read_string(reply, m.next));
-    Label {
+    let label = strings::choose(m, strings::read_string(reply, m.next)?);
+    Ok(Label {
         label,
-        next: strings::skip_strings(reply, label.next, 2),
-    }
+        next: strings::skip_strings(reply, label.next, 2)?,
+    })
 }
 
 // SQLNAME besides: the six strings of names.
@@ -150,13 +155,14 @@ pub struct Names {
 }
 
 // Many columns have a name and no label either.
-fn read_names(reply: &[u8], offset: usize) -> Names
-    ensures { NamesAt reply.now offset result }
+#[tactic(auto, using(crate::proofs::NameStrings::names_cut, crate::proofs::NameStrings::s_cut, crate::proofs::NameStrings::label_behind, crate::proofs::NameStrings::names_read))]
+fn read_names(reply: &[u8], offset: usize) -> Result<Names, usize>
+    ensures { IsRead reply.now (strings_end 6 reply.now offset) (NamesAt reply.now offset) result }
 {
-    let m = strings::read_string(reply, offset);
+    let m = strings::read_string(reply, offset)?;
     if is_alone(reply, m, 5) {
         let end = m.next;
-        return Names {
+        return Ok(Names {
             name: StringRead { next: end + 2, ..m },
             label: StringRead {
                 place: end + 6,
@@ -164,40 +170,41 @@ fn read_names(reply: &[u8], offset: usize) -> Names
                 next: end + 6,
             },
             next: end + 10,
-        };
+        });
     }
-    let name = strings::choose(m, strings::read_string(reply, m.next));
-    let Label { label, next } = read_label(reply, name.next);
-    Names { name, label, next }
+    let name = strings::choose(m, strings::read_string(reply, m.next)?);
+    let Label { label, next } = read_label(reply, name.next)?;
+    Ok(Names { name, label, next })
 }
 
-#[tactic(auto, using(crate::proofs::Flags::start_room))]
+#[tactic(auto, using(crate::proofs::Flags::start_room, crate::proofs::Groups::opt_names_cut, crate::proofs::Groups::udt_cut, crate::proofs::Groups::dx_last, crate::proofs::Groups::opt_held, crate::proofs::Groups::opt_gone))]
 #[inline(always)]
-fn read_sqldoptgrp(reply: &[u8], offset: usize) -> Sqldoptgrp
-    ensures { result ≡ sqldoptgrp_at reply.now offset }
+fn read_sqldoptgrp(reply: &[u8], offset: usize) -> Result<Sqldoptgrp, usize>
+    requires { offset ≤ length reply.now }
+    ensures { IsRead reply.now (nullable_end lenient (opt_end lenient) reply.now offset) (λ options. options ≡ sqldoptgrp_at reply.now offset) result }
 {
     match group_start(reply, offset) {
         Ok(start) => {
-            let names = read_names(reply, start + 2);
-            let extension = read_sqldxgrp(reply, skip_sqludtgrp(reply, names.next));
+            let names = read_names(reply, start + 2)?;
+            let extension = read_sqldxgrp(reply, skip_sqludtgrp(reply, names.next)?)?;
             // The extension's name counts last.
-            Sqldoptgrp {
+            Ok(Sqldoptgrp {
                 name: strings::choose(names.name, extension.name),
                 label: names.label,
                 base_table_name: extension.base_table_name,
                 schema_name: extension.schema_name,
                 next: extension.next,
-            }
+            })
         }
         Err(next) => {
             let none = strings::no_string(0);
-            Sqldoptgrp {
+            Ok(Sqldoptgrp {
                 name: none,
                 label: none,
                 base_table_name: none,
                 schema_name: none,
                 next,
-            }
+            })
         }
     }
 }
@@ -226,10 +233,7 @@ pub fn descriptor_step(reply: &[u8], offset: usize, order: ByteOrder) -> Result<
     if !sqlda::is_known_sql_type(field::u16_at(reply, offset + 12, order)) {
         return Err(end + 1);
     }
-    let options = read_sqldoptgrp(reply, offset + 16);
-    if end < options.next {
-        return Err(options.next);
-    }
+    let options = read_sqldoptgrp(reply, offset + 16)?;
     Ok(Step {
         name: options.name,
         next: options.next,
@@ -267,7 +271,7 @@ pub fn read_descriptor(reply: &[u8], offset: usize, order: ByteOrder) -> Describ
     ensures { (result ≡ described_at order reply.now offset) × StringsInside reply.now result }
 {
     let numbers = read_sqldagrp(reply, offset, order);
-    let options = read_sqldoptgrp(reply, offset + 16);
+    let options = read_sqldoptgrp(reply, offset + 16).unwrap();
     Described {
         sql_type: numbers.sql_type,
         raw_length: numbers.raw_length,
@@ -285,13 +289,13 @@ pub fn read_descriptor(reply: &[u8], offset: usize, order: ByteOrder) -> Describ
 
 // Where the count of columns is due: past the SQLCA group and SQLDHGRP. Past the reply's end, it is how many bytes were expected.
 #[tactic(auto, using(crate::proofs::Front::count_at_end, crate::proofs::Front::count_at_past))]
-pub fn count_offset(reply: &[u8]) -> usize
+pub fn count_offset(reply: &[u8]) -> Result<usize, usize>
     requires { length reply.now ≤ 65536 }
-    ensures { result ≡ count_at reply.now }
+    ensures { IsRead reply.now (count_at reply.now) (λ offset. offset ≡ count_at reply.now) result }
 {
-    let flag = sqlcard::sqlca_end(reply);
+    let flag = sqlcard::sqlca_end(reply)?;
     if reply.len() <= flag {
-        return flag;
+        return Ok(flag);
     }
     sqlcard::skip_sqldhgrp(reply, flag)
 }

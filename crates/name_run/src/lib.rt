@@ -27,7 +27,7 @@ fn is_name_string(reply: &[u8], string: StringRead) -> bool
 }
 
 // Each is tested, in their order.
-fn first_name(reply: &[u8], strings: [StringRead; 3]) -> Option<StringRead>
+fn first_name(reply: &[u8], strings: &[StringRead]) -> Option<StringRead>
     requires { All (Inside reply.now) strings }
     ensures { result ≡ find (is_name_string page037 reply.now) strings }
 {
@@ -50,21 +50,16 @@ pub fn scan_descriptor_name(reply: &[u8], offset: usize) -> Option<ScannedName>
     if reply[offset + 16] == 0xFF {
         return None;
     }
-    let m = strings::read_string(reply, offset + 19);
-    let s = strings::read_string(reply, m.next);
-    let comments_end = strings::skip_strings(reply, s.next, 4);
-    let extension = descriptor::read_sqldxgrp(
-        reply,
-        descriptor::skip_sqludtgrp(reply, comments_end),
-    );
-    if end < extension.next {
-        return None;
-    }
-    let name = first_name(reply, [m, s, extension.name])?;
-    Some(ScannedName {
-        name,
-        next: extension.next,
-    })
+    let m = strings::read_string(reply, offset + 19).ok()?;
+    let s = strings::read_string(reply, m.next).ok()?;
+    let comments_end = strings::skip_strings(reply, s.next, 4).ok()?;
+    let udt_end = descriptor::skip_sqludtgrp(reply, comments_end).ok()?;
+    let extension = descriptor::read_sqldxgrp(reply, udt_end).ok()?;
+    named(reply, &[m, s, extension.name], extension.next)
+}
+
+fn named(reply: &[u8], strings: &[StringRead], next: usize) -> Option<ScannedName> {
+    first_name(reply, strings).map(|name| ScannedName { name, next })
 }
 
 // Where a run of layouts with names starts, and how many they are. A run of none is one like any other: nobody asks whether there is a run.

@@ -9,6 +9,7 @@ ghost use Rattle.message.specs.Message.{is_printable, has_text};
 ghost use Rattle.sqlca.specs.Code.{is_near, code_bits, code_order, code_of, state_bytes, proc_bytes, numbers_order, fixed_chars};
 ghost use Rattle.sqlca.specs.Extension.{is_extended, numbers_from, rows_of, warnings_of, extension_in};
 ghost use Rattle.sqlca.specs.Message.{bytes_of, message_at};
+ghost use Rattle.strings.specs.Strings.{IsRead, strings_end};
 
 use field::ByteOrder;
 use message::Message;
@@ -180,20 +181,20 @@ impl<'a> Sqlca<'a> {
         Message::new(&self.reply[string.place..string.place + string.length]).has_text()
     }
 
-    // The message of the three strings at `offset`; `next` is past them, also where the reply ends early.
-    #[tactic(auto, unfolding(crate::specs::Message::message_at, crate::specs::Message::first_text, strings::specs::Strings::strings_end), using(strings::proofs::Strings::string_inside, strings::proofs::Strings::string_next))]
-    pub fn message_at(self, offset: usize) -> StringRead
-        ensures { result ≡ message_at page037 self.entry.reply.now offset }
+    // The message of the three strings at `offset`; `next` is past them.
+    #[tactic(auto, unfolding(crate::specs::Message::message_at, crate::specs::Message::first_text, strings::specs::Strings::strings_end), using(strings::proofs::Strings::string_inside, strings::proofs::Strings::string_next, strings::proofs::Strings::string_stays))]
+    pub fn message_at(self, offset: usize) -> Result<StringRead, usize>
+        ensures { IsRead self.entry.reply.now (strings_end 3 self.entry.reply.now offset) (λ message. message ≡ message_at page037 self.entry.reply.now offset) result }
     {
-        let rdb = strings::read_string(self.reply, offset);
-        let m = strings::read_string(self.reply, rdb.next);
-        let s = strings::read_string(self.reply, m.next);
+        let rdb = strings::read_string(self.reply, offset)?;
+        let m = strings::read_string(self.reply, rdb.next)?;
+        let s = strings::read_string(self.reply, m.next)?;
         if self.string_has_text(m) {
-            return StringRead { next: s.next, ..m };
+            return Ok(StringRead { next: s.next, ..m });
         }
         if self.string_has_text(s) {
-            return s;
+            return Ok(s);
         }
-        strings::no_string(s.next)
+        Ok(strings::no_string(s.next))
     }
 }

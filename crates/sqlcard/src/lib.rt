@@ -1,14 +1,14 @@
 // The status record of a reply, read alone or as the group at the reply's start.
 #![tactic(auto)]
 
-ghost use Rattle.std.specs.Prelude.{◌≡◌, ◌<◌, ◌≤◌, length, IfOk, MatchResult};
+ghost use Rattle.std.specs.Prelude.{◌≡◌, ◌<◌, ◌≤◌, length, IfOk};
 ghost use Rattle.codepage.specs.Page.{page037};
-ghost use Rattle.outcome.specs.declared.Refusal.TheVariants.{BufferTooShort};
 ghost use Rattle.outcome.specs.Refusal.{refusal_in};
 ghost use Rattle.sqlcard.specs.Card.{success_card, card_with};
 ghost use Rattle.sqlcard.specs.Alone.{starts_null, alone_message, alone_refusal, alone_card};
 ghost use Rattle.sqlcard.specs.Group.{group_end, group_message, group_refusal, group_card, group_length};
 ghost use Rattle.sqlcard.specs.Sqldhgrp.{sqldhgrp_end};
+ghost use Rattle.strings.specs.Strings.{IsRead};
 
 use outcome::Refusal;
 use sqlca::{Extension, Sqlca};
@@ -84,42 +84,30 @@ fn starts_null(reply: &[u8]) -> bool
     matches!(reply, [0xFF, ..])
 }
 
-// The message of a status that is read alone; `next` is past the status, also where the reply ends early.
-#[tactic(auto, unfolding(crate::specs::Alone::alone_message))]
-fn alone_message(sqlca: Sqlca) -> StringRead
-    ensures { result ≡ alone_message page037 sqlca.entry.reply.now }
+// The message of a status that is read alone; `next` is past the status.
+#[tactic(auto, unfolding(crate::specs::Alone::alone_message), using(sqlca::proofs::Messages::message_next))]
+fn alone_message(sqlca: Sqlca) -> Result<StringRead, usize>
+    ensures { IsRead sqlca.entry.reply.now (alone_message page037 sqlca.entry.reply.now).next (λ message. message ≡ alone_message page037 sqlca.entry.reply.now) result }
 {
     if !sqlca.is_extended() {
-        return strings::no_string(19);
+        return Ok(strings::no_string(19));
     }
     let start = if sqlca.reply.len() >= 54 { 54 } else { 43 };
     sqlca.message_at(start)
 }
 
 // The message of the group; an extension that is due is asked for at its first string.
-#[tactic(auto, unfolding(crate::specs::Group::group_message))]
-fn group_message(sqlca: Sqlca) -> StringRead
-    ensures { result ≡ group_message page037 sqlca.entry.reply.now }
+#[tactic(auto, unfolding(crate::specs::Group::group_message), using(sqlca::proofs::Messages::message_next))]
+fn group_message(sqlca: Sqlca) -> Result<StringRead, usize>
+    ensures { IsRead sqlca.entry.reply.now (group_message page037 sqlca.entry.reply.now).next (λ message. message ≡ group_message page037 sqlca.entry.reply.now) result }
 {
     if !sqlca.has_extension() {
-        return strings::no_string(19);
+        return Ok(strings::no_string(19));
     }
     if sqlca.reply.len() < 56 {
-        return strings::no_string(56);
+        return Err(56);
     }
     sqlca.message_at(54)
-}
-
-// The message, where the reply has all that is before its `next`.
-fn in_full(reply: &[u8], message: StringRead) -> Result<StringRead, Refusal>
-    ensures { MatchResult result (λ m. (m ≡ message) × (message.next ≤ length reply.now)) (λ refusal. (refusal ≡ BufferTooShort message.next (length reply.now)) × (length reply.now < message.next)) }
-{
-    let actual = reply.len();
-    let expected = message.next;
-    if actual < expected {
-        return Err(Refusal::BufferTooShort { expected, actual });
-    }
-    Ok(message)
 }
 
 // The entry status alone: an extension counts as far as it is there. Inlined, its Result is not copied: 23 instructions less of null status.
@@ -129,7 +117,8 @@ pub fn parse_sqlcard_data(reply: &[u8]) -> Result<SqlCard, Refusal>
     ensures refuses { refusal_in result ≡ alone_refusal reply.now }
     ensures gives { IfOk result (λ card. card ≡ alone_card page037 reply.now) }
 {
-    if reply.len() > 65536 {
+    let actual = reply.len();
+    if actual > 65536 {
         return Err(Refusal::ReplyTooLong);
     }
     if reply.is_empty() || starts_null(reply) {
@@ -138,7 +127,8 @@ pub fn parse_sqlcard_data(reply: &[u8]) -> Result<SqlCard, Refusal>
     let Some(sqlca) = Sqlca::new(reply) else {
         return Err(Refusal::InvalidSqlcard);
     };
-    let message = in_full(reply, alone_message(sqlca))?;
+    let message = alone_message(sqlca)
+        .map_err(|expected| Refusal::BufferTooShort { expected, actual })?;
     Ok(SqlCard::with_message(sqlca, message))
 }
 
@@ -173,7 +163,8 @@ pub fn consume_sqlca_group(reply: &[u8]) -> Result<Group, Refusal>
             actual,
         });
     };
-    let message = in_full(reply, group_message(sqlca))?;
+    let message = group_message(sqlca)
+        .map_err(|expected| Refusal::BufferTooShort { expected, actual })?;
     Ok(Group {
         card: SqlCard::with_message(sqlca, message),
         length: message.next,
@@ -182,28 +173,29 @@ pub fn consume_sqlca_group(reply: &[u8]) -> Result<Group, Refusal>
 
 // Past the group, its status left unread: for the readings that start behind it.
 #[tactic(auto, unfolding(crate::specs::Group::group_end))]
-pub fn sqlca_end(reply: &[u8]) -> usize
-    ensures { result ≡ group_end reply.now }
+pub fn sqlca_end(reply: &[u8]) -> Result<usize, usize>
+    ensures { IsRead reply.now (group_end reply.now) (λ end. end ≡ group_end reply.now) result }
 {
     if starts_null(reply) {
-        return 1;
+        return Ok(1);
     }
     match reply.get(18) {
-        None | Some(0xFF) => 19,
-        Some(_) if reply.len() < 56 => 56,
+        None => Err(19),
+        Some(0xFF) => Ok(19),
+        Some(_) if reply.len() < 56 => Err(56),
         Some(_) => strings::skip_strings(reply, 54, 3),
     }
 }
 
 // Past the group between the SQLCA and the columns, whose flag stands at `offset`.
 #[tactic(auto, unfolding(crate::specs::Sqldhgrp::sqldhgrp_end))]
-pub fn skip_sqldhgrp(reply: &[u8], offset: usize) -> usize
+pub fn skip_sqldhgrp(reply: &[u8], offset: usize) -> Result<usize, usize>
     requires offset_in_bounds { offset < length reply.now }
     requires reply_len_bound { length reply.now ≤ 65536 }
-    ensures { result ≡ sqldhgrp_end reply.now offset }
+    ensures { IsRead reply.now (sqldhgrp_end reply.now offset) (λ next. next ≡ sqldhgrp_end reply.now offset) result }
 {
     if reply[offset] == 0xFF {
-        return offset + 1;
+        return Ok(offset + 1);
     }
     strings::skip_strings(reply, offset + 13, 3)
 }

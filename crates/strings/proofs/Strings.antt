@@ -1,17 +1,29 @@
 -- Strings at a position: a law for each way out of the functions that read them.
-use Prim.Native.Nat.{ℕ, suc, ◌+◌, ◌-◌, ◌≤◌, ◌<◌}
+use Prim.Native.Nat.{ℕ, zero, suc, ◌+◌, ◌-◌, ◌≤◌, ◌<◌}
 use native.Mathlib.Omega.{arith}
-use mathlib.Core.Path.{◌≡◌, refl, sym, ap, ◌∙◌}
+use mathlib.Core.Path.{◌≡◌, refl, sym, ap, subst, ◌∙◌}
 use mathlib.Core.List.{List}
 use mathlib.Core.Bool.{Bool, true, false}
 use lib.Dec.{ltb, leb, eqb}
 use lib.ListN.{length}
-use borrow.Author.Tests.{le-ltb, le-leb, eq-eqb, ne_eqb, ltb-true, ltb-false, leb-true}
+use borrow.Author.Tests.{lt-ltb, le-ltb, le-leb, eq-eqb, ne_eqb, ltb-true, ltb-false, leb-true}
 use Rattle.search.specs.Search.{pick}
 use Rattle.field.specs.declared.ByteOrder.TheVariants.{BigEndian}
 use Rattle.strings.specs.declared.StringRead.{StringRead}
 use Rattle.field.specs.Numbers.{number}
-use Rattle.strings.specs.Strings.{string_end, strings_end, no_string, string_at, chosen, pair_at}
+use Rattle.std.proofs.Common.{rules}
+use Rattle.std.specs.Prelude.{Result, Ok, Err, IsOk}
+use Rattle.strings.specs.Strings.{IsRead, string_end, strings_end, no_string, string_at, chosen, pair_at}
+
+-- ---- what is read
+
+module _ {A : Type 0} (s : List ℕ) (end : ℕ) (Is : A → Type 0) where
+  pub read_ok : (r : Result A ℕ) → IsRead s end Is r → end ≤ length s → IsOk r
+  read_ok (Ok x) h l = search rules
+  read_ok (Err e) h l = absurd (omega (arith, h.1))
+
+  pub read_is : (r : Result A ℕ) → IsRead s end Is r → (x : A) → r ≡ Ok x → Is x
+  read_is r h x e = (subst (IsRead s end Is) e h).0
 
 -- ---- one string
 
@@ -41,6 +53,11 @@ module _ (s : List ℕ) (p : ℕ) where
       go false e true f h = absurd (omega (arith, ltb-true (length s) (p + 2) f))
       go false e false f h = (ltb-false (length s) (p + 2) f, refl)
 
+  -- past the reply's end everything stays
+  pub string_stays : length s < p → string_end s p ≡ p
+  unfolding string_end
+  string_stays h = rw (lt-ltb (length s) p h) refl
+
   pub string_next : (string_at s p).next ≡ string_end s p
   unfolding string_at
   string_next = go (leb (string_end s p) (length s))
@@ -62,6 +79,25 @@ module _ (s : List ℕ) (p : ℕ) where
       go false e = omega arith
 
 -- ---- several strings
+
+pub strings_stay : (n : ℕ) (s : List ℕ) (p : ℕ) → length s < p → strings_end n s p ≡ p
+unfolding strings_end
+strings_stay zero s p h = refl
+strings_stay (suc n) s p h = rw (string_stays s p h) (strings_stay n s p h)
+
+-- where k strings cannot be read, no more of them can
+pub strings_cut : (k n : ℕ) (s : List ℕ) (p : ℕ) → k ≤ n → length s < strings_end k s p → strings_end k s p ≡ strings_end n s p
+unfolding strings_end
+strings_cut zero n s p h l = sym (strings_stay n s p l)
+strings_cut (suc k) zero s p h l = absurd (omega arith)
+strings_cut (suc k) (suc n) s p h l = strings_cut k n s (string_end s p) (omega arith) l
+
+-- the string that is due cannot be read
+pub strings_early : (count i : ℕ) (s : List ℕ) (p : ℕ) → i < count → length s < string_end s p → string_end s p ≡ strings_end (count - i) s p
+unfolding strings_end
+strings_early count i s p h k =
+    let e : count - i ≡ suc (count - (i + 1)) = omega arith in
+    rw e (sym (strings_stay (count - (i + 1)) s (string_end s p) k))
 
 -- one string more is read
 pub strings_more : (count i : ℕ) (s : List ℕ) (p : ℕ) → i < count → strings_end (count - i) s p ≡ strings_end (count - (i + 1)) s (string_at s p).next
@@ -111,6 +147,13 @@ module _ (s : List ℕ) (p : ℕ) where
   pair_is a b e f =
       let n : a.next ≡ string_end s p = ap (λ (x : StringRead). x.next) e ∙ string_next s p in
       ap (λ (x : StringRead). chosen x b) e ∙ ap (chosen (string_at s p)) (f ∙ ap (string_at s) n)
+
+  pub pair_early : length s < string_end s p → string_end s p ≡ strings_end 2 s p
+  pair_early h = strings_early 2 0 s p (omega arith) h
+
+  pub pair_last : (a : StringRead) → a ≡ string_at s p → string_end s a.next ≡ strings_end 2 s p
+  unfolding strings_end
+  pair_last a e = ap (string_end s) (ap (λ (x : StringRead). x.next) e ∙ string_next s p)
 
   pub pair_next : (pair_at s p).next ≡ strings_end 2 s p
   unfolding pair_at strings_end

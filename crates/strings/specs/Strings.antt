@@ -1,6 +1,6 @@
 -- Variable strings of a reply (DRDA V1: VCM, VCS): 16 bits of length, big-endian in every reading, then the bytes (01, Layouts).
 -- A position past the reply's end says that the reply ended early; it stays as it is, so it is the length that was expected.
-use Rattle.std.specs.Prelude.{List, ℕ, zero, suc, ◌+◌, ltb, leb, eqb}
+use Rattle.std.specs.Prelude.{Result, MatchResult, List, ◌≡◌, ℕ, zero, suc, ◌+◌, ◌<◌, ◌≤◌, ltb, leb, eqb}
 use lib.ListN.{length}
 use Rattle.search.specs.Search.{pick}
 use Rattle.field.specs.declared.ByteOrder.TheVariants.{BigEndian}
@@ -15,6 +15,10 @@ string_end s p = pick (ltb (length s) p) p (pick (ltb (length s) (p + 2)) (p + 2
 unfoldable pub strings_end : ℕ → List ℕ → ℕ → ℕ
 strings_end zero s p = p
 strings_end (suc n) s p = strings_end n s (string_end s p)
+
+-- what is read up to `end`, where the reply goes as far; else `end` is the length that was expected (01, Numbers of refusal: 2)
+abbrev pub IsRead : {A : Type 0} → List ℕ → ℕ → (A → Type 0) → Result A ℕ → Type 0
+IsRead s end Is result = MatchResult result (λ x. Is x × (end ≤ length s)) (λ expected. (expected ≡ end) × (length s < end))
 
 -- a string that the reply ends in: no bytes; next is the length that was expected (01, Numbers of refusal: 2)
 abbrev pub no_string : ℕ → StringRead
@@ -34,3 +38,7 @@ chosen m s = pick (eqb m.length 0) s (record { place = m.place; length = m.lengt
 -- the pair of strings _m and _s at p (DRDA V1: as SQLNAME_m, SQLNAME_s)
 unfoldable pub pair_at : List ℕ → ℕ → StringRead
 pair_at s p = chosen (string_at s p) (string_at s (string_end s p))
+
+-- the string at p is read (01, Layouts)
+abbrev pub IsStringAt : List ℕ → ℕ → Result StringRead ℕ → Type 0
+IsStringAt s p = IsRead s (string_end s p) (λ string. string ≡ string_at s p)

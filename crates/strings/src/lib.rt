@@ -3,7 +3,7 @@
 #![tactic(auto)]
 
 ghost use Rattle.std.specs.Prelude.{◌≡◌};
-ghost use Rattle.strings.specs.Strings.{no_string, string_at, strings_end, chosen, pair_at};
+ghost use Rattle.strings.specs.Strings.{IsRead, IsStringAt, no_string, strings_end, chosen, pair_at};
 
 use field::ByteOrder;
 
@@ -29,8 +29,8 @@ impl<'a> Walker<'a> {
         Walker { reply, offset }
     }
 
-    pub fn string(self) -> StringRead
-        ensures { result ≡ string_at self.entry.reply.now self.entry.offset }
+    pub fn string(self) -> Result<StringRead, usize>
+        ensures { IsStringAt self.entry.reply.now self.entry.offset result }
     {
         string_at(self.reply, self.offset)
     }
@@ -47,46 +47,47 @@ pub fn no_string(next: usize) -> StringRead
 }
 
 #[tactic(auto, unfolding(crate::specs::Strings::string_at, crate::specs::Strings::string_end))]
-fn string_at(reply: &[u8], offset: usize) -> StringRead
-    ensures { result ≡ string_at reply.now offset }
+fn string_at(reply: &[u8], offset: usize) -> Result<StringRead, usize>
+    ensures { IsStringAt reply.now offset result }
 {
     let end = reply.len();
-    if end < offset {
-        return no_string(offset);
-    }
-    if end - offset < 2 {
-        return no_string(offset + 2);
+    if end < 2 || end - 2 < offset {
+        return Err(if end < offset { offset } else { offset + 2 });
     }
     let length = field::u16_at(reply, offset, ByteOrder::BigEndian) as usize;
     let place = offset + 2;
     let next = place + length;
     if end < next {
-        return no_string(next);
+        return Err(next);
     }
-    StringRead {
+    Ok(StringRead {
         place,
         length,
         next,
-    }
+    })
 }
 
 // The string at a position: what every group of strings is read by.
-pub fn read_string(reply: &[u8], offset: usize) -> StringRead
-    ensures { result ≡ string_at reply.now offset }
+pub fn read_string(reply: &[u8], offset: usize) -> Result<StringRead, usize>
+    ensures { IsStringAt reply.now offset result }
 {
     Walker::new(reply, offset).string()
 }
 
 // Past `count` strings.
-#[tactic(auto, using(crate::proofs::Strings::strings_more, crate::proofs::Strings::strings_done))]
-pub fn skip_strings(reply: &[u8], offset: usize, count: usize) -> usize
-    ensures { result ≡ strings_end count reply.now offset }
+#[tactic(auto, using(crate::proofs::Strings::strings_stay, crate::proofs::Strings::strings_more, crate::proofs::Strings::strings_early, crate::proofs::Strings::strings_done, crate::proofs::Strings::string_next))]
+#[inline(always)]
+pub fn skip_strings(reply: &[u8], offset: usize, count: usize) -> Result<usize, usize>
+    ensures { IsRead reply.now (strings_end count reply.now offset) (λ next. next ≡ strings_end count reply.now offset) result }
 {
+    if reply.len() < offset {
+        return Err(offset);
+    }
     let mut next = offset;
     for _ in 0..count {
-        next = read_string(reply, next).next;
+        next = read_string(reply, next)?.next;
     }
-    next
+    Ok(next)
 }
 
 // Of two strings, m and s, the first that has bytes; `next` is past both.
@@ -102,11 +103,12 @@ pub fn choose(m: StringRead, s: StringRead) -> StringRead
 }
 
 // The pair of strings at a position.
-#[tactic(auto, using(crate::proofs::Strings::pair_is))]
-pub fn read_pair(reply: &[u8], offset: usize) -> StringRead
-    ensures { result ≡ pair_at reply.now offset }
+#[tactic(auto, using(crate::proofs::Strings::pair_is, crate::proofs::Strings::pair_early, crate::proofs::Strings::pair_last))]
+#[inline(always)]
+pub fn read_pair(reply: &[u8], offset: usize) -> Result<StringRead, usize>
+    ensures { IsRead reply.now (strings_end 2 reply.now offset) (λ pair. pair ≡ pair_at reply.now offset) result }
 {
-    let m = read_string(reply, offset);
-    let s = read_string(reply, m.next);
-    choose(m, s)
+    let m = read_string(reply, offset)?;
+    let s = read_string(reply, m.next)?;
+    Ok(choose(m, s))
 }

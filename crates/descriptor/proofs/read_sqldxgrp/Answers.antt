@@ -1,11 +1,8 @@
--- A law for each case of the flag.
-use Rattle.descriptor.proofs.Groups.{dx_held, dx_gone}
+-- All strings were read.
+use Rattle.descriptor.proofs.Groups.{dx_held}
 use Rattle.descriptor.proofs.read_sqldxgrp.Goals as goal
 
-pub returns-in-Ok : goal.returns-in-Ok
-returns-in-Ok c =
-    dx_held _ _ _ _ _ _ _ c.in-Ok.ensures c.skip_strings-names.ensures c.read_pair-base_table_name.ensures c.read_pair-schema_name.ensures
-    c.read_pair-name.ensures
-
-pub returns-in-Err : goal.returns-in-Err
-returns-in-Err c = dx_gone _ _ _ _ c.in-Err.ensures c.no_string-none.ensures
+pub returns-in_ok-name-in-Ok : goal.returns-in_ok-name-in-Ok
+returns-in_ok-name-in-Ok c =
+    dx_held _ _ _ c.in-Ok.ensures _ c.in_ok-names-in-Ok.ensures.0 _ c.in_ok-base_table_name-in-Ok.ensures.0
+    _ c.in_ok-schema_name-in-Ok.ensures.0 _ c.in_ok-name-in-Ok.ensures.0 c.in_ok-name-in-Ok.ensures.1
