@@ -8,8 +8,7 @@ use mathlib.Core.Bool.{Bool, true, false, cond, ◌&&◌}
 use lib.Dec.{ltb, leb, eqb}
 use lib.ListN.{length, get_or}
 use borrow.Author.Tests.{lt-ltb, le-ltb, le-leb, lt-leb, eq-eqb, ne_eqb}
-use Rattle.std.proofs.Common.{Option, Some, None, All, find}
-use Rattle.std.proofs.lemmas.List.Elements.{All-cons, All-nil}
+use Rattle.std.proofs.Common.{rules, Option, Some, None, IfSome, MatchOption, find, slice_index_or}
 use Rattle.search.specs.Search.{pick, first_in}
 use Rattle.search.specs.Walks.{chain}
 use Rattle.search.proofs.Alternatives.{each_none, each_more, first_in_all}
@@ -66,6 +65,21 @@ names_inside page s p =
     (each_more (string_inside s (string_end s (p + 19))) (each_more (dx_pair_inside s 7 (dx_start lenient s (p + 17))) each_none)))
     (omega arith)
 
+-- the strings of a layout lie in the reply
+pub string_read_inside : (s : List ℕ) (p : ℕ) (r : StringRead) → r ≡ string_at s p → Inside s r
+string_read_inside s p r e = subst (Inside s) (sym e) (string_inside s p)
+
+pub extension_inside : (s : List ℕ) (p : ℕ) (x : Sqldxgrp) → x ≡ sqldxgrp_at s p → Inside s x.name
+extension_inside s p x e = subst (λ (y : Sqldxgrp). Inside s y.name) (sym e) (dx_pair_inside s 7 p)
+
+-- each of three does, by its number
+pub each_of_three : (s : List ℕ) (a b c : StringRead) → Inside s a → Inside s b → Inside s c → (k : ℕ) (d : StringRead) → k < 3
+    → Inside s (slice_index_or (a ∷ b ∷ c ∷ []) k d)
+each_of_three s a b c x y z zero d h = x
+each_of_three s a b c x y z (suc zero) d h = y
+each_of_three s a b c x y z (suc (suc zero)) d h = z
+each_of_three s a b c x y z (suc (suc (suc k))) d h = absurd (omega arith)
+
 -- ---- the ways out
 
 module _ (page : Page) (s : List ℕ) (p : ℕ) where
@@ -90,32 +104,82 @@ module _ (page : Page) (s : List ℕ) (p : ℕ) where
       let u : eqb (get_or s (p + 16) 0) 0xFF ≡ true = eq-eqb (get_or s (p + 16) 0) 0xFF f in
       scanned_none (rw (t, u) refl)
 
+  -- the reply ends within it
+  named_past : length s < layout_end s p → None ≡ scanned_name_at page s p
+  unfolding is_named_layout
+  named_past l =
+      let v : leb (layout_end s p) (length s) ≡ false = lt-leb (layout_end s p) (length s) l in
+      scanned_none (rw v (go (has_options s p)))
+    where
+      go : (b : Bool) → (b && false) ≡ false
+      go true = refl
+      go false = refl
+
+  names_past : length s < strings_end 6 s (p + 19) → None ≡ scanned_name_at page s p
+  unfolding opt_end dx_start
+  names_past l =
+      let q = strings_end 6 s (p + 17 + 2) in
+      let d = nullable_end lenient udt_end s q in
+      let k : p + 17 + 2 ≡ p + 19 = omega arith in
+      let e : q ≡ strings_end 6 s (p + 19) = ap (strings_end 6 s) k in
+      let u : q ≤ d = nullable_end_grows lenient udt_end s (udt_end_grows s) q in
+      let w : d ≤ nullable_end lenient dx_end s d = nullable_end_grows lenient dx_end s (dx_end_grows s) d in
+      named_past (omega arith)
+
+  -- where its first string does not end in the reply, or a later one or group
+  pub cut_m : length s < string_end s (p + 19) → None ≡ scanned_name_at page s p
+  unfolding strings_end
+  cut_m l = names_past (omega (arith, strings_end_grows 5 s (string_end s (p + 19))))
+
+  module _ (m : StringRead) (a : m ≡ string_at s (p + 19)) where
+    past_m : m.next ≡ string_end s (p + 19)
+    past_m = ap (λ (r : StringRead). r.next) a ∙ string_next s (p + 19)
+
+    pub cut_s : length s < string_end s m.next → None ≡ scanned_name_at page s p
+    unfolding strings_end
+    cut_s l =
+        let e : string_end s m.next ≡ string_end s (string_end s (p + 19)) = ap (string_end s) past_m in
+        names_past (omega (arith, strings_end_grows 4 s (string_end s (string_end s (p + 19)))))
+
+    module _ (t : StringRead) (b : t ≡ string_at s m.next) where
+      past_s : t.next ≡ string_end s (string_end s (p + 19))
+      past_s = ap (λ (r : StringRead). r.next) b ∙ string_next s m.next ∙ ap (string_end s) past_m
+
+      pub cut_comments : length s < strings_end 4 s t.next → None ≡ scanned_name_at page s p
+      unfolding strings_end
+      cut_comments l = names_past (rw (ap (strings_end 4 s) past_s) at l)
+
+      module _ (q : ℕ) (c : q ≡ strings_end 4 s t.next) where
+        udt_is : nullable_end lenient udt_end s q ≡ dx_start lenient s (p + 17)
+        unfolding dx_start strings_end
+        udt_is =
+            let k : p + 17 + 2 ≡ p + 19 = omega arith in
+            ap (nullable_end lenient udt_end s) (c ∙ rw (past_s, k) refl)
+
+        pub cut_udt : length s < nullable_end lenient udt_end s q → None ≡ scanned_name_at page s p
+        unfolding opt_end
+        cut_udt l =
+            let d = dx_start lenient s (p + 17) in
+            let w : d ≤ nullable_end lenient dx_end s d = nullable_end_grows lenient dx_end s (dx_end_grows s) d in
+            named_past (omega (arith, udt_is))
+
+        module _ (u : ℕ) (d : u ≡ nullable_end lenient udt_end s q) where
+          start_is : u ≡ dx_start lenient s (p + 17)
+          start_is = d ∙ udt_is
+
+          pub cut_extension : length s < nullable_end lenient dx_end s u → None ≡ scanned_name_at page s p
+          unfolding opt_end
+          cut_extension l = named_past (rw (ap (nullable_end lenient dx_end s) start_is) at l)
+
   -- its first string, of n bytes, does not lie in the reply
   module _ (h : p + 21 ≤ length s) (n : ℕ) (e : n ≡ number BigEndian 2 s (p + 19)) (l : length s < p + 21 + n) where
-    past_reply : length s < layout_end s p
-    unfolding opt_end dx_start strings_end
-    past_reply =
-        let q = strings_end 6 s (p + 17 + 2) in
-        let d = nullable_end lenient udt_end s q in
-        let k : p + 17 + 2 ≡ p + 19 = omega arith in
-        let y : string_end s (p + 17 + 2) ≡ p + 19 + 2 + n = ap (string_end s) k ∙ end_known s (p + 19) (omega arith) (omega arith) n e in
-        let g : string_end s (p + 17 + 2) ≤ q = strings_end_grows 5 s (string_end s (p + 17 + 2)) in
-        let u : q ≤ d = nullable_end_grows lenient udt_end s (udt_end_grows s) q in
-        let w : d ≤ nullable_end lenient dx_end s d = nullable_end_grows lenient dx_end s (dx_end_grows s) d in
-        omega arith
-
     pub named_outside : None ≡ scanned_name_at page s p
-    unfolding is_named_layout
-    named_outside =
-        let v : leb (layout_end s p) (length s) ≡ false = lt-leb (layout_end s p) (length s) past_reply in
-        scanned_none (rw v (go (has_options s p)))
-      where
-        go : (b : Bool) → (b && false) ≡ false
-        go true = refl
-        go false = refl
+    named_outside = cut_m (omega (arith, end_known s (p + 19) (omega arith) (omega arith) n e))
 
-  module _ (h : p + 16 < length s) (f : get_or s (p + 16) 0 ≡ 0xFF → ⊥) (m t : StringRead) (q u : ℕ) (x : Sqldxgrp) (a : m ≡ string_at s (p + 19))
-      (b : t ≡ string_at s m.next) (c : q ≡ strings_end 4 s t.next) (d : u ≡ nullable_end lenient udt_end s q) (e : x ≡ sqldxgrp_at s u) where
+  -- its strings and groups were read
+  module _ (h : p + 16 < length s) (f : get_or s (p + 16) 0 ≡ 0xFF → ⊥) (m : StringRead) (a : m ≡ string_at s (p + 19)) (t : StringRead)
+      (b : t ≡ string_at s m.next) (q : ℕ) (c : q ≡ strings_end 4 s t.next) (u : ℕ) (d : u ≡ nullable_end lenient udt_end s q) (x : Sqldxgrp)
+      (e : x ≡ sqldxgrp_at s u) where
     options : has_options s p ≡ true
     unfolding has_options
     options =
@@ -123,68 +187,42 @@ module _ (page : Page) (s : List ℕ) (p : ℕ) where
         let w : eqb (get_or s (p + 16) 0) 0xFF ≡ false = ne_eqb (get_or s (p + 16) 0) 0xFF f in
         rw (v, w) refl
 
-    past_m : m.next ≡ string_end s (p + 19)
-    past_m = ap (λ (r : StringRead). r.next) a ∙ string_next s (p + 19)
-
-    past_s : t.next ≡ string_end s (string_end s (p + 19))
-    past_s = ap (λ (r : StringRead). r.next) b ∙ string_next s m.next ∙ ap (string_end s) past_m
-
-    start_is : u ≡ dx_start lenient s (p + 17)
-    unfolding dx_start strings_end
-    start_is =
-        let k : p + 17 + 2 ≡ p + 19 = omega arith in
-        d ∙ ap (nullable_end lenient udt_end s) (c ∙ rw (past_s, k) refl)
-
     end_is : x.next ≡ layout_end s p
     unfolding opt_end
-    end_is = ap (λ (y : Sqldxgrp). y.next) e ∙ ap (nullable_end lenient dx_end s) start_is
+    end_is = ap (λ (y : Sqldxgrp). y.next) e ∙ ap (nullable_end lenient dx_end s) (start_is m a t b q c u d)
 
-    pub read_inside : All (Inside s) (m ∷ t ∷ x.name ∷ [])
-    read_inside =
-        All-cons (Inside s) m (t ∷ x.name ∷ []) (subst (Inside s) (sym a) (string_inside s (p + 19)))
-        (All-cons (Inside s) t (x.name ∷ []) (subst (Inside s) (sym b) (string_inside s m.next))
-        (All-cons (Inside s) x.name [] (subst (λ (y : Sqldxgrp). Inside s y.name) (sym e) (dx_pair_inside s 7 u)) (All-nil (Inside s))))
+    strings_are : (m ∷ t ∷ x.name ∷ []) ≡ name_strings s p
+    strings_are =
+        let v : t ≡ string_at s (string_end s (p + 19)) = b ∙ ap (string_at s) (past_m m a) in
+        let w : x.name ≡ dx_pair 7 s (dx_start lenient s (p + 17)) = ap (λ (z : Sqldxgrp). z.name) e ∙ ap (dx_pair 7 s) (start_is m a t b q c u d) in
+        λ i. a i ∷ v i ∷ w i ∷ []
 
-    pub named_cut : length s < x.next → None ≡ scanned_name_at page s p
-    unfolding is_named_layout
-    named_cut g =
-        let v : leb (layout_end s p) (length s) ≡ false = lt-leb (layout_end s p) (length s) (omega (arith, end_is)) in
-        scanned_none (rw (options, v) refl)
-
-    module _ (l : x.next ≤ length s) (o : Option StringRead) (y : o ≡ find (is_name_string page s) (m ∷ t ∷ x.name ∷ [])) where
-      strings_are : (m ∷ t ∷ x.name ∷ []) ≡ name_strings s p
-      strings_are =
-          let v : t ≡ string_at s (string_end s (p + 19)) = b ∙ ap (string_at s) past_m in
-          let w : x.name ≡ dx_pair 7 s (dx_start lenient s (p + 17)) = ap (λ (z : Sqldxgrp). z.name) e ∙ ap (dx_pair 7 s) start_is in
-          λ i. a i ∷ v i ∷ w i ∷ []
-
-      found_is : find (is_name_string page s) (name_strings s p) ≡ o
-      found_is = sym (y ∙ ap (find (is_name_string page s)) strings_are)
-
+    module _ (l : nullable_end lenient dx_end s u ≤ length s) where
       layout_is : (k : Bool) → is_name_string page s (name_in page s p) ≡ k → is_named_layout page s p (layout_end s p) ≡ k
       unfolding is_named_layout
       layout_is k g =
+          let z : x.next ≡ nullable_end lenient dx_end s u = ap (λ (y : Sqldxgrp). y.next) e in
           let v : leb (layout_end s p) (length s) ≡ true = le-leb (layout_end s p) (length s) (omega (arith, end_is)) in
           rw (options, v, g) refl
 
-      pub named_none : o ≡ None → None ≡ scanned_name_at page s p
+      -- by what was found among them
+      abbrev Found : Option ScannedName → Type 0
+      Found o =
+          MatchOption o (find (is_name_string page s) (m ∷ t ∷ x.name ∷ []) ≡ None)
+          (λ r. (find (is_name_string page s) (m ∷ t ∷ x.name ∷ []) ≡ Some r.name) × (r.next ≡ x.next))
+
+      pub named_by : (o : Option ScannedName) → Found o → (o ≡ scanned_name_at page s p) × IfSome o (λ r. Inside s r.name)
       unfolding name_in
-      named_none g =
-          scanned_none
-          (layout_is false (find_none (is_name_string page s) (no_string 0) (name_strings s p) (found_is ∙ g) (no_name page s)))
-
-      module _ (n : StringRead) (g : o ≡ Some n) where
-        name_is : (name_in page s p ≡ n) × (is_name_string page s n ≡ true)
-        unfolding name_in
-        name_is = find_some (is_name_string page s) (no_string 0) (name_strings s p) n (found_is ∙ g)
-
-        pub named_some : Some (record { name = n; next = x.next }) ≡ scanned_name_at page s p
-        named_some =
-            (λ i. Some (record { name = sym name_is.0 i; next = end_is i }))
-            ∙ scanned_some (layout_is true (ap (is_name_string page s) name_is.0 ∙ name_is.1))
-
-        pub named_inside : Inside s n
-        named_inside = subst (Inside s) name_is.0 (names_inside page s p)
+      named_by None g = (
+        scanned_none
+        (layout_is false (find_none (is_name_string page s) (no_string 0) (name_strings s p) (sym (ap (find (is_name_string page s)) strings_are) ∙ g) (no_name page s))),
+        search rules,
+      )
+      named_by (Some r) g =
+          let n = find_some (is_name_string page s) (no_string 0) (name_strings s p) r.name (sym (ap (find (is_name_string page s)) strings_are) ∙ g.0) in (
+            (λ i. Some (record { name = sym n.0 i; next = (g.1 ∙ end_is) i })) ∙ scanned_some (layout_is true (ap (is_name_string page s) n.0 ∙ n.1)),
+            subst (Inside s) n.0 (names_inside page s p),
+          )
 
 -- ---- the walk from layout to layout
 

@@ -1,7 +1,7 @@
 // Names by runs of standard layouts of any type: only their strings are asked, so that an unknown SQLTYPE hides no name.
 #![tactic(auto)]
 
-ghost use Rattle.std.specs.Prelude.{◌≡◌, false, All, IfSome, find, ◌+◌, ◌≤◌, length};
+ghost use Rattle.std.specs.Prelude.{◌≡◌, false, Some, None, All, IfSome, MatchOption, find, ◌+◌, ◌≤◌, length};
 ghost use Rattle.std.specs.Iterator.{YieldsFirst, item_count};
 ghost use Rattle.search.specs.Walks.{keep};
 ghost use Rattle.codepage.specs.Page.{page037};
@@ -28,8 +28,8 @@ fn is_name_string(reply: &[u8], string: StringRead) -> bool
 
 // Each is tested, in their order.
 fn first_name(reply: &[u8], strings: &[StringRead]) -> Option<StringRead>
-    requires { All (Inside reply.now) strings }
-    ensures { result ≡ find (is_name_string page037 reply.now) strings }
+    requires { All (Inside reply.now) strings.now }
+    ensures { result ≡ find (is_name_string page037 reply.now) strings.now }
 {
     strings
         .iter()
@@ -37,14 +37,24 @@ fn first_name(reply: &[u8], strings: &[StringRead]) -> Option<StringRead>
         .find(|string| is_name_string(reply, *string))
 }
 
+// The answer of a layout that can be read, by its strings. They are lent to a function of its own: its call stands behind so many ways out that the
+// compiler takes it for a rare one, and inlines nothing there.
+fn scanned_name(reply: &[u8], strings: &[StringRead], next: usize) -> Option<ScannedName>
+    requires { All (Inside reply.now) strings.now }
+    ensures { MatchOption result (find (is_name_string page037 reply.now) strings.now ≡ None) (λ scanned. (find (is_name_string page037 reply.now) strings.now ≡ Some scanned.name) × (scanned.next ≡ next)) }
+{
+    let name = first_name(reply, strings)?;
+    Some(ScannedName { name, next })
+}
+
 // The layout's name, if it has one and can be read. The scan asks at every byte of a reply: names are tested only where the whole layout can be
 // read, and of the extension's pair the one that has bytes.
+#[tactic(auto, using(crate::proofs::Layouts::cut_m, crate::proofs::Layouts::cut_s, crate::proofs::Layouts::cut_comments, crate::proofs::Layouts::cut_udt, crate::proofs::Layouts::cut_extension))]
 pub fn scan_descriptor_name(reply: &[u8], offset: usize) -> Option<ScannedName>
     ensures scanned { result ≡ scanned_name_at page037 reply.now offset }
     ensures inside { IfSome result (λ scanned. Inside reply.now scanned.name) }
 {
-    let end = reply.len();
-    if end.saturating_sub(offset) < 17 {
+    if reply.len().saturating_sub(offset) < 17 {
         return None;
     }
     if reply[offset + 16] == 0xFF {
@@ -55,11 +65,7 @@ pub fn scan_descriptor_name(reply: &[u8], offset: usize) -> Option<ScannedName>
     let comments_end = strings::skip_strings(reply, s.next, 4).ok()?;
     let udt_end = descriptor::skip_sqludtgrp(reply, comments_end).ok()?;
     let extension = descriptor::read_sqldxgrp(reply, udt_end).ok()?;
-    named(reply, &[m, s, extension.name], extension.next)
-}
-
-fn named(reply: &[u8], strings: &[StringRead], next: usize) -> Option<ScannedName> {
-    first_name(reply, strings).map(|name| ScannedName { name, next })
+    scanned_name(reply, &[m, s, extension.name], extension.next)
 }
 
 // Where a run of layouts with names starts, and how many they are. A run of none is one like any other: nobody asks whether there is a run.

@@ -13,6 +13,8 @@ use Rattle.strings.specs.declared.StringRead.{StringRead}
 use Rattle.field.specs.Numbers.{number}
 use Rattle.std.proofs.Common.{rules}
 use Rattle.std.specs.Prelude.{Result, Ok, Err, IsOk}
+use Rattle.std.specs.Result.{result_ok}
+use Rattle.std.proofs.Common.{Some}
 use Rattle.strings.specs.Strings.{IsRead, string_end, strings_end, no_string, string_at, chosen, pair_at}
 
 -- ---- what is read
@@ -21,6 +23,11 @@ module _ {A : Type 0} (s : List ℕ) (end : ℕ) (Is : A → Type 0) where
   pub read_ok : (r : Result A ℕ) → IsRead s end Is r → end ≤ length s → IsOk r
   read_ok (Ok x) h l = search rules
   read_ok (Err e) h l = absurd (omega (arith, h.1))
+
+  -- also by its `ok()`
+  pub some_read : (r : Result A ℕ) → IsRead s end Is r → (x : A) → result_ok r ≡ Some x → Is x × (end ≤ length s)
+  some_read (Ok y) h x e = let k : y ≡ x = cc in subst (λ z. Is z × (end ≤ length s)) k h
+  some_read (Err y) h x e = absurd cc
 
   pub read_is : (r : Result A ℕ) → IsRead s end Is r → (x : A) → r ≡ Ok x → Is x
   read_is r h x e = (subst (IsRead s end Is) e h).0

@@ -1,7 +1,8 @@
--- The ways out: no room for the option flag, FF, a layout that cannot be read, one without a name, and its name.
-use Rattle.std.proofs.Common.{arith, ◌∙◌}
+-- The ways out: no room for the option flag, FF, and by what was found among the strings of a layout that can be read.
+use Rattle.std.proofs.Common.{sym, ◌∙◌, arith, rules}
+use Rattle.strings.proofs.Strings.{some_read}
 use Rattle.codepage.specs.Page.{page037}
-use Rattle.name_run.proofs.Layouts.{named_short, named_null, read_inside, named_cut, named_none, named_some, named_inside}
+use Rattle.name_run.proofs.Layouts.{named_short, named_null, string_read_inside, extension_inside, each_of_three, named_by}
 use Rattle.name_run.proofs.scan_descriptor_name.Goals as goal
 
 pub returns-then-saturating_sub-lt17-clause-scanned : goal.returns-then-saturating_sub-lt17-clause-scanned
@@ -11,63 +12,25 @@ pub returns-then-reply-offset-clause-scanned : goal.returns-then-reply-offset-cl
 returns-then-reply-offset-clause-scanned c =
     named_null _ _ _ (omega (arith, c.saturating_sub.ensures, c.if-saturating_sub-lt17.false)) c.if-reply-offset.true
 
-pub returns-then-end-extension-clause-scanned : goal.returns-then-end-extension-clause-scanned
-returns-then-end-extension-clause-scanned c =
-    named_cut _ _ _ (omega (arith, c.saturating_sub.ensures, c.if-saturating_sub-lt17.false)) c.if-reply-offset.false _ _ _ _ _
-    c.read_string-m.ensures
-    c.read_string-s.ensures
-    c.skip_strings-comments_end.ensures
-    c.skip_sqludtgrp.ensures
-    c.read_sqldxgrp-extension.ensures
-    c.if-end-extension.true
+-- whatever their order: which of them comes first is the fact of the goal below
+pub scanned_name-requires : goal.scanned_name-requires
+scanned_name-requires c =
+    let m = some_read _ _ _ _ c.read_string.ensures _ (sym c.ok.ensures.value ∙ c.in_ok-m.was) in
+    let s = some_read _ _ _ _ c.read_string-2.ensures _ (sym c.ok-2.ensures.value ∙ c.in_ok-s.was) in
+    let x = some_read _ _ _ _ c.read_sqldxgrp.ensures _ (sym c.ok-5.ensures.value ∙ c.in_ok-extension.was) in
+    let i = string_read_inside _ _ _ m.0 in
+    let j = string_read_inside _ _ _ s.0 in
+    let k = extension_inside _ _ _ x.0 in
+    search (rules, i, j, k, each_of_three)
 
-pub first_name-requires : goal.first_name-requires
-first_name-requires c =
-    read_inside page037 _ _ (omega (arith, c.saturating_sub.ensures, c.if-saturating_sub-lt17.false)) c.if-reply-offset.false _ _ _ _ _
-    c.read_string-m.ensures
-    c.read_string-s.ensures
-    c.skip_strings-comments_end.ensures
-    c.skip_sqludtgrp.ensures
-    c.read_sqldxgrp-extension.ensures
-
-pub returns-in_err-name-clause-scanned : goal.returns-in_err-name-clause-scanned
-returns-in_err-name-clause-scanned c =
-    c.from_residual.ensures
-    ∙ named_none _ _ _ (omega (arith, c.saturating_sub.ensures, c.if-saturating_sub-lt17.false)) c.if-reply-offset.false _ _ _ _ _
-    c.read_string-m.ensures
-    c.read_string-s.ensures
-    c.skip_strings-comments_end.ensures
-    c.skip_sqludtgrp.ensures
-    c.read_sqldxgrp-extension.ensures
-    c.if-end-extension.false
-    _
-    c.first_name.ensures
-    c.in_err-name.was
-
-pub returns-clause-scanned : goal.returns-clause-scanned
-returns-clause-scanned c =
-    named_some _ _ _ (omega (arith, c.saturating_sub.ensures, c.if-saturating_sub-lt17.false)) c.if-reply-offset.false _ _ _ _ _
-    c.read_string-m.ensures
-    c.read_string-s.ensures
-    c.skip_strings-comments_end.ensures
-    c.skip_sqludtgrp.ensures
-    c.read_sqldxgrp-extension.ensures
-    c.if-end-extension.false
-    _
-    c.first_name.ensures
-    c.in_ok-name.name
-    c.in_ok-name.was
-
-pub returns-clause-inside : goal.returns-clause-inside
-returns-clause-inside c =
-    named_inside _ _ _ (omega (arith, c.saturating_sub.ensures, c.if-saturating_sub-lt17.false)) c.if-reply-offset.false _ _ _ _ _
-    c.read_string-m.ensures
-    c.read_string-s.ensures
-    c.skip_strings-comments_end.ensures
-    c.skip_sqludtgrp.ensures
-    c.read_sqldxgrp-extension.ensures
-    c.if-end-extension.false
-    _
-    c.first_name.ensures
-    c.in_ok-name.name
-    c.in_ok-name.was
+pub returns : goal.returns
+returns c =
+    let m = some_read _ _ _ _ c.read_string.ensures _ (sym c.ok.ensures.value ∙ c.in_ok-m.was) in
+    let s = some_read _ _ _ _ c.read_string-2.ensures _ (sym c.ok-2.ensures.value ∙ c.in_ok-s.was) in
+    let q = some_read _ _ _ _ c.skip_strings.ensures _ (sym c.ok-3.ensures.value ∙ c.in_ok-comments_end.was) in
+    let u = some_read _ _ _ _ c.skip_sqludtgrp.ensures _ (sym c.ok-4.ensures.value ∙ c.in_ok-udt_end.was) in
+    let x = some_read _ _ _ _ c.read_sqldxgrp.ensures _ (sym c.ok-5.ensures.value ∙ c.in_ok-extension.was) in
+    let r =
+    named_by page037 _ _ (omega (arith, c.saturating_sub.ensures, c.if-saturating_sub-lt17.false)) c.if-reply-offset.false
+    _ m.0 _ s.0 _ q.0 _ u.0 _ x.0 x.1 _ c.scanned_name.ensures in
+    record { scanned = r.0; inside = r.1 }
