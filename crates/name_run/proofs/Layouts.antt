@@ -8,8 +8,7 @@ use mathlib.Core.Bool.{Bool, true, false, cond, ◌&&◌}
 use lib.Dec.{ltb, leb, eqb}
 use lib.ListN.{length, get_or}
 use borrow.Author.Tests.{lt-ltb, le-ltb, le-leb, lt-leb, eq-eqb, ne_eqb}
-use Rattle.std.proofs.Common.{Option, Some, None, All, find}
-use Rattle.std.proofs.lemmas.List.Elements.{All-cons, All-nil}
+use Rattle.std.proofs.Common.{Option, Some, None, find}
 use Rattle.search.specs.Search.{pick, first_in}
 use Rattle.search.specs.Walks.{chain}
 use Rattle.search.proofs.Alternatives.{each_none, each_more, first_in_all}
@@ -139,11 +138,12 @@ module _ (page : Page) (s : List ℕ) (p : ℕ) where
     unfolding opt_end
     end_is = ap (λ (y : Sqldxgrp). y.next) e ∙ ap (nullable_end lenient dx_end s) start_is
 
-    pub read_inside : All (Inside s) (m ∷ t ∷ x.name ∷ [])
-    read_inside =
-        All-cons (Inside s) m (t ∷ x.name ∷ []) (subst (Inside s) (sym a) (string_inside s (p + 19)))
-        (All-cons (Inside s) t (x.name ∷ []) (subst (Inside s) (sym b) (string_inside s m.next))
-        (All-cons (Inside s) x.name [] (subst (λ (y : Sqldxgrp). Inside s y.name) (sym e) (dx_pair_inside s 7 u)) (All-nil (Inside s))))
+    pub read_inside : Inside s m × Inside s t × Inside s x.name
+    read_inside = (
+      subst (Inside s) (sym a) (string_inside s (p + 19)),
+      subst (Inside s) (sym b) (string_inside s m.next),
+      subst (λ (y : Sqldxgrp). Inside s y.name) (sym e) (dx_pair_inside s 7 u),
+    )
 
     pub named_cut : length s < x.next → None ≡ scanned_name_at page s p
     unfolding is_named_layout
