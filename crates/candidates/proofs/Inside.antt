@@ -8,9 +8,9 @@ use Rattle.field.specs.declared.ByteOrder.TheVariants.{BigEndian}
 use Rattle.field.specs.Numbers.{number}
 use Rattle.text.specs.declared.Text.{Text}
 use Rattle.candidates.specs.Candidates.{string_text_at, is_candidate, is_kept, candidates_in, candidates_from, candidates}
-use Rattle.candidates.specs.View.{Inside}
+use Rattle.candidates.specs.View.{TextInside}
 
-kept_inside : (s : List ℕ) (last : Option Text) (p : ℕ) → is_kept s last p ≡ true → Inside s (string_text_at s p)
+kept_inside : (s : List ℕ) (last : Option Text) (p : ℕ) → is_kept s last p ≡ true → TextInside s (string_text_at s p)
 unfolding is_kept is_candidate
 kept_inside s last p e =
     let n = number BigEndian 2 s p in
@@ -23,13 +23,13 @@ all_front : (P : Text → Type 0) (b : Bool) (x : Text) (l : List Text) → (b �
 all_front P true x l f r = All-cons P x l (f refl) r
 all_front P false x l f r = r
 
-all_inside : (s : List ℕ) (last : Option Text) (k p : ℕ) → All (Inside s) (candidates_in s last k p)
+all_inside : (s : List ℕ) (last : Option Text) (k p : ℕ) → All (TextInside s) (candidates_in s last k p)
 unfolding candidates_in
 all_inside s last zero p = λ k d h. absurd (omega arith)
 all_inside s last (suc k) p =
-    all_front (Inside s) (is_kept s last p) (string_text_at s p) (candidates_in s (pick (is_kept s last p) (Some (string_text_at s p)) last) k (suc p))
+    all_front (TextInside s) (is_kept s last p) (string_text_at s p) (candidates_in s (pick (is_kept s last p) (Some (string_text_at s p)) last) k (suc p))
     (kept_inside s last p) (all_inside s (pick (is_kept s last p) (Some (string_text_at s p)) last) k (suc p))
 
-pub candidates_inside : (s : List ℕ) → All (Inside s) (candidates s)
+pub candidates_inside : (s : List ℕ) → All (TextInside s) (candidates s)
 unfolding candidates candidates_from
 candidates_inside s = all_inside s None (length s - 0) 0

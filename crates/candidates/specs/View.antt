@@ -36,5 +36,5 @@ unfoldable pub in_view : View → List Text
 in_view v = shown (text_at v 0) (behind v)
 
 -- a text's bytes lie in the reply (01, Answers: place, length)
-abbrev pub Inside : List ℕ → Text → Type 0
-Inside s t = t.place + t.length ≤ length s
+abbrev pub TextInside : List ℕ → Text → Type 0
+TextInside s t = t.place + t.length ≤ length s

@@ -1,10 +1,10 @@
 // A column as its descriptor gives it, in numbers, and the record that these numbers stand for.
 #![tactic(auto)]
 
-ghost use Rattle.std.specs.Prelude.{◌≡◌, not, ◌++◌, ◌+◌, ◌<◌, ◌≤◌, length, get_or, drop};
+ghost use Rattle.std.specs.Prelude.{◌≡◌, not, ◌&&◌, ◌++◌, ◌+◌, ◌<◌, ◌≤◌, eqb, length, get_or, drop};
 ghost use Rattle.search.specs.Search.{pick};
 ghost use Rattle.codepage.specs.Page.{page037};
-ghost use Rattle.text.specs.Generated.{is_generated_text};
+ghost use Rattle.text.specs.Generated.{is_generated, decoded, is_generated_text};
 ghost use Rattle.column.specs.Column.{string_text, name_text, StringsInside, blank_column};
 ghost use Rattle.column.specs.Numbers.{order_number, order_of, text_from, numbers_of, Fits, column_of};
 
@@ -36,24 +36,23 @@ pub struct Run {
     pub named: usize,
 }
 
-// Whether a column has a name of its own: one that is there, and does not read like those that the reader itself gives.
-#[tactic(auto, using(crate::proofs::Names::named_none, crate::proofs::Names::named_some))]
+// Whether the bytes of a name say that the column has one of its own: they are there, and do not read like those that the reader itself gives.
 #[inline(always)]
-pub fn is_named(reply: &[u8], name: StringRead) -> bool
-    requires { name.place + name.length ≤ length reply.now }
-    ensures { result ≡ not (is_generated_text page037 reply.now (name_text page037 reply.now name)) }
+pub fn is_named(name: &[u8]) -> bool
+    ensures { result ≡ (not (eqb (length name.now) 0) && not (is_generated (decoded page037 name.now))) }
 {
-    name.length != 0 && !generated::is_generated_at(reply, name.place, name.length)
+    !name.is_empty() && !generated::is_generated_string(name)
 }
 
 // 1 for such a name, else 0: runs of descriptors count with it. Inlined, a name without bytes is asked by no call: 0.79 times the instructions of a run of
 // columns without names.
+#[tactic(auto, using(crate::proofs::Names::named_at))]
 #[inline(always)]
 pub fn one_if_named(reply: &[u8], name: StringRead) -> usize
     requires { name.place + name.length ≤ length reply.now }
     ensures { (result ≡ pick (not (is_generated_text page037 reply.now (name_text page037 reply.now name))) 1 0) × (result ≤ 1) }
 {
-    usize::from(is_named(reply, name))
+    usize::from(is_named(&reply[name.place..name.place + name.length]))
 }
 
 #[tactic(auto, unfolding(crate::specs::Column::string_text))]

@@ -1,26 +1,24 @@
 -- A string is told generated without decoding it: COL and digits of ASCII are all ASCII, and a C of the page is not.
--- The laws of `is_generated_trimmed` and `is_generated_at`.
-use Prim.Native.Nat.{ℕ, zero, suc, ◌+◌, ◌-◌, ◌≤◌, ◌<◌}
+-- The laws of `is_generated_trimmed` and `is_generated_string`.
+use Prim.Native.Nat.{ℕ, ◌+◌, ◌-◌, ◌≤◌, ◌<◌}
 use native.Mathlib.Omega.{arith}
 use mathlib.Core.Path.{◌≡◌, refl, sym, ap, subst, ◌∙◌}
 use mathlib.Core.List.{List, [], ◌∷◌}
 use mathlib.Core.Bool.{Bool, true, false, ◌&&◌}
 use lib.ListN.{length, get_or, take, drop, length-map, length-drop}
-use lib.Seq.{get_or-take, get_or-drop, drop-drop, take-take, length-take-le}
+use lib.Seq.{get_or-take, get_or-drop, length-take-le}
 use lib.Dec.{T, eqb, ltb, leb, eqb→eq, leb→le, ltb→lt}
-use borrow.Author.Tests.{eqb-true, eqb-false, eq-eqb, lt-ltb}
+use borrow.Author.Tests.{eqb-true, eq-eqb, lt-ltb}
 use Rattle.search.specs.Search.{each}
 use Rattle.search.proofs.Over.{get_d_map}
 use Rattle.search.proofs.Tests.{and_left, and_right, each_at}
 use Rattle.codepage.specs.Page.{Page}
-use Rattle.codepage.specs.Rearranged.{rearranged}
 use Rattle.codepage.specs.Blank.{is_blank, is_blank_in}
-use Rattle.codepage.proofs.Pages.{blanks_as_in037}
 use Rattle.text.specs.Chars.{is_ascii, is_digit, char_of, chars}
-use Rattle.text.specs.Text.{text_is, leading, kept, trimmed, text_of}
-use Rattle.text.specs.Generated.{starts_col, is_generated, text_chars}
+use Rattle.text.specs.Text.{leading, kept, trimmed}
+use Rattle.text.specs.Generated.{starts_col, is_generated, decoded}
 use Rattle.text.proofs.Trim.{kept_le, kept_some, leading_le}
-use Rattle.text.proofs.Decode.{lent, lent_length, some_kept, decode_none, decode_ascii, decode_page}
+use Rattle.text.proofs.Decode.{decoded_ascii, decoded_page}
 use Rattle.text.proofs.Generated.{SpellsColAsIn037, char_of_page, char_of_other, letter}
 
 -- what does not hold is false
@@ -81,13 +79,6 @@ generated_ascii page a n (x ∷ y ∷ z ∷ ws) g =
     let r : z < 0x80 = omega (arith, char_of_other page a z n, l.1.1) in
     rw (lt-ltb x 0x80 p, lt-ltb y 0x80 q, lt-ltb z 0x80 r) (digits_ascii page a n ws (digits page a (x ∷ y ∷ z ∷ ws) g))
 
--- bytes inside of bytes
-inside : (f m n : ℕ) (l : List ℕ) → f + m ≤ n → take m (drop f (take n l)) ≡ take m (drop f l)
-inside zero m n l h = take-take m n l (omega arith)
-inside (suc f) m zero l h = absurd (omega arith)
-inside (suc f) m (suc n) [] h = refl
-inside (suc f) m (suc n) (x ∷ xs) h = inside f m n xs (omega arith)
-
 -- what trimming leaves of bytes of the page, f of which are dropped in front
 module _ (page : Page) (bs : List ℕ) (f : ℕ) (e : f ≡ leading (is_blank_in page) bs) where
   abbrev first : ℕ
@@ -142,59 +133,32 @@ module _ (page : Page) (bs : List ℕ) (f : ℕ) (e : f ≡ leading (is_blank_in
     unfolding trimmed
     trimmed_text t d = rw (← e, ← y) d
 
--- a page that has its blanks and spells COL as page 037 does
-module _ (page : Page) (r : T (rearranged page.table)) (h : T (blanks_as_in037 page.table)) (sp : SpellsColAsIn037 page.table) where
-  module _ (n : 1 ≡ page.alphabet → ⊥) (s : List ℕ) (p c : ℕ) (l : p + c ≤ length s) where
-    abbrev bytes : List ℕ
-    bytes = take c (drop p s)
+-- a page that spells COL as page 037 does
+module _ (page : Page) (sp : SpellsColAsIn037 page.table) (n : 1 ≡ page.alphabet → ⊥) (bs : List ℕ) where
+  abbrev of_page : Bool
+  of_page = is_generated (chars page page.alphabet (trimmed page bs))
 
-    -- ASCII has no C of the page
-    not_page : is_ascii bytes ≡ true → false ≡ is_generated (chars page page.alphabet (trimmed page bytes))
-    unfolding is_ascii
-    not_page a = not_so (is_generated (chars page page.alphabet (trimmed page bytes))) (λ g.
-        let f = leading (is_blank_in page) bytes in
-        let k : 3 < kept (is_blank_in page) bytes - f = kept_long page bytes f refl g in
-        let b = kept_le (is_blank_in page) bytes in
-        let w : get_or bytes f 0 < 0x80 = ltb→lt (get_or bytes f 0) 0x80 (each_at (λ b. ltb b 0x80) bytes 0 (subst T (sym a) tt) f (omega arith)) in
-        let x : get_or bytes f 0 ≡ 0xC3 =
-        eqb-true (get_or bytes f 0) 0xC3
-        (letter page sp page.alphabet refl 0x43 0xC3 sp.c (get_or bytes f 0) (omega arith)
-        ∙ eq-eqb (char_of page page.alphabet (get_or bytes f 0)) 0x43 (starts_c page bytes f refl g)) in
-        omega arith)
+  -- ASCII has no C of the page
+  not_page : is_ascii bs ≡ true → false ≡ of_page
+  unfolding is_ascii
+  not_page a = not_so of_page (λ g.
+      let f = leading (is_blank_in page) bs in
+      let k : 3 < kept (is_blank_in page) bs - f = kept_long page bs f refl g in
+      let b = kept_le (is_blank_in page) bs in
+      let w : get_or bs f 0 < 0x80 = ltb→lt (get_or bs f 0) 0x80 (each_at (λ b. ltb b 0x80) bs 0 (subst T (sym a) tt) f (omega arith)) in
+      let x : get_or bs f 0 ≡ 0xC3 =
+      eqb-true (get_or bs f 0) 0xC3
+      (letter page sp page.alphabet refl 0x43 0xC3 sp.c (get_or bs f 0) (omega arith)
+      ∙ eq-eqb (char_of page page.alphabet (get_or bs f 0)) 0x43 (starts_c page bs f refl g)) in
+      omega arith)
 
-    pub ascii_chars : is_ascii bytes ≡ true → text_chars page s (text_of page s p c) ≡ chars page 1 bytes
-    ascii_chars a = go (eqb c 0) refl
-      where
-        go : (z : Bool) → eqb c 0 ≡ z → text_chars page s (text_of page s p c) ≡ chars page 1 bytes
-        go true u = rw (← decode_none page r h s p c l (eqb-true c 0 u), eqb-true c 0 u) refl
-        go false u = rw (← decode_ascii page r h s p c l (eqb-false c 0 u) (rw (lent s p c) a)) refl
+  -- COL and digits of ASCII are all ASCII; else the page's answer holds, which is false of ASCII
+  pub generated_first : is_generated (chars page 1 bs) ≡ true → true ≡ is_generated (decoded page bs)
+  generated_first g = sym (ap is_generated (decoded_ascii page bs (generated_ascii page 1 n bs g)) ∙ g)
 
-    pub page_chars : is_ascii bytes ≡ false → text_chars page s (text_of page s p c) ≡ chars page page.alphabet (trimmed page bytes)
-    unfolding trimmed
-    page_chars a =
-        let f = leading (is_blank_in page) bytes in
-        let k = kept (is_blank_in page) bytes in
-        let t : text_is (p + f) (k - f) page.alphabet ≡ text_of page s p c =
-        decode_page page r h s p c l f k (rw (lent s p c) a) (rw (lent s p c) refl) (rw (lent s p c) refl) in
-        let b = kept_le (is_blank_in page) bytes in
-        let g = some_kept page r h bytes a in
-        let i : take (k - f) (drop f bytes) ≡ take (k - f) (drop f (drop p s)) = inside f (k - f) c (drop p s) (omega (arith, lent_length s p c l)) in
-        ap (text_chars page s) (sym t) ∙ ap (chars page page.alphabet) (ap (take (k - f)) (sym (drop-drop f p s)) ∙ sym i)
-
-    -- as the code lends them: COL and digits of ASCII are all ASCII; else the page's answer holds, which is false of ASCII
-    abbrev lent_bytes : List ℕ
-    lent_bytes = take (p + c - p) (drop p s)
-
-    pub generated_first : is_generated (chars page 1 lent_bytes) ≡ true → true ≡ is_generated (text_chars page s (text_of page s p c))
-    generated_first x =
-        let g : is_generated (chars page 1 bytes) ≡ true = rw (lent s p c) at x in
-        sym (ap is_generated (ascii_chars (generated_ascii page 1 n bytes g)) ∙ g)
-
-    pub generated_second : (d : Bool) → is_generated (chars page 1 lent_bytes) ≡ false
-        → d ≡ is_generated (chars page page.alphabet (trimmed page lent_bytes)) → d ≡ is_generated (text_chars page s (text_of page s p c))
-    generated_second d x y = go (is_ascii bytes) refl (rw (lent s p c) at x) (rw (lent s p c) at y)
-      where
-        go : (z : Bool) → is_ascii bytes ≡ z → is_generated (chars page 1 bytes) ≡ false
-            → d ≡ is_generated (chars page page.alphabet (trimmed page bytes)) → d ≡ is_generated (text_chars page s (text_of page s p c))
-        go true a w u = u ∙ sym (not_page a) ∙ sym w ∙ ap is_generated (sym (ascii_chars a))
-        go false a w u = u ∙ ap is_generated (sym (page_chars a))
+  pub generated_second : (d : Bool) → is_generated (chars page 1 bs) ≡ false → d ≡ of_page → d ≡ is_generated (decoded page bs)
+  generated_second d w u = go (is_ascii bs) refl
+    where
+      go : (z : Bool) → is_ascii bs ≡ z → d ≡ is_generated (decoded page bs)
+      go true a = u ∙ sym (not_page a) ∙ sym w ∙ ap is_generated (sym (decoded_ascii page bs a))
+      go false a = u ∙ ap is_generated (sym (decoded_page page bs a))

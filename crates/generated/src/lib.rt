@@ -1,14 +1,14 @@
 // Generated names: COL and digits, as the reader itself names a column without a name.
 #![tactic(auto)]
 
-ghost use Rattle.std.specs.Prelude.{◌≡◌, ◌+◌, ◌<◌, ◌≤◌};
+ghost use Rattle.std.specs.Prelude.{◌≡◌, ◌<◌};
 ghost use lib.ListN.{length};
 ghost use Rattle.search.specs.Search.{each};
 ghost use Rattle.codepage.specs.Page.{page037};
 ghost use Rattle.text.specs.Alphabet.{alphabet_number};
 ghost use Rattle.text.specs.Chars.{chars, is_digit_of};
-ghost use Rattle.text.specs.Text.{trimmed, text_of};
-ghost use Rattle.text.specs.Generated.{is_generated, starts_col, text_chars};
+ghost use Rattle.text.specs.Text.{trimmed};
+ghost use Rattle.text.specs.Generated.{is_generated, starts_col, decoded};
 
 use text::Alphabet;
 
@@ -52,11 +52,9 @@ fn is_generated_trimmed(bytes: &[u8]) -> bool
     is_generated(&bytes[first..end], Alphabet::Page037)
 }
 
-// The same of the text of a string. It need not be decoded: COL and digits of ASCII are all ASCII, and a C of page 037 is not.
-pub fn is_generated_at(reply: &[u8], start: usize, length: usize) -> bool
-    requires { start + length ≤ lib.ListN.length reply.now }
-    ensures { result ≡ is_generated (text_chars page037 reply.now (text_of page037 reply.now start length)) }
+// The same of the text of a string, by its bytes. It need not be decoded: COL and digits of ASCII are all ASCII, and a C of page 037 is not.
+pub fn is_generated_string(bytes: &[u8]) -> bool
+    ensures { result ≡ is_generated (decoded page037 bytes.now) }
 {
-    let bytes = &reply[start..start + length];
     is_generated(bytes, Alphabet::Ascii) || is_generated_trimmed(bytes)
 }

@@ -1,25 +1,22 @@
 -- Identifiers: the ways out of the functions that tell them.
-use Prim.Native.Nat.{ℕ, ◌+◌, ◌-◌, ◌≤◌}
+use Prim.Native.Nat.{ℕ, ◌-◌, ◌≤◌}
 use native.Mathlib.Omega.{arith}
 use mathlib.Core.Path.{◌≡◌, refl, sym, ap, ◌∙◌}
 use mathlib.Core.List.{List, [], ◌∷◌}
 use mathlib.Core.Bool.{Bool, true, false, not, beq, ◌&&◌, true≢false}
 use lib.ListN.{length, take, drop, length-map}
-use lib.Dec.{T, eqb, leb}
+use lib.Dec.{eqb, leb}
 use borrow.Author.Tests.{eqb-true, eqb-false, le-leb, lt-leb}
 use Rattle.search.specs.Search.{each}
 use Rattle.codepage.specs.Page.{Page}
-use Rattle.codepage.specs.Rearranged.{rearranged}
 use Rattle.codepage.specs.Blank.{is_blank, is_blank_in}
-use Rattle.codepage.proofs.Pages.{blanks_as_in037}
 use Rattle.text.specs.Chars.{is_ascii, is_name_char, char_of, chars, is_name_of, is_blank_of}
 use Rattle.text.specs.Text.{leading, kept, trimmed_of, trimmed, placed, text_on}
 use Rattle.text.specs.Generated.{is_generated}
-use Rattle.text.proofs.Decode.{lent}
+use Rattle.text.proofs.Decode.{decoded_ascii, decoded_page, decoded_at}
 use Rattle.std.proofs.lemmas.List.Folds.{list_all-map}
-use Rattle.text.proofs.Generated.{SpellsColAsIn037, char_of_other}
+use Rattle.text.proofs.Generated.{char_of_other}
 use Rattle.text.proofs.Bytes.{blank_same}
-use Rattle.generated.proofs.Quick.{ascii_chars, page_chars}
 use Rattle.text.proofs.Trim.{kept_le}
 use Rattle.identifier.specs.Identifier.{is_identifier, is_identifier_at}
 use Rattle.identifier.proofs.Trims.{trimmed_map, trimmed_twice}
@@ -77,23 +74,27 @@ pub identifier_empty : (page : Page) (s : List ℕ) (p : ℕ) → is_identifier_
 unfolding is_identifier_at is_identifier text_on placed is_ascii leading kept
 identifier_empty page s p = refl
 
-module _ (page : Page) (r : T (rearranged page.table)) (h : T (blanks_as_in037 page.table)) (sp : SpellsColAsIn037 page.table)
-    (n : 1 ≡ page.alphabet → ⊥) (s : List ℕ) (p c : ℕ) (l : p + c ≤ length s) where
-  abbrev lent_bytes : List ℕ
-  lent_bytes = take (p + c - p) (drop p s)
+-- the text of a string in a reply may be a name where that of its bytes alone may be
+pub identifier_at : (page : Page) (s : List ℕ) (p n : ℕ)
+    → is_identifier_at page s p n ≡ is_identifier_at page (take n (drop p s)) 0 (length (take n (drop p s)))
+unfolding is_identifier_at
+identifier_at page s p n = ap (λ (cs : List ℕ). is_identifier (trimmed_of is_blank cs)) (decoded_at page s p n)
 
+module _ (page : Page) (bs : List ℕ) where
   abbrev in_alphabet : ℕ → Bool
-  in_alphabet a = is_identifier (trimmed_of is_blank (chars page a lent_bytes))
+  in_alphabet a = is_identifier (trimmed_of is_blank (chars page a bs))
 
-  at_ascii : is_ascii lent_bytes ≡ true → in_alphabet 1 ≡ is_identifier_at page s p c
+  abbrev of_text : Bool
+  of_text = is_identifier_at page bs 0 (length bs)
+
+  at_ascii : is_ascii bs ≡ true → in_alphabet 1 ≡ of_text
   unfolding is_identifier_at
-  at_ascii e =
-      rw (lent s p c) (ap (λ (cs : List ℕ). is_identifier (trimmed_of is_blank cs)) (sym (ascii_chars page r h sp n s p c l (rw (lent s p c) at e))))
+  at_ascii e = ap (λ (cs : List ℕ). is_identifier (trimmed_of is_blank cs)) (sym (decoded_ascii page bs e))
 
   -- the text of the page is trimmed already
-  trimmed_page : (bs : List ℕ) → trimmed_of is_blank (chars page page.alphabet (trimmed page bs)) ≡ trimmed_of is_blank (chars page page.alphabet bs)
+  trimmed_page : trimmed_of is_blank (chars page page.alphabet (trimmed page bs)) ≡ trimmed_of is_blank (chars page page.alphabet bs)
   unfolding trimmed
-  trimmed_page bs =
+  trimmed_page =
       let a = page.alphabet in
       trimmed_map is_blank (char_of page a) (trimmed_of (is_blank_in page) bs)
       ∙ ap (λ (g : ℕ → Bool). chars page a (trimmed_of g (trimmed_of (is_blank_in page) bs))) (blank_same page)
@@ -101,24 +102,21 @@ module _ (page : Page) (r : T (rearranged page.table)) (h : T (blanks_as_in037 p
       ∙ ap (λ (g : ℕ → Bool). chars page a (trimmed_of g bs)) (sym (blank_same page))
       ∙ sym (trimmed_map is_blank (char_of page a) bs)
 
-  at_page : is_ascii lent_bytes ≡ false → in_alphabet page.alphabet ≡ is_identifier_at page s p c
+  at_page : is_ascii bs ≡ false → in_alphabet page.alphabet ≡ of_text
   unfolding is_identifier_at
-  at_page e =
-      rw (lent s p c)
-      (ap is_identifier (sym (trimmed_page (take c (drop p s)))
-      ∙ ap (trimmed_of is_blank) (sym (page_chars page r h sp n s p c l (rw (lent s p c) at e)))))
+  at_page e = ap is_identifier (sym trimmed_page ∙ ap (trimmed_of is_blank) (sym (decoded_page page bs e)))
 
   module _ (b d : Bool) (x : b ≡ in_alphabet 1) (y : d ≡ in_alphabet page.alphabet) where
-    pub at_first : is_ascii lent_bytes ≡ true → b ≡ is_identifier_at page s p c
+    pub at_first : is_ascii bs ≡ true → b ≡ of_text
     at_first e = x ∙ at_ascii e
 
-    pub at_second : is_ascii lent_bytes ≡ false → d ≡ is_identifier_at page s p c
+    pub at_second : is_ascii bs ≡ false → d ≡ of_text
     at_second e = y ∙ at_page e
 
-    pub at_both : beq b d ≡ true → d ≡ is_identifier_at page s p c
-    at_both e = go (is_ascii lent_bytes) refl (same b d e)
+    pub at_both : beq b d ≡ true → d ≡ of_text
+    at_both e = go (is_ascii bs) refl (same b d e)
       where
-        go : (z : Bool) → is_ascii lent_bytes ≡ z → b ≡ d → d ≡ is_identifier_at page s p c
+        go : (z : Bool) → is_ascii bs ≡ z → b ≡ d → d ≡ of_text
         go true a u = sym u ∙ at_first a
         go false a u = at_second a
 

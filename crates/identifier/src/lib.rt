@@ -1,7 +1,7 @@
 // Texts that may be the name of a column: what the name scan takes.
 #![tactic(auto)]
 
-ghost use Rattle.std.specs.Prelude.{◌≡◌, ◌+◌, ◌≤◌};
+ghost use Rattle.std.specs.Prelude.{◌≡◌};
 ghost use lib.ListN.{length};
 ghost use Rattle.codepage.specs.Page.{page037};
 ghost use Rattle.codepage.specs.Blank.{is_blank};
@@ -55,12 +55,11 @@ fn after_spaces(bytes: &[u8]) -> &[u8]
     left
 }
 
-// Whether the text of a string may be a name. It is tested in both alphabets, and only where they differ are all bytes asked which of them it is.
-pub fn is_identifier_at(reply: &[u8], start: usize, length: usize) -> bool
-    requires { start + length ≤ lib.ListN.length reply.now }
-    ensures { result ≡ is_identifier_at page037 reply.now start length }
+// Whether the text of a string may be a name, by its bytes. It is tested in both alphabets, and only where they differ are all bytes asked which
+// of them it is.
+pub fn is_identifier_string(bytes: &[u8]) -> bool
+    ensures { result ≡ is_identifier_at page037 bytes.now 0 (length bytes.now) }
 {
-    let bytes = &reply[start..start + length];
     let in_ascii = is_identifier_trimmed(after_spaces(bytes), Alphabet::Ascii);
     let in_page = is_identifier_trimmed(bytes, Alphabet::Page037);
     if in_ascii == in_page {

@@ -19,11 +19,12 @@ pub struct ScannedName {
     pub next: usize,
 }
 
+#[tactic(auto, using(identifier::proofs::Identifiers::identifier_at, text::proofs::Decode::lent))]
 fn is_name_string(reply: &[u8], string: StringRead) -> bool
     requires { Inside reply.now string }
     ensures { result ≡ is_name_string page037 reply.now string }
 {
-    identifier::is_identifier_at(reply, string.place, string.length)
+    identifier::is_identifier_string(&reply[string.place..string.place + string.length])
 }
 
 // Each is tested, in their order.

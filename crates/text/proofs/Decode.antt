@@ -1,21 +1,25 @@
--- The ways out of `decode_text`, and that a text is empty exactly where it has no bytes.
+-- The ways out of `decode_text`, that a text is empty exactly where it has no bytes, and that its characters are those of its bytes,
+-- wherever they stand.
 use Prim.Native.Nat.{ℕ, ◌+◌, ◌-◌, ◌≤◌, ◌<◌}
 use native.Mathlib.Omega.{arith}
 use mathlib.Core.Path.{◌≡◌, refl, sym, ap, ◌∙◌}
 use mathlib.Core.List.{List}
 use mathlib.Core.Bool.{Bool, true, false}
-use lib.ListN.{length, take, drop, length-drop}
-use lib.Seq.{length-take-le}
+use lib.ListN.{length, take, drop, length-drop, length-take}
+use lib.Seq.{length-take-le, drop-drop, take-take}
 use lib.Dec.{T, ltb, eqb}
 use borrow.Author.Tests.{eqb-true, ne_eqb, lt-ltb}
+use Rattle.std.proofs.Math.Seq.{take-length}
+use Rattle.std.proofs.lemmas.List.{take_min, drop-take}
 use Rattle.search.specs.Search.{pick}
 use Rattle.codepage.specs.Page.{Page}
 use Rattle.codepage.specs.Rearranged.{rearranged}
 use Rattle.codepage.specs.Blank.{is_blank_in}
 use Rattle.codepage.proofs.Pages.{blanks_as_in037, blank_low}
-use Rattle.text.specs.Chars.{is_ascii}
-use Rattle.text.specs.Text.{text_is, empty_text, placed, leading, kept, text_on, text_of}
-use Rattle.text.proofs.Trim.{kept_le, kept_some}
+use Rattle.text.specs.Chars.{is_ascii, chars}
+use Rattle.text.specs.Text.{text_is, empty_text, placed, leading, kept, trimmed, text_on, text_of}
+use Rattle.text.specs.Generated.{text_chars, decoded}
+use Rattle.text.proofs.Trim.{leading_le, kept_le, kept_some}
 
 -- bytes s[a .. a + n], as the code lends them
 pub lent : (s : List ℕ) (a n : ℕ) → take (a + n - a) (drop a s) ≡ take n (drop a s)
@@ -35,6 +39,62 @@ placed_length p n a = go (eqb n 0) refl
     go : (b : Bool) → eqb n 0 ≡ b → (pick b empty_text (text_is p n a)).length ≡ n
     go true e = sym (eqb-true n 0 e)
     go false e = refl
+
+-- ---- characters by bytes
+
+placed_chars : (page : Page) (s : List ℕ) (p n a : ℕ) → text_chars page s (placed p n a) ≡ chars page a (take n (drop p s))
+unfolding placed
+placed_chars page s p n a = go (eqb n 0) refl
+  where
+    go : (z : Bool) → eqb n 0 ≡ z → text_chars page s (pick z empty_text (text_is p n a)) ≡ chars page a (take n (drop p s))
+    go true e = let z = eqb-true n 0 e in rw z refl
+    go false e = refl
+
+-- bytes inside of bytes
+inside : (f m n : ℕ) (l : List ℕ) → f + m ≤ n → take m (drop f (take n l)) ≡ take m (drop f l)
+inside f m n l h =
+    let e : n ≡ f + (n - f) = omega arith in
+    ap (λ (k : ℕ). take m (drop f (take k l))) e ∙ ap (take m) (drop-take f (n - f) l) ∙ take-take m (n - f) (drop f l) (omega arith)
+
+module _ (page : Page) (s : List ℕ) (p n : ℕ) where
+  abbrev bytes : List ℕ
+  bytes = take n (drop p s)
+
+  ascii_chars : is_ascii bytes ≡ true → text_chars page s (text_of page s p n) ≡ chars page 1 bytes
+  unfolding text_on
+  ascii_chars a =
+      rw a
+      (placed_chars page s p (length bytes) 1 ∙ ap (λ (k : ℕ). chars page 1 (take k (drop p s))) (length-take n (drop p s))
+      ∙ ap (chars page 1) (take_min n (drop p s)))
+
+  page_chars : is_ascii bytes ≡ false → text_chars page s (text_of page s p n) ≡ chars page page.alphabet (trimmed page bytes)
+  unfolding text_on trimmed
+  page_chars a =
+      let f = leading (is_blank_in page) bytes in
+      let k = kept (is_blank_in page) bytes in
+      let h : f + (k - f) ≤ n = omega (arith, leading_le (is_blank_in page) bytes, kept_le (is_blank_in page) bytes, length-take n (drop p s)) in
+      rw a
+      (placed_chars page s (p + f) (k - f) page.alphabet
+      ∙ ap (λ (bs : List ℕ). chars page page.alphabet (take (k - f) bs)) (sym (drop-drop f p s))
+      ∙ ap (chars page page.alphabet) (sym (inside f (k - f) n (drop p s) h)))
+
+module _ (page : Page) (bs : List ℕ) where
+  pub decoded_ascii : is_ascii bs ≡ true → decoded page bs ≡ chars page 1 bs
+  decoded_ascii a = ascii_chars page bs 0 (length bs) (rw (take-length bs) a) ∙ ap (chars page 1) (take-length bs)
+
+  pub decoded_page : is_ascii bs ≡ false → decoded page bs ≡ chars page page.alphabet (trimmed page bs)
+  decoded_page a =
+      page_chars page bs 0 (length bs) (rw (take-length bs) a) ∙ ap (λ (l : List ℕ). chars page page.alphabet (trimmed page l)) (take-length bs)
+
+-- the text of a string in a reply has the characters of the text of its bytes alone
+pub decoded_at : (page : Page) (s : List ℕ) (p n : ℕ) → text_chars page s (text_of page s p n) ≡ decoded page (take n (drop p s))
+decoded_at page s p n = go (is_ascii (take n (drop p s))) refl
+  where
+    go : (z : Bool) → is_ascii (take n (drop p s)) ≡ z → text_chars page s (text_of page s p n) ≡ decoded page (take n (drop p s))
+    go true a = ascii_chars page s p n a ∙ sym (decoded_ascii page (take n (drop p s)) a)
+    go false a = page_chars page s p n a ∙ sym (decoded_page page (take n (drop p s)) a)
+
+-- ---- alphabets, and texts without bytes
 
 -- a text that is read has an alphabet: 0 is that of a generated name alone
 pub alphabet_some : (page : Page) → 0 < page.alphabet → (bs : List ℕ) (p : ℕ) → eqb (text_on page bs p).alphabet 0 ≡ false
