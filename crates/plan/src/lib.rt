@@ -109,7 +109,7 @@ fn scan_plan(reply: &[u8]) -> Option<Plan>
     ensures { result ≡ with_columns (scan_plan page037 reply.now) }
 {
     let best = scan::scan_standard_sqldagroups(reply);
-    if best.count == 0 {
+    if best.run.count == 0 {
         return None;
     }
     Some(Plan {
@@ -117,10 +117,7 @@ fn scan_plan(reply: &[u8]) -> Option<Plan>
         alone: true,
         start: best.start,
         limit: 512,
-        run: Run {
-            count: best.count,
-            named: best.named,
-        },
+        run: best.run,
     })
 }
 

@@ -10,13 +10,12 @@ ghost use Rattle.scan.specs.Scan.{score, better, run_from, scan_order, scan_best
 use column::Run;
 use field::ByteOrder;
 
-// A run: where it starts, its byte order, how many columns it has and how many of them have names that are not generated.
+// A run, where it starts and in which byte order.
 #[derive(Clone, Copy, Debug, PartialEq, Eq)]
 pub struct Best {
     pub start: usize,
     pub order: ByteOrder,
-    pub count: usize,
-    pub named: usize,
+    pub run: Run,
 }
 
 // Exact: the Rust's own subtraction overflows where the generated columns outweigh the named ones.
@@ -29,7 +28,7 @@ pub fn exact_score(named: usize, columns: usize, generated: usize) -> i64
 
 // 0 for a run that does not count: one column, or none named.
 #[tactic(auto, unfolding(crate::specs::Scan::score))]
-fn score_of(run: Best) -> i64
+fn score_of(run: Run) -> i64
     requires { Few run }
     ensures { result ≡ score run }
 {
@@ -40,12 +39,12 @@ fn score_of(run: Best) -> i64
 }
 
 // Only a strictly greater score replaces.
-fn better_of(best: Best, run: Best) -> Best
-    requires { (InHand best) × (Few run) }
-    ensures { (result ≡ keep better best run) × (InHand result) }
+fn better_of(best: Best, new: Best) -> Best
+    requires { (InHand best) × (Few new.run) }
+    ensures { (result ≡ keep better best new) × (InHand result) }
 {
-    if score_of(best) < score_of(run) {
-        return run;
+    if score_of(best.run) < score_of(new.run) {
+        return new;
     }
     best
 }
@@ -53,15 +52,10 @@ fn better_of(best: Best, run: Best) -> Best
 #[tactic(auto, unfolding(crate::specs::Scan::run_from))]
 fn run_from(reply: &[u8], order: ByteOrder, start: usize) -> Best
     requires { start ≤ length reply.now }
-    ensures { (result ≡ run_from page037 order reply.now start) × (Few result) }
+    ensures { (result ≡ run_from page037 order reply.now start) × (Few result.run) }
 {
-    let Run { count, named } = descriptor::standard_run(reply, order, 512, start);
-    Best {
-        start,
-        order,
-        count,
-        named,
-    }
+    let run = descriptor::standard_run(reply, order, 512, start);
+    Best { start, order, run }
 }
 
 // One start more. Most have no known SQLTYPE, so no descriptor can be read there: they are passed over before a run is counted.
@@ -92,13 +86,12 @@ fn scan_order(reply: &[u8], order: ByteOrder, from: Best) -> Best
 
 // The best run; one without columns where none counts.
 pub fn scan_standard_sqldagroups(reply: &[u8]) -> Best
-    ensures { (result ≡ scan_best page037 reply.now) × (Few result) }
+    ensures { (result ≡ scan_best page037 reply.now) × (Few result.run) }
 {
     let none = Best {
         start: 0,
         order: ByteOrder::BigEndian,
-        count: 0,
-        named: 0,
+        run: Run { count: 0, named: 0 },
     };
     let best = scan_order(reply, ByteOrder::BigEndian, none);
     scan_order(reply, ByteOrder::LittleEndian, best)
