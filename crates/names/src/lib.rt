@@ -7,7 +7,7 @@ ghost use Rattle.search.specs.Search.{over};
 ghost use Rattle.codepage.specs.Page.{page037};
 ghost use Rattle.outcome.specs.Refusal.{refusal_in};
 ghost use Rattle.names.specs.Names.{column_names, name_scan};
-ghost use Rattle.names.specs.Decision.{names_of, planned, IsPlanOf};
+ghost use Rattle.names.specs.Decision.{names_of, names_of_plan, IsPlanOf};
 
 use listing::{Listed, Rule};
 use name_run::RunNames;
@@ -47,9 +47,9 @@ pub struct Plan<'a> {
 impl<'a> Iterator for Plan<'a> {
     type Item = Text;
 
-    ghost next_gives = { YieldsFirst planned };
+    ghost next_gives = { YieldsFirst names_of_plan };
 
-    ghost remaining = { item_count planned };
+    ghost remaining = { item_count names_of_plan };
 
     fn next(&mut self) -> Option<Text> {
         self.count = self.count.checked_sub(1)?;

@@ -31,7 +31,7 @@ use Rattle.plan.specs.declared.Attempt.TheVariants.{Standard, Compact, Scan}
 use Rattle.plan.specs.Choice.{Reading, reads, refuses, compact_columns, last_columns, last_reading, last_count_at, has_columns, four, choice}
 use Rattle.scan.specs.Scan.{scan_columns}
 use Rattle.planned.specs.Planned.{walk_of, columns_of}
-use Rattle.plan.specs.Plan.{reading_of, planned, empty_plan, counted, Counted, with_columns, standard_plan, compact_plan, scan_plan, last_plan, tried, attempts, plans, plan_of}
+use Rattle.plan.specs.Plan.{reading_of, uncounted, empty_plan, counted, Counted, with_columns, standard_plan, compact_plan, scan_plan, last_plan, tried, attempts, plans, plan_of}
 use Rattle.plan.proofs.Standards.{standard_walk_is}
 
 -- ---- a plan says what it stands for
@@ -63,7 +63,7 @@ module _ (page : Page) (s : List ℕ) where
           (pick x (Err EmptyReply)
           (pick y (Err (BufferTooShort (count_at s) (length s)))
           (pick z (Ok empty_plan)
-          (Ok (counted page s (planned (layouts.Compact ends.Last) false (last_count_at s + 2) (number LittleEndian 2 s (last_count_at s))))))))
+          (Ok (counted page s (uncounted (layouts.Compact ends.Last) false (last_count_at s + 2) (number LittleEndian 2 s (last_count_at s))))))))
       go true y z = tt
       go false true z = tt
       go false false true = counted_none
@@ -219,7 +219,7 @@ module _ (page : Page) (s : List ℕ) where
           (pick x (Err EmptyReply)
           (pick y (Err (BufferTooShort (count_at s) (length s)))
           (pick z (Ok empty_plan)
-          (Ok (counted page s (planned (layouts.Compact ends.Last) false (last_count_at s + 2) (number LittleEndian 2 s (last_count_at s))))))))
+          (Ok (counted page s (uncounted (layouts.Compact ends.Last) false (last_count_at s + 2) (number LittleEndian 2 s (last_count_at s))))))))
           ≡ pick x (refuses (1 ∷ []))
           (pick y (refuses (2 ∷ count_at s ∷ length s ∷ [])) (pick z (reads false []) (reads false (last_columns page s))))
       go true y z = refl

@@ -33,7 +33,7 @@ use Rattle.planned.specs.declared.Plan.{Plan}
 use Rattle.planned.specs.declared.Layout.TheVariants as layouts
 use Rattle.plan.specs.Choice.{last_count_at}
 use Rattle.planned.specs.Planned.{walk_of, columns_of}
-use Rattle.plan.specs.Plan.{planned, plan_with, empty_plan, counted, with_columns, standard_plan, compact_plan, scan_plan, last_plan}
+use Rattle.plan.specs.Plan.{uncounted, plan_with, empty_plan, counted, with_columns, standard_plan, compact_plan, scan_plan, last_plan}
 use Rattle.plan.proofs.Standards.{chain_views, chain_full, gives_not}
 
 -- ---- a plan, if it has columns
@@ -96,7 +96,7 @@ unfolding compact_plan counted columns_of walk_of compact_run
 compact_is page s r t x e f g =
     g
     ∙ (ap (plan_with (layouts.Compact ends.Compact) true t.start t.count) f
-    ∙ ap (λ (u : Table). counted page s (planned (layouts.Compact ends.Compact) true u.start u.count)) e)
+    ∙ ap (λ (u : Table). counted page s (uncounted (layouts.Compact ends.Compact) true u.start u.count)) e)
 
 -- no table, no columns
 pub compact_none : (page : Page) (s : List ℕ) → no_table ≡ table_of s → None ≡ with_columns (compact_plan page s)
@@ -137,7 +137,7 @@ counts_scan page s =
     (counts_run page LittleEndian s)
 
 scan_counted : (page : Page) (s : List ℕ) (b : Best) (n : ℕ) → n ≡ limit_of b → Counts page s b
-    → plan_with (layouts.Standard b.order) true b.start n b.run ≡ counted page s (planned (layouts.Standard b.order) true b.start (limit_of b))
+    → plan_with (layouts.Standard b.order) true b.start n b.run ≡ counted page s (uncounted (layouts.Standard b.order) true b.start (limit_of b))
 unfolding counted columns_of walk_of
 scan_counted page s b n f h = λ i. plan_with (layouts.Standard b.order) true b.start (f i) (h i)
 
@@ -146,7 +146,7 @@ module _ (page : Page) (s : List ℕ) (b : Best) (e : b ≡ scan_best page s) wh
   unfolding scan_plan
   scan_is n f =
       scan_counted page s b n f (subst (Counts page s) (sym e) (counts_scan page s))
-      ∙ ap (λ (x : Best). counted page s (planned (layouts.Standard x.order) true x.start (limit_of x))) e
+      ∙ ap (λ (x : Best). counted page s (uncounted (layouts.Standard x.order) true x.start (limit_of x))) e
 
   pub scan_none : b.run.count ≡ 0 → None ≡ with_columns (scan_plan page s)
   scan_none h = no_columns _ _ (scan_is (limit_of b) refl) h

@@ -27,14 +27,14 @@ pub struct Sqldard {
 }
 
 // What is answered, and the plan of the columns to write.
-#[derive(Clone, Copy)]
+#[derive(Clone, Copy, Debug, PartialEq, Eq)]
 pub struct Decision {
     pub card: SqlCard,
     pub plan: Plan,
 }
 
 // The readings that are tried before the last reader. Each is a function with arguments of its own, so a list of closures would need `dyn`.
-#[derive(Clone, Copy)]
+#[derive(Clone, Copy, Debug, PartialEq, Eq)]
 enum Attempt {
     Standard(ByteOrder),
     Compact,

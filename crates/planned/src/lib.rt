@@ -25,7 +25,7 @@ pub enum Layout {
 
 // The descriptors start at `start`, and at most `limit` are read: `run` says how many can be, and how many of those have names that are not
 // generated. `alone`: the status is read alone on the whole reply, else as the group. A bool, as in the definition of a reading.
-#[derive(Clone, Copy)]
+#[derive(Clone, Copy, Debug, PartialEq, Eq)]
 pub struct Plan {
     pub layout: Layout,
     pub alone: bool,

@@ -8,7 +8,7 @@ use crate::Plan;
 use types::ColumnMetadata;
 
 // Those from number `index` on. The descriptor of the next one starts at `offset`: each is read from where the one before ends.
-#[derive(Clone, Copy)]
+#[derive(Clone, Copy, Debug, PartialEq, Eq)]
 pub struct Columns<'a> {
     reply: &'a [u8],
     plan: Plan,

@@ -70,6 +70,7 @@ fn best_with_start(reply: &[u8], order: ByteOrder, best: Best, start: usize) -> 
     better_of(best, run_from(reply, order, start))
 }
 
+// A `for`, and no `fold` of `0..end`: tried, it takes eight instructions more a start, and its proof says the loop's invariant again.
 fn scan_order(reply: &[u8], order: ByteOrder, from: Best) -> Best
     requires { InHand from }
     ensures { (result ≡ scan_order page037 order reply.now from) × (InHand result) }

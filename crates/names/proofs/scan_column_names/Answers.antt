@@ -2,7 +2,7 @@
 use Rattle.std.proofs.Common.{arith, ap, length, ◌∙◌}
 use Rattle.search.proofs.Writing.{writing_start}
 use Rattle.search.specs.Search.{over}
-use Rattle.names.specs.Decision.{planned}
+use Rattle.names.specs.Decision.{names_of_plan}
 use Rattle.names.proofs.Filling.{filling_more, filling_done}
 use Rattle.names.proofs.scan_column_names.Goals as goal
 
@@ -10,7 +10,7 @@ pub loop-i-init : goal.loop-i-init
 loop-i-init c =
     let e = ap (λ z. z.iter) c.into_iter-i-iterator.ensures.into_iter_gives ∙ c.enumerate-i-items.ensures.source in
     let k = ap (λ z. z.count) c.into_iter-i-iterator.ensures.into_iter_gives ∙ c.enumerate-i-items.ensures.count in
-    record { writing = rw (e, k) (writing_start _ _); counted = omega (arith, k, ap (λ z. length (planned z)) e) }
+    record { writing = rw (e, k) (writing_start _ _); counted = omega (arith, k, ap (λ z. length (names_of_plan z)) e) }
 
 pub loop-i-preserved : goal.loop-i-preserved
 loop-i-preserved c =
