@@ -34,7 +34,7 @@ pub struct Decision {
 }
 
 // The readings that are tried before the last reader. Each is a function with arguments of its own, so a list of closures would need `dyn`.
-#[derive(Clone, Copy, Debug, PartialEq, Eq)]
+#[derive(Clone, Copy)]
 enum Attempt {
     Standard(ByteOrder),
     Compact,
@@ -50,42 +50,103 @@ const ATTEMPTS: [Attempt; 4] = [
 
 impl Attempt {
     // The plan of its columns, if it has any.
-    fn plan(self, reply: &[u8], offset: usize) -> Option<Plan>
-        requires { offset ≡ count_at reply.now }
-        ensures { result ≡ with_columns (tried page037 reply.now self) }
+    fn plan(self, reply: Reply<'_>) -> Option<Plan>
+        ensures { result ≡ with_columns (tried page037 reply.entry.bytes.now self) }
     {
         match self {
-            Attempt::Standard(order) => standard_plan(reply, order, offset),
-            Attempt::Compact => compact_plan(reply),
-            Attempt::Scan => scan_plan(reply),
+            Attempt::Standard(order) => reply.standard_plan(order),
+            Attempt::Compact => compact_plan(reply.bytes),
+            Attempt::Scan => scan_plan(reply.bytes),
         }
     }
 }
 
-// All descriptors that the count announces, or nothing.
-fn standard_plan(reply: &[u8], order: ByteOrder, offset: usize) -> Option<Plan>
-    requires { offset ≡ count_at reply.now }
-    ensures { result ≡ with_columns (standard_plan page037 order reply.now) }
-{
-    if reply.len().checked_sub(offset)? < 2 {
-        return None;
+// A reply, and where the count of its columns stands: for the readings that begin there.
+#[derive(Clone, Copy)]
+struct Reply<'a> {
+    bytes: &'a [u8],
+    offset: usize,
+    ghost counted: { offset ≡ count_at bytes.now },
+}
+
+impl Reply<'_> {
+    // All descriptors that the count announces, or nothing.
+    fn standard_plan(self, order: ByteOrder) -> Option<Plan>
+        ensures { result ≡ with_columns (standard_plan page037 order self.entry.bytes.now) }
+    {
+        let Reply { bytes, offset } = self;
+        if bytes.len().checked_sub(offset)? < 2 {
+            return None;
+        }
+        let limit = field::u16_at(bytes, offset, order);
+        if limit == 0 || limit > 512 {
+            return None;
+        }
+        let start = offset + 2;
+        let run = descriptor::standard_run(bytes, order, limit as usize, start);
+        if run.count != limit as usize {
+            return None;
+        }
+        Some(Plan {
+            layout: Layout::Standard(order),
+            alone: false,
+            start,
+            limit,
+            run,
+        })
     }
-    let limit = field::u16_at(reply, offset, order);
-    if limit == 0 || limit > 512 {
-        return None;
+
+    // A byte FF that was not counted with the groups before stands before the last reader's count.
+    #[tactic(auto, unfolding(crate::specs::Choice::last_count_at))]
+    fn last_count_offset(self) -> usize
+        requires { self.offset + 2 ≤ length self.bytes.now }
+        ensures { (result ≡ last_count_at self.entry.bytes.now) × (result + 2 ≤ length self.entry.bytes.now) }
+    {
+        let Reply { bytes, offset } = self;
+        let count = field::u16_at(bytes, offset, ByteOrder::LittleEndian);
+        if count > 256 && bytes.len() - offset >= 3 && bytes[offset] == 0xFF {
+            return offset + 1;
+        }
+        offset
     }
-    let start = offset + 2;
-    let run = descriptor::standard_run(reply, order, limit as usize, start);
-    if run.count != limit as usize {
-        return None;
+
+    // The only reading that may be refused: it is asked where the four before gave no column. It has none itself where the count is missing.
+    fn last_plan(self) -> Result<Plan, Refusal>
+        ensures { result ≡ last_plan page037 self.entry.bytes.now }
+    {
+        let Reply { bytes, offset } = self;
+        let size = bytes.len();
+        if size == 0 {
+            return Err(Refusal::EmptyReply);
+        }
+        if size < offset {
+            return Err(Refusal::BufferTooShort {
+                expected: offset,
+                actual: size,
+            });
+        }
+        let layout = Layout::Compact(Ends::Last);
+        if size - offset < 2 {
+            return Ok(Plan {
+                layout,
+                alone: false,
+                start: 0,
+                limit: 0,
+                run: Run { count: 0, named: 0 },
+            });
+        }
+        let count_offset = self.last_count_offset();
+        let limit = field::u16_at(bytes, count_offset, ByteOrder::LittleEndian);
+        let start = count_offset + 2;
+        let run = compact::compact_run(Ends::Last, bytes, limit as usize, start);
+        Ok(Plan {
+            layout,
+            alone: false,
+            start,
+            limit,
+            run,
+        })
     }
-    Some(Plan {
-        layout: Layout::Standard(order),
-        alone: false,
-        start,
-        limit,
-        run,
-    })
 }
 
 fn compact_plan(reply: &[u8]) -> Option<Plan>
@@ -121,67 +182,19 @@ fn scan_plan(reply: &[u8]) -> Option<Plan>
     })
 }
 
-// A byte FF that was not counted with the groups before stands before the last reader's count.
-#[tactic(auto, unfolding(crate::specs::Choice::last_count_at))]
-fn last_count_offset(reply: &[u8], offset: usize) -> usize
-    requires { (offset ≡ count_at reply.now) × (offset + 2 ≤ length reply.now) }
-    ensures { (result ≡ last_count_at reply.now) × (result + 2 ≤ length reply.now) }
-{
-    let count = field::u16_at(reply, offset, ByteOrder::LittleEndian);
-    if count > 256 && reply.len() - offset >= 3 && reply[offset] == 0xFF {
-        return offset + 1;
-    }
-    offset
-}
-
-// The only reading that may be refused: it is asked where the four before gave no column. It has none itself where the count is missing.
-fn last_plan(reply: &[u8], offset: usize) -> Result<Plan, Refusal>
-    requires { offset ≡ count_at reply.now }
-    ensures { result ≡ last_plan page037 reply.now }
-{
-    let size = reply.len();
-    if size == 0 {
-        return Err(Refusal::EmptyReply);
-    }
-    if size < offset {
-        return Err(Refusal::BufferTooShort {
-            expected: offset,
-            actual: size,
-        });
-    }
-    let layout = Layout::Compact(Ends::Last);
-    if size - offset < 2 {
-        return Ok(Plan {
-            layout,
-            alone: false,
-            start: 0,
-            limit: 0,
-            run: Run { count: 0, named: 0 },
-        });
-    }
-    let count_offset = last_count_offset(reply, offset);
-    let limit = field::u16_at(reply, count_offset, ByteOrder::LittleEndian);
-    let start = count_offset + 2;
-    let run = compact::compact_run(Ends::Last, reply, limit as usize, start);
-    Ok(Plan {
-        layout,
-        alone: false,
-        start,
-        limit,
-        run,
-    })
-}
-
 // The first reading with a name that is not generated, else the first that has columns, else the last reader's.
 pub fn plan_reply(reply: &[u8]) -> Result<Plan, Refusal>
     requires { length reply.now ≤ 65536 }
     ensures plans { result ≡ plan_of page037 reply.now }
     ensures counts { IfOk result (Counted page037 reply.now) }
 {
-    let offset = descriptor::count_offset(reply);
+    let counted = Reply {
+        bytes: reply,
+        offset: descriptor::count_offset(reply),
+    };
     let mut unnamed = None;
     for attempt in ATTEMPTS {
-        if let Some(plan) = attempt.plan(reply, offset) {
+        if let Some(plan) = attempt.plan(counted) {
             if plan.has_names() {
                 return Ok(plan);
             }
@@ -190,7 +203,7 @@ pub fn plan_reply(reply: &[u8]) -> Result<Plan, Refusal>
     }
     match unnamed {
         Some(plan) => Ok(plan),
-        None => last_plan(reply, offset),
+        None => counted.last_plan(),
     }
 }
 
