@@ -102,6 +102,16 @@ pub fn decide(reply: &[u8], room: usize) -> Result<Plan<'_>, Refusal>
     Ok(plan)
 }
 
+// Writes a plan's names. By places: after a `zip` with the list's `iter_mut` a proof knows nothing of what the list holds (tried).
+fn fill_names(plan: Plan<'_>, names: &mut [Text])
+    requires { length (names_of_plan plan) ≤ length names.old }
+    ensures { names.new ≡ over (names_of_plan plan.entry) names.old }
+{
+    for (i, text) in plan.enumerate() {
+        names[i] = text;
+    }
+}
+
 // The entry name scan: how many names were written. Nothing is written where it refuses.
 pub fn scan_column_names(reply: &[u8], names: &mut [Text]) -> Result<usize, Refusal>
     ensures refuses { refusal_in result ≡ (name_scan page037 (length names.old) reply.now).refusal }
@@ -111,8 +121,6 @@ pub fn scan_column_names(reply: &[u8], names: &mut [Text]) -> Result<usize, Refu
     ensures fills { names.new ≡ over (name_scan page037 (length names.old) reply.now).names names.old }
 {
     let plan = decide(reply, names.len())?;
-    for (i, text) in plan.enumerate() {
-        names[i] = text;
-    }
+    fill_names(plan, names);
     Ok(plan.count)
 }
