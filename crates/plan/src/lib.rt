@@ -71,6 +71,7 @@ struct Reply<'a> {
 
 impl Reply<'_> {
     // All descriptors that the count announces, or nothing.
+    #[tactic(auto, using(crate::proofs::Plans::standard_none, crate::proofs::Plans::standard_few, crate::proofs::Plans::standard_cut, crate::proofs::Plans::standard_is))]
     fn standard_plan(self, order: ByteOrder) -> Option<Plan>
         ensures { result ≡ with_columns (standard_plan page037 order self.entry.bytes.now) }
     {
@@ -111,6 +112,7 @@ impl Reply<'_> {
     }
 
     // The only reading that may be refused: it is asked where the four before gave no column. It has none itself where the count is missing.
+    #[tactic(auto, using(crate::proofs::Plans::last_empty, crate::proofs::Plans::last_early, crate::proofs::Plans::last_none, crate::proofs::Plans::last_is))]
     fn last_plan(self) -> Result<Plan, Refusal>
         ensures { result ≡ last_plan page037 self.entry.bytes.now }
     {
@@ -149,6 +151,7 @@ impl Reply<'_> {
     }
 }
 
+#[tactic(auto, using(crate::proofs::Plans::some_columns, crate::proofs::Plans::no_columns, crate::proofs::Plans::compact_none, crate::proofs::Plans::compact_is))]
 fn compact_plan(reply: &[u8]) -> Option<Plan>
     ensures { result ≡ with_columns (compact_plan page037 reply.now) }
 {
@@ -166,6 +169,7 @@ fn compact_plan(reply: &[u8]) -> Option<Plan>
     })
 }
 
+#[tactic(auto, using(crate::proofs::Plans::scan_none, crate::proofs::Plans::scan_some))]
 fn scan_plan(reply: &[u8]) -> Option<Plan>
     ensures { result ≡ with_columns (scan_plan page037 reply.now) }
 {
@@ -183,6 +187,7 @@ fn scan_plan(reply: &[u8]) -> Option<Plan>
 }
 
 // The first reading with a name that is not generated, else the first that has columns, else the last reader's.
+#[tactic(auto, using(crate::proofs::Choices::undecided_start, crate::proofs::Choices::last_wins, crate::proofs::Choices::result_counted))]
 pub fn plan_reply(reply: &[u8]) -> Result<Plan, Refusal>
     requires { length reply.now ≤ 65536 }
     ensures plans { result ≡ plan_of page037 reply.now }
@@ -208,6 +213,7 @@ pub fn plan_reply(reply: &[u8]) -> Result<Plan, Refusal>
 }
 
 // Compact and scan read the status alone on the whole reply, the others take the group's. A status that is refused is that for success.
+#[tactic(auto, using(crate::proofs::Statuses::alone_status))]
 fn card_by(reply: &[u8], alone: bool) -> SqlCard
     ensures { result ≡ status_of page037 reply.now alone }
 {
@@ -220,6 +226,7 @@ fn card_by(reply: &[u8], alone: bool) -> SqlCard
 }
 
 // Every refusal is decided here, before the list is written.
+#[tactic(auto, using(crate::proofs::Deciding::too_long, crate::proofs::Deciding::not_read, crate::proofs::Deciding::too_short, crate::proofs::Deciding::in_room))]
 pub fn decide(reply: &[u8], room: usize) -> Result<Decision, Refusal>
     ensures { Decides page037 room reply.now result (description page037 room reply.now) }
 {
@@ -235,6 +242,7 @@ pub fn decide(reply: &[u8], room: usize) -> Result<Decision, Refusal>
     Ok(Decision { card, plan })
 }
 
+#[tactic(auto, using(crate::proofs::Deciding::other_point, crate::proofs::Deciding::decides_own))]
 pub fn decide_at(code_point: u16, reply: &[u8], room: usize) -> Result<Decision, Refusal>
     ensures { Decides page037 room reply.now result (with_code_point page037 room code_point reply.now) }
 {

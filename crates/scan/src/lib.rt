@@ -19,6 +19,7 @@ pub struct Best {
 }
 
 // Exact: the Rust's own subtraction overflows where the generated columns outweigh the named ones.
+#[tactic(auto, using(crate::proofs::Scores::minus_is), unfolding(crate::specs::Score::exact_score))]
 pub fn exact_score(named: usize, columns: usize, generated: usize) -> i64
     requires { (named ≤ 512) × ((columns ≤ 512) × (generated ≤ 512)) }
     ensures { result ≡ exact_score named columns generated }
@@ -39,6 +40,7 @@ fn score_of(run: Run) -> i64
 }
 
 // Only a strictly greater score replaces.
+#[tactic(auto, using(crate::proofs::Scores::better_is, crate::proofs::Scans::keep_new, crate::proofs::Scans::keep_old, crate::proofs::Scans::in_hand_new))]
 fn better_of(best: Best, new: Best) -> Best
     requires { (InHand best) × (Few new.run) }
     ensures { (result ≡ keep better best new) × (InHand result) }
@@ -59,6 +61,7 @@ fn run_from(reply: &[u8], order: ByteOrder, start: usize) -> Best
 }
 
 // One start more. Most have no known SQLTYPE, so no descriptor can be read there: they are passed over before a run is counted.
+#[tactic(auto, using(crate::proofs::Scans::start_passed))]
 fn best_with_start(reply: &[u8], order: ByteOrder, best: Best, start: usize) -> Best
     requires start_in_bounds { start + 16 ≤ length reply.now }
     requires in_hand { InHand best }
@@ -71,6 +74,7 @@ fn best_with_start(reply: &[u8], order: ByteOrder, best: Best, start: usize) -> 
 }
 
 // A `for`, and no `fold` of `0..end`: tried, it takes eight instructions more a start, and its proof says the loop's invariant again.
+#[tactic(auto, using(crate::proofs::Scans::scan_short, search::proofs::Best::best_more, search::proofs::Best::best_done), unfolding(crate::specs::Scan::scan_order))]
 fn scan_order(reply: &[u8], order: ByteOrder, from: Best) -> Best
     requires { InHand from }
     ensures { (result ≡ scan_order page037 order reply.now from) × (InHand result) }
@@ -86,6 +90,7 @@ fn scan_order(reply: &[u8], order: ByteOrder, from: Best) -> Best
 }
 
 // The best run; one without columns where none counts.
+#[tactic(auto, unfolding(crate::specs::Scan::scan_best, crate::specs::Scan::score))]
 pub fn scan_standard_sqldagroups(reply: &[u8]) -> Best
     ensures { (result ≡ scan_best page037 reply.now) × (Few result.run) }
 {
