@@ -51,6 +51,7 @@ impl<'a> Iterator for Plan<'a> {
 
     ghost remaining = { item_count names_of_plan };
 
+    #[tactic(auto, using(crate::proofs::Choosing::plan_next))]
     fn next(&mut self) -> Option<Text> {
         self.count = self.count.checked_sub(1)?;
         self.source.next()
@@ -58,6 +59,7 @@ impl<'a> Iterator for Plan<'a> {
 }
 
 // Which of the three lists is taken. A list of candidates counts from two names on, and the second only if it is longer.
+#[tactic(auto, using(crate::proofs::Choosing::names_second, crate::proofs::Choosing::names_first, crate::proofs::Choosing::plan_listed))]
 fn plan_names(reply: &[u8]) -> Plan<'_>
     ensures { IsPlanOf result (column_names page037 reply.now) }
 {
