@@ -1,13 +1,15 @@
 // The name scan for programs that cannot lend a list of texts: each text in 3 words of 64 bits.
 #![tactic(auto)]
 
-ghost use Rattle.std.specs.Prelude.{[], ◌++◌, ◌≡◌, ◌+◌, ◌/◌, ◌≤◌, MatchResult, length, take, drop};
+ghost use Rattle.std.specs.Prelude.{[], ◌++◌, ◌≡◌, ◌+◌, ◌*◌, ◌/◌, ◌≤◌, MatchResult, length, take, drop};
 ghost use Rattle.search.specs.Search.{over};
 ghost use Rattle.codepage.specs.Page.{page037};
 ghost use Rattle.outcome.specs.Refusal.{refusal_in};
+ghost use Rattle.names.specs.Decision.{names_of_plan};
 ghost use Rattle.names.specs.Names.{name_scan};
 ghost use Rattle.name_words.specs.Texts.{words_of_text, text_words};
 
+use names::Plan;
 use outcome::Refusal;
 use text::Text;
 
@@ -23,6 +25,16 @@ fn put_text_words(text: Text, words: &mut [u64], at: usize)
     ]);
 }
 
+// Writes the words of a plan's names. By places, and no `zip` with `chunks_exact_mut`: a proof knows nothing of what is lent out then.
+fn fill_words(plan: Plan<'_>, words: &mut [u64])
+    requires { length (names_of_plan plan) * 3 ≤ length words.old }
+    ensures { words.new ≡ over (text_words (names_of_plan plan.entry)) words.old }
+{
+    for (i, text) in plan.enumerate() {
+        put_text_words(text, words, i * 3);
+    }
+}
+
 // The entry name scan, with room for a text in each 3 words: how many names were written. Nothing is written where it refuses.
 pub fn scan_column_names(reply: &[u8], words: &mut [u64]) -> Result<usize, Refusal>
     ensures refuses { refusal_in result ≡ (name_scan page037 (length words.old / 3) reply.now).refusal }
@@ -32,8 +44,6 @@ pub fn scan_column_names(reply: &[u8], words: &mut [u64]) -> Result<usize, Refus
     ensures fills { words.new ≡ over (text_words (name_scan page037 (length words.old / 3) reply.now).names) words.old }
 {
     let plan = names::decide(reply, words.len() / 3)?;
-    for (i, text) in plan.enumerate() {
-        put_text_words(text, words, i * 3);
-    }
+    fill_words(plan, words);
     Ok(plan.count)
 }

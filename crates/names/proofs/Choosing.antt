@@ -2,7 +2,7 @@
 use mathlib.Core.Path.{◌≡◌, refl, sym, ap, ◌∙◌}
 use mathlib.Core.Bool.{Bool, true, false, false≢true, and-eq-true_iff, ◌&&◌}
 use mathlib.Core.List.{List, []}
-use Prim.Native.Nat.{ℕ, zero, suc, ◌+◌, ◌≤◌, ◌<◌}
+use Prim.Native.Nat.{ℕ, zero, suc, ◌+◌, ◌-◌, ◌≤◌, ◌<◌}
 use native.Mathlib.Numerals.{add-one}
 use native.Mathlib.Omega.{arith}
 use lib.Dec.{ltb, leb}
@@ -27,7 +27,9 @@ use Rattle.name_run.specs.Run.{longest_name_run, names_of_run, names_left}
 use Rattle.name_run.proofs.Runs.{longest_counted}
 use Rattle.names.specs.declared.Source.TheVariants.{Candidates, Layouts}
 use Rattle.names.specs.Names.{chosen_names, column_names}
-use Rattle.names.specs.Decision.{IsPlanOf}
+use Rattle.names.specs.declared.Source.{Source}
+use Rattle.names.specs.declared.Plan.{Plan}
+use Rattle.names.specs.Decision.{names_of, names_of_plan, IsPlanOf}
 
 -- ---- one name of a plan
 
@@ -35,10 +37,10 @@ take_none : (k : ℕ) → take {A = Text} k [] ≡ []
 take_none zero = refl
 take_none (suc k) = refl
 
-pub plan_next : (n k : ℕ) (l m : List Text) (r : Option Text) → n ≡ k + 1 → YieldsFirst (λ (x : List Text). x) l r m
-    → YieldsFirst (λ (x : List Text). x) (take n l) r (take k m)
-plan_next n k l m None e h = (rw (e, add-one k, h.0) refl, rw h.1 (take_none k))
-plan_next n k l m (Some x) e h = rw (e, add-one k, h) refl
+pub plan_next : (p : Plan) (s : Source) (k : ℕ) (r : Option Text) → 1 ≤ p.count → k ≡ p.count - 1 → YieldsFirst names_of p.source r s
+    → YieldsFirst names_of_plan p r (record { source = s; count = k })
+plan_next p s k None i j h = let e : p.count ≡ k + 1 = omega arith in (rw (e, add-one k, h.0) refl, rw h.1 (take_none k))
+plan_next p s k (Some x) i j h = let e : p.count ≡ k + 1 = omega arith in rw (e, add-one k, h) refl
 
 -- ---- the choice
 
@@ -115,10 +117,11 @@ plan_listed s v rule l n names e f g h k =
     record { gives = ap (take n) z ∙ all_of (listed_by s rule) n h ∙ k; counts = h ∙ ap length k }
 
 -- the names of the longest run
-pub plan_run : (s : List ℕ) (run : NameRun) (r : RunNames) (names : List Text) → run ≡ longest_name_run page037 s
+pub plan_run : (s : List ℕ) (run : NameRun) (r : RunNames) → run ≡ longest_name_run page037 s
     → (run.count ≡ length (names_of_run page037 s run) → names_left r ≡ names_of_run page037 s run)
-    → names_of_run page037 s (longest_name_run page037 s) ≡ names → IsPlanOf (record { source = Layouts r; count = run.count }) names
-plan_run s run r names e f g =
+    → names_of_run page037 s (longest_name_run page037 s) ≡ column_names page037 s
+    → IsPlanOf (record { source = Layouts r; count = run.count }) (column_names page037 s)
+plan_run s run r e f g =
     let h : run.count ≡ length (names_of_run page037 s run) = rw e (longest_counted page037 s).0 in
-    let z : names_of_run page037 s run ≡ names = rw e g in
+    let z : names_of_run page037 s run ≡ column_names page037 s = rw e g in
     record { gives = ap (take run.count) (f h) ∙ all_of (names_of_run page037 s run) run.count h ∙ z; counts = h ∙ ap length z }

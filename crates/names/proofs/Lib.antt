@@ -1,4 +1,3 @@
 pub mod Choosing
 pub mod Deciding
 pub mod Cases
-pub mod Filling

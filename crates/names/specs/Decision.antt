@@ -13,10 +13,10 @@ names_of (Candidates names) = to_come names
 names_of (Layouts names) = names_left names
 
 -- the names that a plan has still to give: so many of its source (01, Name scan)
-abbrev pub planned : Plan → List Text
-planned plan = take plan.count (names_of plan.source)
+abbrev pub names_of_plan : Plan → List Text
+names_of_plan plan = take plan.count (names_of plan.source)
 
 -- a plan is of just these names, and says how many they are (01, Name scan)
 pub record IsPlanOf (plan : Plan) (names : List Text) : Type 0 where
-  pub gives : planned plan ≡ names
+  pub gives : names_of_plan plan ≡ names
   pub counts : plan.count ≡ length names

@@ -7,7 +7,7 @@ ghost use Rattle.search.specs.Search.{over};
 ghost use Rattle.codepage.specs.Page.{page037};
 ghost use Rattle.outcome.specs.Refusal.{refusal_in};
 ghost use Rattle.names.specs.Names.{column_names, name_scan};
-ghost use Rattle.names.specs.Decision.{names_of, planned, IsPlanOf};
+ghost use Rattle.names.specs.Decision.{names_of, names_of_plan, IsPlanOf};
 
 use listing::{Listed, Rule};
 use name_run::RunNames;
@@ -47,10 +47,11 @@ pub struct Plan<'a> {
 impl<'a> Iterator for Plan<'a> {
     type Item = Text;
 
-    ghost next_gives = { YieldsFirst planned };
+    ghost next_gives = { YieldsFirst names_of_plan };
 
-    ghost remaining = { item_count planned };
+    ghost remaining = { item_count names_of_plan };
 
+    #[tactic(auto, using(crate::proofs::Choosing::plan_next))]
     fn next(&mut self) -> Option<Text> {
         self.count = self.count.checked_sub(1)?;
         self.source.next()
@@ -58,6 +59,7 @@ impl<'a> Iterator for Plan<'a> {
 }
 
 // Which of the three lists is taken. A list of candidates counts from two names on, and the second only if it is longer.
+#[tactic(auto, using(crate::proofs::Choosing::names_second, crate::proofs::Choosing::names_first, crate::proofs::Choosing::plan_listed))]
 fn plan_names(reply: &[u8]) -> Plan<'_>
     ensures { IsPlanOf result (column_names page037 reply.now) }
 {
@@ -102,6 +104,16 @@ pub fn decide(reply: &[u8], room: usize) -> Result<Plan<'_>, Refusal>
     Ok(plan)
 }
 
+// Writes a plan's names. By places: after a `zip` with the list's `iter_mut` a proof knows nothing of what the list holds (tried).
+fn fill_names(plan: Plan<'_>, names: &mut [Text])
+    requires { length (names_of_plan plan) ≤ length names.old }
+    ensures { names.new ≡ over (names_of_plan plan.entry) names.old }
+{
+    for (i, text) in plan.enumerate() {
+        names[i] = text;
+    }
+}
+
 // The entry name scan: how many names were written. Nothing is written where it refuses.
 pub fn scan_column_names(reply: &[u8], names: &mut [Text]) -> Result<usize, Refusal>
     ensures refuses { refusal_in result ≡ (name_scan page037 (length names.old) reply.now).refusal }
@@ -111,8 +123,6 @@ pub fn scan_column_names(reply: &[u8], names: &mut [Text]) -> Result<usize, Refu
     ensures fills { names.new ≡ over (name_scan page037 (length names.old) reply.now).names names.old }
 {
     let plan = decide(reply, names.len())?;
-    for (i, text) in plan.enumerate() {
-        names[i] = text;
-    }
+    fill_names(plan, names);
     Ok(plan.count)
 }

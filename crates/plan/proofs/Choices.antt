@@ -31,7 +31,7 @@ use Rattle.plan.specs.declared.Attempt.TheVariants.{Standard, Compact, Scan}
 use Rattle.plan.specs.Choice.{Reading, reads, refuses, compact_columns, last_columns, last_reading, last_count_at, has_columns, four, choice}
 use Rattle.scan.specs.Scan.{scan_columns}
 use Rattle.planned.specs.Planned.{walk_of, columns_of}
-use Rattle.plan.specs.Plan.{reading_of, planned, empty_plan, counted, Counted, with_columns, standard_plan, compact_plan, scan_plan, last_plan, tried, attempts, plans, plan_of}
+use Rattle.plan.specs.Plan.{reading_of, uncounted, empty_plan, counted, Counted, with_columns, standard_plan, compact_plan, scan_plan, last_plan, tried, attempts, plans, plan_of}
 use Rattle.plan.proofs.Standards.{standard_walk_is}
 
 -- ---- a plan says what it stands for
@@ -63,7 +63,7 @@ module _ (page : Page) (s : List ℕ) where
           (pick x (Err EmptyReply)
           (pick y (Err (BufferTooShort (count_at s) (length s)))
           (pick z (Ok empty_plan)
-          (Ok (counted page s (planned (layouts.Compact ends.Last) false (last_count_at s + 2) (number LittleEndian 2 s (last_count_at s))))))))
+          (Ok (counted page s (uncounted (layouts.Compact ends.Last) false (last_count_at s + 2) (number LittleEndian 2 s (last_count_at s))))))))
       go true y z = tt
       go false true z = tt
       go false false true = counted_none
@@ -80,11 +80,17 @@ module _ (page : Page) (s : List ℕ) where
   abbrev L : Result Plan Refusal
   L = last_plan page s
 
-  pub counted_plan : Says (plan_of page s)
+  counted_plan : Says (plan_of page s)
   unfolding plan_of
   counted_plan =
       let all : Each Says (plans page s) = each_more (counted_tried (Standard BigEndian)) (each_more (counted_tried Compact) (each_more (counted_tried (Standard LittleEndian)) (each_more (counted_tried Scan) each_none))) in
       first_in_all Says F (first_in G (plans page s) L) all (first_in_all Says G L all counted_last)
+
+  pub plan_counted : (p : Plan) → Ok p ≡ plan_of page s → Counted page s p
+  plan_counted p e = subst Says (sym e) counted_plan
+
+  pub result_counted : (r : Result Plan Refusal) → r ≡ plan_of page s → IfOk r (Counted page s)
+  result_counted r e = subst Says (sym e) counted_plan
 
   module _ (p : Plan) (c : Counted page s p) where
     named_yes : 1 ≤ p.run.named → F (Ok p) ≡ true
@@ -157,10 +163,10 @@ module _ (page : Page) (s : List ℕ) where
       says : Counted page s p
       says = subst (Counted page s) (sym same) (counted_tried a)
 
-      pub named_wins : 1 ≤ p.run.named → (Ok p ≡ plan_of page s) × Counted page s p
+      pub named_wins : 1 ≤ p.run.named → Ok p ≡ plan_of page s
       named_wins n =
           let f : F (Ok (tried page s a)) ≡ true = rw (← same) (named_yes p says n) in
-          (ap (λ (q : Plan). Ok q) same ∙ sym (next ∙ rw f refl), says)
+          ap (λ (q : Plan). Ok q) same ∙ sym (next ∙ rw f refl)
 
       pub unnamed_waits : (1 ≤ p.run.named → ⊥) → (l : Option Plan) → l ≡ option_or k (Some p) → plan_of page s ≡ undecided l xs
       unnamed_waits n l g =
@@ -188,13 +194,11 @@ module _ (page : Page) (s : List ℕ) where
     over : plan_of page s ≡ kept_or k (last_plan page s)
     over = let e : i ≡ 4 = omega arith in u ∙ ap (λ (j : ℕ). undecided k (drop j attempts)) e
 
-    pub first_wins : (p : Plan) → k ≡ Some p → (Ok p ≡ plan_of page s) × Counted page s p
-    first_wins p e = let z : plan_of page s ≡ Ok p = over ∙ ap (λ (j : Option Plan). kept_or j (last_plan page s)) e in (sym z, subst Says z counted_plan)
+    pub first_wins : (p : Plan) → k ≡ Some p → Ok p ≡ plan_of page s
+    first_wins p e = sym (over ∙ ap (λ (j : Option Plan). kept_or j (last_plan page s)) e)
 
-    pub last_wins : (r : Result Plan Refusal) → r ≡ last_plan page s → k ≡ None → (r ≡ plan_of page s) × Says r
-    last_wins r f e =
-        let z : plan_of page s ≡ r = over ∙ (ap (λ (j : Option Plan). kept_or j (last_plan page s)) e ∙ sym f) in
-        (sym z, subst Says z counted_plan)
+    pub last_wins : (r : Result Plan Refusal) → r ≡ last_plan page s → k ≡ None → r ≡ plan_of page s
+    last_wins r f e = f ∙ sym (over ∙ ap (λ (j : Option Plan). kept_or j (last_plan page s)) e)
 
   -- ---- the plan stands for the reading that is chosen
 
@@ -219,7 +223,7 @@ module _ (page : Page) (s : List ℕ) where
           (pick x (Err EmptyReply)
           (pick y (Err (BufferTooShort (count_at s) (length s)))
           (pick z (Ok empty_plan)
-          (Ok (counted page s (planned (layouts.Compact ends.Last) false (last_count_at s + 2) (number LittleEndian 2 s (last_count_at s))))))))
+          (Ok (counted page s (uncounted (layouts.Compact ends.Last) false (last_count_at s + 2) (number LittleEndian 2 s (last_count_at s))))))))
           ≡ pick x (refuses (1 ∷ []))
           (pick y (refuses (2 ∷ count_at s ∷ length s ∷ [])) (pick z (reads false []) (reads false (last_columns page s))))
       go true y z = refl

@@ -11,6 +11,7 @@ use Rattle.search.specs.Search.{pick}
 use Rattle.codepage.specs.Page.{Page}
 use Rattle.outcome.specs.declared.Refusal.{Refusal}
 use Rattle.outcome.specs.Refusal.{accepted, refusal_of}
+use Rattle.sqlcard.specs.declared.SqlCard.{SqlCard}
 use Rattle.planned.specs.declared.Plan.{Plan}
 use Rattle.plan.specs.Choice.{choice}
 use Rattle.planned.specs.Planned.{columns_of}
@@ -58,12 +59,13 @@ module _ (page : Page) (room : ℕ) (s : List ℕ) where
           let l = lt-leb (length (columns_of page s p)) room (rw c.count at k) in
           rw c.count (rw l refl ∙ by_room)
 
-      pub in_room : (d : Decision) → p.run.count ≤ room → d.plan ≡ p → d.card ≡ status_of page s p.alone
-          → CarriesOut page room s d (description page room s)
-      in_room d k f g =
+      pub in_room : (card : SqlCard) → p.run.count ≤ room → card ≡ status_of page s p.alone
+          → CarriesOut page room s (record { card = card; plan = p }) (description page room s)
+      in_room card k g =
+          let d : Decision = record { card = card; plan = p } in
           let l = le-leb (length (columns_of page s p)) room (rw c.count at k) in
           let full : CarriesOut page room s d (record { refusal = accepted; card = status_of page s p.alone; columns = columns_of page s p }) =
-          record { accepts = refl; gives = g; plans = ap (columns_of page s) f; counts = ap (λ (x : Plan). x.run.count) f ∙ c.count; fits = rw (← c.count) k } in
+          record { accepts = refl; gives = g; plans = refl; counts = c.count; fits = rw (← c.count) k } in
           subst (CarriesOut page room s d) (rw l refl ∙ by_room) full
 
 -- with a code point: the same decision under SQLDARD's, else the refusal that names it

@@ -17,7 +17,7 @@ use Rattle.field.specs.Numbers.{number}
 use Rattle.outcome.specs.declared.Refusal.TheVariants.{EmptyReply, BufferTooShort}
 use Rattle.types.specs.declared.ColumnMetadata.{ColumnMetadata}
 use Rattle.column.specs.declared.Run.{Run}
-use Rattle.column.specs.Column.{named_in}
+use Rattle.column.specs.Column.{run_of}
 use Rattle.descriptor.specs.Descriptor.{column_at}
 use Rattle.descriptor.specs.Reading.{count_at, count_in, descriptors_end, start_of, gives}
 use Rattle.descriptor.specs.Run.{standard_walk, standard_run}
@@ -33,7 +33,7 @@ use Rattle.planned.specs.declared.Plan.{Plan}
 use Rattle.planned.specs.declared.Layout.TheVariants as layouts
 use Rattle.plan.specs.Choice.{last_count_at}
 use Rattle.planned.specs.Planned.{walk_of, columns_of}
-use Rattle.plan.specs.Plan.{planned, plan_with, empty_plan, counted, with_columns, standard_plan, compact_plan, scan_plan, last_plan}
+use Rattle.plan.specs.Plan.{uncounted, plan_with, empty_plan, counted, with_columns, standard_plan, compact_plan, scan_plan, last_plan}
 use Rattle.plan.proofs.Standards.{chain_views, chain_full, gives_not}
 
 -- ---- a plan, if it has columns
@@ -96,7 +96,7 @@ unfolding compact_plan counted columns_of walk_of compact_run
 compact_is page s r t x e f g =
     g
     ∙ (ap (plan_with (layouts.Compact ends.Compact) true t.start t.count) f
-    ∙ ap (λ (u : Table). counted page s (planned (layouts.Compact ends.Compact) true u.start u.count)) e)
+    ∙ ap (λ (u : Table). counted page s (uncounted (layouts.Compact ends.Compact) true u.start u.count)) e)
 
 -- no table, no columns
 pub compact_none : (page : Page) (s : List ℕ) → no_table ≡ table_of s → None ≡ with_columns (compact_plan page s)
@@ -106,13 +106,12 @@ compact_none page s e = rw (← e) refl
 -- ---- the scan
 
 -- a run says what the walk from its start finds
-record Counts (page : Page) (s : List ℕ) (x : Best) : Type 0 where
-  count_is : x.count ≡ length (chain (standard_walk page x.order s) (limit_of x) 0 x.start)
-  named_is : x.named ≡ named_in page s (chain (standard_walk page x.order s) (limit_of x) 0 x.start)
+abbrev Counts : Page → List ℕ → Best → Type 0
+Counts page s x = x.run ≡ run_of page s (chain (standard_walk page x.order s) (limit_of x) 0 x.start)
 
 counts_none : (page : Page) (s : List ℕ) → Counts page s no_run
 unfolding chain
-counts_none page s = record { count_is = refl; named_is = refl }
+counts_none page s = refl
 
 -- apart, so that the 512 steps of a run's walk stay folded below
 none_found : (page : Page) (order : ByteOrder) (s : List ℕ) (j : ℕ) → [] ≡ chain (standard_walk page order s) 0 0 j
@@ -124,14 +123,11 @@ unfolding run_from standard_run
 counts_run page order s j = go (chain (standard_walk page order s) 512 0 j) refl
   where
     go : (l : List ColumnMetadata) → chain (standard_walk page order s) 512 0 j ≡ l
-        → Counts page s (record { start = j; order = order; count = length l; named = named_in page s l })
-    go [] e = record { count_is = ap length (none_found page order s j); named_is = ap (named_in page s) (none_found page order s j) }
+        → Counts page s (record { start = j; order = order; run = run_of page s l })
+    go [] e = ap (run_of page s) (none_found page order s j)
     go (x ∷ xs) e =
         let h : leb 1 (length (x ∷ xs)) ≡ true = le-leb 1 (length (x ∷ xs)) (omega arith) in
-        record {
-          count_is = rw (h, e) refl;
-          named_is = rw (h, e) refl;
-        }
+        rw (h, e) refl
 
 counts_scan : (page : Page) (s : List ℕ) → Counts page s (scan_best page s)
 unfolding scan_best scan_order
@@ -141,23 +137,22 @@ counts_scan page s =
     (counts_run page LittleEndian s)
 
 scan_counted : (page : Page) (s : List ℕ) (b : Best) (n : ℕ) → n ≡ limit_of b → Counts page s b
-    → plan_with (layouts.Standard b.order) true b.start n (record { count = b.count; named = b.named })
-    ≡ counted page s (planned (layouts.Standard b.order) true b.start (limit_of b))
+    → plan_with (layouts.Standard b.order) true b.start n b.run ≡ counted page s (uncounted (layouts.Standard b.order) true b.start (limit_of b))
 unfolding counted columns_of walk_of
-scan_counted page s b n f h = λ i. plan_with (layouts.Standard b.order) true b.start (f i) (record { count = h.count_is i; named = h.named_is i })
+scan_counted page s b n f h = λ i. plan_with (layouts.Standard b.order) true b.start (f i) (h i)
 
 module _ (page : Page) (s : List ℕ) (b : Best) (e : b ≡ scan_best page s) where
-  scan_is : (n : ℕ) → n ≡ limit_of b → plan_with (layouts.Standard b.order) true b.start n (record { count = b.count; named = b.named }) ≡ scan_plan page s
+  scan_is : (n : ℕ) → n ≡ limit_of b → plan_with (layouts.Standard b.order) true b.start n b.run ≡ scan_plan page s
   unfolding scan_plan
   scan_is n f =
       scan_counted page s b n f (subst (Counts page s) (sym e) (counts_scan page s))
-      ∙ ap (λ (x : Best). counted page s (planned (layouts.Standard x.order) true x.start (limit_of x))) e
+      ∙ ap (λ (x : Best). counted page s (uncounted (layouts.Standard x.order) true x.start (limit_of x))) e
 
-  pub scan_none : b.count ≡ 0 → None ≡ with_columns (scan_plan page s)
+  pub scan_none : b.run.count ≡ 0 → None ≡ with_columns (scan_plan page s)
   scan_none h = no_columns _ _ (scan_is (limit_of b) refl) h
 
-  pub scan_some : (b.count ≡ 0 → ⊥) → Some (plan_with (layouts.Standard b.order) true b.start 512 (record { count = b.count; named = b.named })) ≡ with_columns (scan_plan page s)
-  scan_some h = some_columns _ _ (scan_is 512 (rw (le-leb 1 b.count (omega arith)) refl)) h
+  pub scan_some : (b.run.count ≡ 0 → ⊥) → Some (plan_with (layouts.Standard b.order) true b.start 512 b.run) ≡ with_columns (scan_plan page s)
+  scan_some h = some_columns _ _ (scan_is 512 (rw (le-leb 1 b.run.count (omega arith)) refl)) h
 
 -- ---- the last reader
 

@@ -32,12 +32,12 @@ abbrev pub plan_with : Layout → Bool → ℕ → ℕ → Run → Plan
 plan_with layout alone p n run = record { layout = layout; alone = alone; start = p; limit = n; run = run }
 
 -- the same, not counted yet (01, Layouts)
-abbrev pub planned : Layout → Bool → ℕ → ℕ → Plan
-planned layout alone p n = plan_with layout alone p n (record { count = 0; named = 0 })
+abbrev pub uncounted : Layout → Bool → ℕ → ℕ → Plan
+uncounted layout alone p n = plan_with layout alone p n (record { count = 0; named = 0 })
 
 -- the plan of a reply without a count for the last reader, which has no columns (01, Layouts)
 abbrev pub empty_plan : Plan
-empty_plan = planned (layouts.Compact ends.Last) false 0 0
+empty_plan = uncounted (layouts.Compact ends.Last) false 0 0
 
 -- counted: with how many columns it stands for, and how many of them have names (01, Choice)
 unfoldable pub counted : Page → List ℕ → Plan → Plan
@@ -55,15 +55,15 @@ with_columns p = pick (leb 1 p.run.count) (Some p) None
 -- the standard reading: all its descriptors, or nothing (01, Choice: standard BE, standard LE)
 unfoldable pub standard_plan : Page → ByteOrder → List ℕ → Plan
 standard_plan page order s =
-    counted page s (planned (layouts.Standard order) false (pick (gives order s) (count_at s + 2) 0) (pick (gives order s) (count_in order s) 0))
+    counted page s (uncounted (layouts.Standard order) false (pick (gives order s) (count_at s + 2) 0) (pick (gives order s) (count_in order s) 0))
 
 -- the compact reading (01, Choice: compact)
 unfoldable pub compact_plan : Page → List ℕ → Plan
-compact_plan page s = counted page s (planned (layouts.Compact ends.Compact) true (table_of s).start (table_of s).count)
+compact_plan page s = counted page s (uncounted (layouts.Compact ends.Compact) true (table_of s).start (table_of s).count)
 
 -- the scan's best run (01, Choice: scan)
 unfoldable pub scan_plan : Page → List ℕ → Plan
-scan_plan page s = counted page s (planned (layouts.Standard (scan_best page s).order) true (scan_best page s).start (limit_of (scan_best page s)))
+scan_plan page s = counted page s (uncounted (layouts.Standard (scan_best page s).order) true (scan_best page s).start (limit_of (scan_best page s)))
 
 -- the last reader (01, Choice; 01, Numbers of refusal: 1 empty, 2 ends early)
 unfoldable pub last_plan : Page → List ℕ → Result Plan Refusal
@@ -71,7 +71,7 @@ last_plan page s =
     pick (eqb (length s) 0) (Err EmptyReply)
     (pick (ltb (length s) (count_at s)) (Err (BufferTooShort (count_at s) (length s)))
     (pick (ltb (length s) (count_at s + 2)) (Ok empty_plan)
-    (Ok (counted page s (planned (layouts.Compact ends.Last) false (last_count_at s + 2) (number LittleEndian 2 s (last_count_at s)))))))
+    (Ok (counted page s (uncounted (layouts.Compact ends.Last) false (last_count_at s + 2) (number LittleEndian 2 s (last_count_at s)))))))
 
 -- the plan of each of the four readings (01, Choice)
 abbrev pub tried : Page → List ℕ → Attempt → Plan

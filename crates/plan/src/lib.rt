@@ -27,7 +27,7 @@ pub struct Sqldard {
 }
 
 // What is answered, and the plan of the columns to write.
-#[derive(Clone, Copy)]
+#[derive(Clone, Copy, Debug, PartialEq, Eq)]
 pub struct Decision {
     pub card: SqlCard,
     pub plan: Plan,
@@ -50,44 +50,108 @@ const ATTEMPTS: [Attempt; 4] = [
 
 impl Attempt {
     // The plan of its columns, if it has any.
-    fn plan(self, reply: &[u8], offset: usize) -> Option<Plan>
-        requires { offset ≡ count_at reply.now }
-        ensures { result ≡ with_columns (tried page037 reply.now self) }
+    fn plan(self, reply: Reply<'_>) -> Option<Plan>
+        ensures { result ≡ with_columns (tried page037 reply.entry.bytes.now self) }
     {
         match self {
-            Attempt::Standard(order) => standard_plan(reply, order, offset),
-            Attempt::Compact => compact_plan(reply),
-            Attempt::Scan => scan_plan(reply),
+            Attempt::Standard(order) => reply.standard_plan(order),
+            Attempt::Compact => compact_plan(reply.bytes),
+            Attempt::Scan => scan_plan(reply.bytes),
         }
     }
 }
 
-// All descriptors that the count announces, or nothing.
-fn standard_plan(reply: &[u8], order: ByteOrder, offset: usize) -> Option<Plan>
-    requires { offset ≡ count_at reply.now }
-    ensures { result ≡ with_columns (standard_plan page037 order reply.now) }
-{
-    if reply.len().checked_sub(offset)? < 2 {
-        return None;
-    }
-    let limit = field::u16_at(reply, offset, order);
-    if limit == 0 || limit > 512 {
-        return None;
-    }
-    let start = offset + 2;
-    let run = descriptor::standard_run(reply, order, limit as usize, start);
-    if run.count != limit as usize {
-        return None;
-    }
-    Some(Plan {
-        layout: Layout::Standard(order),
-        alone: false,
-        start,
-        limit,
-        run,
-    })
+// A reply, and where the count of its columns stands: for the readings that begin there.
+#[derive(Clone, Copy)]
+struct Reply<'a> {
+    bytes: &'a [u8],
+    offset: usize,
+    ghost counted: { offset ≡ count_at bytes.now },
 }
 
+impl Reply<'_> {
+    // All descriptors that the count announces, or nothing.
+    #[tactic(auto, using(crate::proofs::Plans::standard_none, crate::proofs::Plans::standard_few, crate::proofs::Plans::standard_cut, crate::proofs::Plans::standard_is))]
+    fn standard_plan(self, order: ByteOrder) -> Option<Plan>
+        ensures { result ≡ with_columns (standard_plan page037 order self.entry.bytes.now) }
+    {
+        let Reply { bytes, offset } = self;
+        if bytes.len().checked_sub(offset)? < 2 {
+            return None;
+        }
+        let limit = field::u16_at(bytes, offset, order);
+        if limit == 0 || limit > 512 {
+            return None;
+        }
+        let start = offset + 2;
+        let run = descriptor::standard_run(bytes, order, limit as usize, start);
+        if run.count != limit as usize {
+            return None;
+        }
+        Some(Plan {
+            layout: Layout::Standard(order),
+            alone: false,
+            start,
+            limit,
+            run,
+        })
+    }
+
+    // A byte FF that was not counted with the groups before stands before the last reader's count.
+    #[tactic(auto, unfolding(crate::specs::Choice::last_count_at))]
+    fn last_count_offset(self) -> usize
+        requires { self.offset + 2 ≤ length self.bytes.now }
+        ensures { (result ≡ last_count_at self.entry.bytes.now) × (result + 2 ≤ length self.entry.bytes.now) }
+    {
+        let Reply { bytes, offset } = self;
+        let count = field::u16_at(bytes, offset, ByteOrder::LittleEndian);
+        if count > 256 && bytes.len() - offset >= 3 && bytes[offset] == 0xFF {
+            return offset + 1;
+        }
+        offset
+    }
+
+    // The only reading that may be refused: it is asked where the four before gave no column. It has none itself where the count is missing.
+    #[tactic(auto, using(crate::proofs::Plans::last_empty, crate::proofs::Plans::last_early, crate::proofs::Plans::last_none, crate::proofs::Plans::last_is))]
+    fn last_plan(self) -> Result<Plan, Refusal>
+        ensures { result ≡ last_plan page037 self.entry.bytes.now }
+    {
+        let Reply { bytes, offset } = self;
+        let size = bytes.len();
+        if size == 0 {
+            return Err(Refusal::EmptyReply);
+        }
+        if size < offset {
+            return Err(Refusal::BufferTooShort {
+                expected: offset,
+                actual: size,
+            });
+        }
+        let layout = Layout::Compact(Ends::Last);
+        if size - offset < 2 {
+            return Ok(Plan {
+                layout,
+                alone: false,
+                start: 0,
+                limit: 0,
+                run: Run { count: 0, named: 0 },
+            });
+        }
+        let count_offset = self.last_count_offset();
+        let limit = field::u16_at(bytes, count_offset, ByteOrder::LittleEndian);
+        let start = count_offset + 2;
+        let run = compact::compact_run(Ends::Last, bytes, limit as usize, start);
+        Ok(Plan {
+            layout,
+            alone: false,
+            start,
+            limit,
+            run,
+        })
+    }
+}
+
+#[tactic(auto, using(crate::proofs::Plans::some_columns, crate::proofs::Plans::no_columns, crate::proofs::Plans::compact_none, crate::proofs::Plans::compact_is))]
 fn compact_plan(reply: &[u8]) -> Option<Plan>
     ensures { result ≡ with_columns (compact_plan page037 reply.now) }
 {
@@ -105,11 +169,12 @@ fn compact_plan(reply: &[u8]) -> Option<Plan>
     })
 }
 
+#[tactic(auto, using(crate::proofs::Plans::scan_none, crate::proofs::Plans::scan_some))]
 fn scan_plan(reply: &[u8]) -> Option<Plan>
     ensures { result ≡ with_columns (scan_plan page037 reply.now) }
 {
     let best = scan::scan_standard_sqldagroups(reply);
-    if best.count == 0 {
+    if best.run.count == 0 {
         return None;
     }
     Some(Plan {
@@ -117,65 +182,12 @@ fn scan_plan(reply: &[u8]) -> Option<Plan>
         alone: true,
         start: best.start,
         limit: 512,
-        run: Run {
-            count: best.count,
-            named: best.named,
-        },
-    })
-}
-
-// A byte FF that was not counted with the groups before stands before the last reader's count.
-#[tactic(auto, unfolding(crate::specs::Choice::last_count_at))]
-fn last_count_offset(reply: &[u8], offset: usize) -> usize
-    requires { (offset ≡ count_at reply.now) × (offset + 2 ≤ length reply.now) }
-    ensures { (result ≡ last_count_at reply.now) × (result + 2 ≤ length reply.now) }
-{
-    let count = field::u16_at(reply, offset, ByteOrder::LittleEndian);
-    if count > 256 && reply.len() - offset >= 3 && reply[offset] == 0xFF {
-        return offset + 1;
-    }
-    offset
-}
-
-// The only reading that may be refused: it is asked where the four before gave no column. It has none itself where the count is missing.
-fn last_plan(reply: &[u8], offset: usize) -> Result<Plan, Refusal>
-    requires { offset ≡ count_at reply.now }
-    ensures { result ≡ last_plan page037 reply.now }
-{
-    let size = reply.len();
-    if size == 0 {
-        return Err(Refusal::EmptyReply);
-    }
-    if size < offset {
-        return Err(Refusal::BufferTooShort {
-            expected: offset,
-            actual: size,
-        });
-    }
-    let layout = Layout::Compact(Ends::Last);
-    if size - offset < 2 {
-        return Ok(Plan {
-            layout,
-            alone: false,
-            start: 0,
-            limit: 0,
-            run: Run { count: 0, named: 0 },
-        });
-    }
-    let count_offset = last_count_offset(reply, offset);
-    let limit = field::u16_at(reply, count_offset, ByteOrder::LittleEndian);
-    let start = count_offset + 2;
-    let run = compact::compact_run(Ends::Last, reply, limit as usize, start);
-    Ok(Plan {
-        layout,
-        alone: false,
-        start,
-        limit,
-        run,
+        run: best.run,
     })
 }
 
 // The first reading with a name that is not generated, else the first that has columns, else the last reader's.
+#[tactic(auto, using(crate::proofs::Choices::undecided_start, crate::proofs::Choices::last_wins, crate::proofs::Choices::result_counted))]
 pub fn plan_reply(reply: &[u8]) -> Result<Plan, Refusal>
     requires { length reply.now ≤ 65536 }
     ensures plans { result ≡ plan_of page037 reply.now }
@@ -185,9 +197,13 @@ pub fn plan_reply(reply: &[u8]) -> Result<Plan, Refusal>
         Ok(offset) => offset,
         Err(expected) => expected,
     };
+    let counted = Reply {
+        bytes: reply,
+        offset,
+    };
     let mut unnamed = None;
     for attempt in ATTEMPTS {
-        if let Some(plan) = attempt.plan(reply, offset) {
+        if let Some(plan) = attempt.plan(counted) {
             if plan.has_names() {
                 return Ok(plan);
             }
@@ -196,11 +212,12 @@ pub fn plan_reply(reply: &[u8]) -> Result<Plan, Refusal>
     }
     match unnamed {
         Some(plan) => Ok(plan),
-        None => last_plan(reply, offset),
+        None => counted.last_plan(),
     }
 }
 
 // Compact and scan read the status alone on the whole reply, the others take the group's. A status that is refused is that for success.
+#[tactic(auto, using(crate::proofs::Statuses::alone_status))]
 fn card_by(reply: &[u8], alone: bool) -> SqlCard
     ensures { result ≡ status_of page037 reply.now alone }
 {
@@ -213,6 +230,7 @@ fn card_by(reply: &[u8], alone: bool) -> SqlCard
 }
 
 // Every refusal is decided here, before the list is written.
+#[tactic(auto, using(crate::proofs::Deciding::too_long, crate::proofs::Deciding::not_read, crate::proofs::Deciding::too_short, crate::proofs::Deciding::in_room))]
 pub fn decide(reply: &[u8], room: usize) -> Result<Decision, Refusal>
     ensures { Decides page037 room reply.now result (description page037 room reply.now) }
 {
@@ -228,6 +246,7 @@ pub fn decide(reply: &[u8], room: usize) -> Result<Decision, Refusal>
     Ok(Decision { card, plan })
 }
 
+#[tactic(auto, using(crate::proofs::Deciding::other_point, crate::proofs::Deciding::decides_own))]
 pub fn decide_at(code_point: u16, reply: &[u8], room: usize) -> Result<Decision, Refusal>
     ensures { Decides page037 room reply.now result (with_code_point page037 room code_point reply.now) }
 {

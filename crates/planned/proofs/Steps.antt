@@ -11,6 +11,7 @@ use borrow.Author.Tests.{ltb-true, ltb-false}
 use Rattle.search.specs.Search.{pick}
 use Rattle.search.specs.Walks.{Walk, chain}
 use Rattle.codepage.specs.Page.{page037}
+use Rattle.types.specs.declared.ColumnMetadata.{ColumnMetadata}
 use Rattle.planned.specs.declared.reading.Columns.{Columns}
 use Rattle.planned.specs.Planned.{walk_of, Reads}
 use Rattle.planned.specs.Columns.{columns_left}
@@ -50,10 +51,20 @@ module _ {A : Type 0} (w : Walk A) (n i p : ℕ) where
       within false e = absurd (h (past (ltb-false i n e)))
 
 -- the same of an iterator whose count is not reached
-pub next_column : (it : Columns) → (it.index ≡ it.plan.run.count → ⊥)
-    → (it.index < it.plan.limit) × Reads page037 it.reply.now it.plan (it.plan.limit - (it.index + 1)) it.offset
-    × (columns_left it ≡ (walk_of page037 it.reply.now it.plan).view it.index it.offset ((walk_of page037 it.reply.now it.plan).end (it.plan.limit - (it.index + 1)) it.offset)
-    ∷ chain (walk_of page037 it.reply.now it.plan) (it.plan.limit - (it.index + 1)) (it.index + 1) ((walk_of page037 it.reply.now it.plan).end (it.plan.limit - (it.index + 1)) it.offset))
-unfolding columns_left
-next_column it h =
-    some_left (walk_of page037 it.reply.now it.plan) it.plan.limit it.index it.offset (λ e. h (omega (arith, it.counted)))
+module _ (it : Columns) (h : it.index ≡ it.plan.run.count → ⊥) where
+  abbrev walk : Walk ColumnMetadata
+  walk = walk_of page037 it.reply.now it.plan
+
+  left : (length (chain walk (it.plan.limit - it.index) it.index it.offset) ≡ 0 → ⊥)
+  left e = h (omega (arith, it.counted))
+
+  pub next_below : it.index < it.plan.limit
+  next_below = (some_left walk it.plan.limit it.index it.offset left).0
+
+  pub next_reads : Reads page037 it.reply.now it.plan (it.plan.limit - (it.index + 1)) it.offset
+  next_reads = (some_left walk it.plan.limit it.index it.offset left).1
+
+  pub next_left : columns_left it ≡ walk.view it.index it.offset (walk.end (it.plan.limit - (it.index + 1)) it.offset)
+      ∷ chain walk (it.plan.limit - (it.index + 1)) (it.index + 1) (walk.end (it.plan.limit - (it.index + 1)) it.offset)
+  unfolding columns_left
+  next_left = (some_left walk it.plan.limit it.index it.offset left).2

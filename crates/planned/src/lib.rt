@@ -25,7 +25,7 @@ pub enum Layout {
 
 // The descriptors start at `start`, and at most `limit` are read: `run` says how many can be, and how many of those have names that are not
 // generated. `alone`: the status is read alone on the whole reply, else as the group. A bool, as in the definition of a reading.
-#[derive(Clone, Copy)]
+#[derive(Clone, Copy, Debug, PartialEq, Eq)]
 pub struct Plan {
     pub layout: Layout,
     pub alone: bool,
@@ -49,6 +49,7 @@ impl Plan {
 }
 
 // The descriptor at `offset`, with `left` more to come after it. A plan is kept and its layout known only at run time: so a match, and no closure.
+#[tactic(auto, using(crate::proofs::Laws::standard_room, crate::proofs::Laws::compact_room))]
 fn read_descriptor(reply: &[u8], plan: Plan, left: usize, offset: usize) -> Described
     requires { Reads page037 reply.now plan left offset }
     ensures { (result ≡ described_by plan.layout left reply.now offset) × StringsInside reply.now result }
@@ -63,6 +64,7 @@ fn read_descriptor(reply: &[u8], plan: Plan, left: usize, offset: usize) -> Desc
 }
 
 // The core: one column's numbers, and where the next descriptor starts.
+#[tactic(auto, using(crate::proofs::Laws::next_is))]
 pub fn column_numbers(
     reply: &[u8],
     plan: Plan,

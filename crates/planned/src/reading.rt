@@ -8,7 +8,7 @@ use crate::Plan;
 use types::ColumnMetadata;
 
 // Those from number `index` on. The descriptor of the next one starts at `offset`: each is read from where the one before ends.
-#[derive(Clone, Copy)]
+#[derive(Clone, Copy, Debug, PartialEq, Eq)]
 pub struct Columns<'a> {
     reply: &'a [u8],
     plan: Plan,
@@ -20,6 +20,7 @@ pub struct Columns<'a> {
 impl<'a> Columns<'a> {
     ghost use Rattle.planned.specs.Columns.{columns_left};
 
+    #[tactic(auto, unfolding(crate::specs::Planned::columns_of, crate::specs::Columns::columns_left))]
     pub fn new(reply: &'a [u8], plan: Plan) -> Self
         requires { plan.run.count ≡ length (columns_of page037 reply.now plan) }
         ensures { columns_left result ≡ columns_of page037 reply.now plan }
@@ -44,6 +45,7 @@ impl Iterator for Columns<'_> {
     ghost remaining = { item_count columns_left };
 
     #[inline(always)]
+    #[tactic(auto, using(crate::proofs::Steps::next_below, crate::proofs::Steps::next_reads, crate::proofs::Steps::next_left, crate::proofs::Steps::none_left, crate::proofs::Laws::column_view), unfolding(crate::specs::Columns::columns_left))]
     fn next(&mut self) -> Option<ColumnMetadata> {
         let plan = self.plan;
         let index = self.index;

@@ -110,7 +110,7 @@ module _ (page : Page) (s : List ℕ) where
   unfolding scan_columns
   scan_few =
       le_trans (chain_le (standard_walk page (scan_best page s).order s) (limit_of (scan_best page s)) 0 (scan_best page s).start)
-      (go (leb 1 (scan_best page s).count))
+      (go (leb 1 (scan_best page s).run.count))
     where
       go : (b : Bool) → pick b 512 0 ≤ 512
       go true = le_refl 512

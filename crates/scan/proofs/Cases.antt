@@ -23,7 +23,7 @@ unfolding exact_score
 score_of_four = refl
 
 -- which is not taken: no run stays
-pub four_not_taken : keep better no_run (record { start = 7; order = BigEndian; count = 4; named = 1 }) ≡ no_run
+pub four_not_taken : keep better no_run (record { start = 7; order = BigEndian; run = record { count = 4; named = 1 } }) ≡ no_run
 unfolding keep score exact_score
 four_not_taken = refl
 
@@ -32,8 +32,8 @@ not_above : (z : ℤ) → lt_z z z ≡ false
 not_above (pos n) = le-ltb n n (le_refl n)
 not_above (negsuc n) = le-ltb n n (le_refl n)
 
-pub equal_not_taken : (x y : Best) → score y ≡ score x → keep better x y ≡ x
+pub equal_not_taken : (x y : Best) → score y.run ≡ score x.run → keep better x y ≡ x
 unfolding keep
 equal_not_taken x y e =
-    let f : better y x ≡ false = ap (λ (z : ℤ). lt_z (score x) z) e ∙ not_above (score x) in
+    let f : better y x ≡ false = ap (λ (z : ℤ). lt_z (score x.run) z) e ∙ not_above (score x.run) in
     ap (λ (b : Bool). pick b y x) f

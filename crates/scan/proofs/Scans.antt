@@ -42,8 +42,8 @@ greater_not_below (pos m) (pos n) e f = le-ltb n 0 (omega arith)
 greater_not_below (pos m) (negsuc n) e f = absurd (false≢true f)
 greater_not_below (negsuc m) b e f = absurd (false≢true (sym e))
 
-pub in_hand_new : (x y : Best) (b : Bool) → InHand x → Few y → b ≡ better y x → b ≡ true → InHand y
-in_hand_new x y b h k e f = record { few = k; score = greater_not_below (score x) (score y) h.score (sym e ∙ f) }
+pub in_hand_new : (x y : Best) (b : Bool) → InHand x → Few y.run → b ≡ better y x → b ≡ true → InHand y
+in_hand_new x y b h k e f = record { few = k; score = greater_not_below (score x.run) (score y.run) h.score (sym e ∙ f) }
 
 no_steps : {A : Type 0} (w : Walk A) (n p : ℕ) → ((k : ℕ) → w.reads p (w.end k p) ≡ false) → chain w n 0 p ≡ []
 unfolding chain
@@ -61,7 +61,7 @@ module _ (page : Page) (order : ByteOrder) (s : List ℕ) (p : ℕ) (h : p + 16 
   -- and a run without columns has score 0
   not_better : (x : Best) → InHand x → better (run_from page order s p) x ≡ false
   unfolding run_from score
-  not_better x i = ap (λ (r : Run). lt_z (score x) (score (record { start = p; order = order; count = r.count; named = r.named }))) no_run ∙ i.score
+  not_better x i = ap (λ (r : Run). lt_z (score x.run) (score r)) no_run ∙ i.score
 
   pub start_passed : (x : Best) → InHand x → x ≡ keep better x (run_from page order s p)
   start_passed x i = keep_old x (run_from page order s p) false (sym (not_better x i)) refl

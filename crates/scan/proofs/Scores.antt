@@ -10,8 +10,8 @@ use mir.Syntax.{w64}
 use mir.Val.{SFits, to_z, of_z}
 use mir.Facts.{to_z-of_z, to_z_pos}
 use borrow.Author.Tests.{lt-ltb, le-ltb, ltb-true, ltb-false}
-use Rattle.scan.specs.declared.Best.{Best}
-use Rattle.scan.specs.Scan.{score, better}
+use Rattle.column.specs.declared.Run.{Run}
+use Rattle.scan.specs.Scan.{score}
 
 -- ---- the machine's difference
 
@@ -52,7 +52,7 @@ back64 z h = to_z-of_z {w = w64} {z = z} (record { sfits = h })
 -- ---- the score
 
 -- a and b are the machine's scores of x and y
-pub better_is : (x y : Best) (a b : ℤ) → mag a < 0x8000_0000_0000_0000 → mag b < 0x8000_0000_0000_0000 → a ≡ score x → b ≡ score y
-    → lt_z (to_z w64 (of_z w64 b)) (to_z w64 (of_z w64 a)) ≡ better x y
+pub better_is : (x y : Run) (a b : ℤ) → mag a < 0x8000_0000_0000_0000 → mag b < 0x8000_0000_0000_0000 → a ≡ score x → b ≡ score y
+    → lt_z (to_z w64 (of_z w64 b)) (to_z w64 (of_z w64 a)) ≡ lt_z (score y) (score x)
 better_is x y a b k l e f =
     ap (λ (z : ℤ). lt_z z (to_z w64 (of_z w64 a))) (back64 b l ∙ f) ∙ ap (λ (z : ℤ). lt_z (score y) z) (back64 a k ∙ e)

@@ -10,16 +10,16 @@ ghost use Rattle.scan.specs.Scan.{score, better, run_from, scan_order, scan_best
 use column::Run;
 use field::ByteOrder;
 
-// A run: where it starts, its byte order, how many columns it has and how many of them have names that are not generated.
+// A run, where it starts and in which byte order.
 #[derive(Clone, Copy, Debug, PartialEq, Eq)]
 pub struct Best {
     pub start: usize,
     pub order: ByteOrder,
-    pub count: usize,
-    pub named: usize,
+    pub run: Run,
 }
 
 // Exact: the Rust's own subtraction overflows where the generated columns outweigh the named ones.
+#[tactic(auto, using(crate::proofs::Scores::minus_is), unfolding(crate::specs::Score::exact_score))]
 pub fn exact_score(named: usize, columns: usize, generated: usize) -> i64
     requires { (named ≤ 512) × ((columns ≤ 512) × (generated ≤ 512)) }
     ensures { result ≡ exact_score named columns generated }
@@ -29,7 +29,7 @@ pub fn exact_score(named: usize, columns: usize, generated: usize) -> i64
 
 // 0 for a run that does not count: one column, or none named.
 #[tactic(auto, unfolding(crate::specs::Scan::score))]
-fn score_of(run: Best) -> i64
+fn score_of(run: Run) -> i64
     requires { Few run }
     ensures { result ≡ score run }
 {
@@ -40,12 +40,13 @@ fn score_of(run: Best) -> i64
 }
 
 // Only a strictly greater score replaces.
-fn better_of(best: Best, run: Best) -> Best
-    requires { (InHand best) × (Few run) }
-    ensures { (result ≡ keep better best run) × (InHand result) }
+#[tactic(auto, using(crate::proofs::Scores::better_is, crate::proofs::Scans::keep_new, crate::proofs::Scans::keep_old, crate::proofs::Scans::in_hand_new))]
+fn better_of(best: Best, new: Best) -> Best
+    requires { (InHand best) × (Few new.run) }
+    ensures { (result ≡ keep better best new) × (InHand result) }
 {
-    if score_of(best) < score_of(run) {
-        return run;
+    if score_of(best.run) < score_of(new.run) {
+        return new;
     }
     best
 }
@@ -53,18 +54,14 @@ fn better_of(best: Best, run: Best) -> Best
 #[tactic(auto, unfolding(crate::specs::Scan::run_from))]
 fn run_from(reply: &[u8], order: ByteOrder, start: usize) -> Best
     requires { start ≤ length reply.now }
-    ensures { (result ≡ run_from page037 order reply.now start) × (Few result) }
+    ensures { (result ≡ run_from page037 order reply.now start) × (Few result.run) }
 {
-    let Run { count, named } = descriptor::standard_run(reply, order, 512, start);
-    Best {
-        start,
-        order,
-        count,
-        named,
-    }
+    let run = descriptor::standard_run(reply, order, 512, start);
+    Best { start, order, run }
 }
 
 // One start more. Most have no known SQLTYPE, so no descriptor can be read there: they are passed over before a run is counted.
+#[tactic(auto, using(crate::proofs::Scans::start_passed))]
 fn best_with_start(reply: &[u8], order: ByteOrder, best: Best, start: usize) -> Best
     requires start_in_bounds { start + 16 ≤ length reply.now }
     requires in_hand { InHand best }
@@ -76,6 +73,8 @@ fn best_with_start(reply: &[u8], order: ByteOrder, best: Best, start: usize) -> 
     better_of(best, run_from(reply, order, start))
 }
 
+// A `for`, and no `fold` of `0..end`: tried, it takes eight instructions more a start, and its proof says the loop's invariant again.
+#[tactic(auto, using(crate::proofs::Scans::scan_short, search::proofs::Best::best_more, search::proofs::Best::best_done), unfolding(crate::specs::Scan::scan_order))]
 fn scan_order(reply: &[u8], order: ByteOrder, from: Best) -> Best
     requires { InHand from }
     ensures { (result ≡ scan_order page037 order reply.now from) × (InHand result) }
@@ -91,14 +90,14 @@ fn scan_order(reply: &[u8], order: ByteOrder, from: Best) -> Best
 }
 
 // The best run; one without columns where none counts.
+#[tactic(auto, unfolding(crate::specs::Scan::scan_best, crate::specs::Scan::score))]
 pub fn scan_standard_sqldagroups(reply: &[u8]) -> Best
-    ensures { (result ≡ scan_best page037 reply.now) × (Few result) }
+    ensures { (result ≡ scan_best page037 reply.now) × (Few result.run) }
 {
     let none = Best {
         start: 0,
         order: ByteOrder::BigEndian,
-        count: 0,
-        named: 0,
+        run: Run { count: 0, named: 0 },
     };
     let best = scan_order(reply, ByteOrder::BigEndian, none);
     scan_order(reply, ByteOrder::LittleEndian, best)

@@ -1,35 +1,7 @@
--- Each turn stores the words of the next name.
-use Rattle.std.proofs.Common.{arith, ap, length, ◌∙◌}
-use Rattle.search.proofs.Writing.{writing_start}
-use Rattle.search.specs.Search.{over}
-use Rattle.names.specs.Decision.{planned}
-use Rattle.name_words.specs.Texts.{text_words}
-use Rattle.name_words.proofs.Filling.{filling_none, filling_more, filling_done}
+-- No name has no words.
+use mathlib.Core.List.{flat_map}
 use Rattle.name_words.proofs.scan_column_names.Goals as goal
 
 pub returns-in_err-plan-clause-fills : goal.returns-in_err-plan-clause-fills
-returns-in_err-plan-clause-fills c = filling_none _ _ c.in_err-plan.ensures.plans
-
-pub loop-i-init : goal.loop-i-init
-loop-i-init c =
-    let e = ap (λ z. z.iter) c.into_iter-i-iterator.ensures.into_iter_gives ∙ c.enumerate-i-items.ensures.source in
-    let k = ap (λ z. z.count) c.into_iter-i-iterator.ensures.into_iter_gives ∙ c.enumerate-i-items.ensures.count in
-    record { writing = rw (e, k) (writing_start _ _); counted = omega (arith, k, ap (λ z. length (planned z)) e) }
-
-pub loop-i-preserved : goal.loop-i-preserved
-loop-i-preserved c =
-    let i = c.loop-i.invariant in
-    let s = c.in-Some.ensures.steps in
-    let p = c.in_ok-plan.ensures.plans in
-    record {
-      writing =
-          filling_more _ _ _ _ _ _ _ _ _ _ i.writing s.0 s.1 s.2
-          (omega (arith, i.counted, ap length s.0, s.1, ap length p.0.gives, p.0.counts, p.1, c.loop-i.auto.words))
-          c.put_text_words.ensures;
-      counted = omega (arith, i.counted, ap length s.0, s.2);
-    }
-
-pub returns-clause-fills : goal.returns-clause-fills
-returns-clause-fills c =
-    filling_done _ _ _ _ _ c.loop-i.invariant.writing c.in-None.ensures.steps.0.0 c.loop-i.invariant.counted
-    ∙ ap (λ l. over (text_words l) c.args.words.now) c.in_ok-plan.ensures.plans.0.gives
+unfolding flat_map
+returns-in_err-plan-clause-fills c = rw c.in_err-plan.ensures.plans

@@ -1,17 +1,14 @@
--- One attempt after the other: the first with a name wins, else the first with columns, else the last reader.
+-- One attempt after the other: the first with a name wins, else the first with columns.
 use Rattle.std.proofs.Common.{◌∙◌, refl}
 use Rattle.codepage.specs.Page.{page037}
-use Rattle.plan.proofs.Choices.{undecided_start, named_wins, unnamed_waits, none_waits, first_wins, last_wins}
+use Rattle.plan.proofs.Choices.{named_wins, unnamed_waits, none_waits, first_wins, plan_counted}
 use Rattle.plan.proofs.plan_reply.Goals as goal
 use Rattle.plan.proofs.plan_reply.Goals.{in-Some+else-has_names, in_default}
 
-pub loop-attempt-init : goal.loop-attempt-init
-loop-attempt-init c = undecided_start page037 _
-
 pub returns-then-has_names : goal.returns-then-has_names
 returns-then-has_names c =
-    let t = named_wins page037 _ _ _ _ c.loop-attempt-test.true c.loop-attempt.invariant _ c.in-Some.ensures (c.if-has_names.ensures.0 refl) in
-    record { plans = t.0; counts = t.1 }
+    let plans = named_wins page037 _ _ _ _ c.loop-attempt-test.true c.loop-attempt.invariant _ c.in-Some.ensures (c.if-has_names.ensures.0 refl) in
+    record { plans = plans; counts = plan_counted page037 _ _ plans }
 
 pub loop-attempt-preserved : goal.loop-attempt-preserved
 loop-attempt-preserved c =
@@ -23,10 +20,5 @@ loop-attempt-preserved c =
 
 pub returns-in-Some-unnamed : goal.returns-in-Some-unnamed
 returns-in-Some-unnamed c =
-    let t = first_wins page037 _ _ _ c.loop-attempt-test.false c.loop-attempt.auto.attempt-index-end c.loop-attempt.invariant _ c.in-Some-unnamed.is in
-    record { plans = t.0; counts = t.1 }
-
-pub returns-in-None : goal.returns-in-None
-returns-in-None c =
-    let t = last_wins page037 _ _ _ c.loop-attempt-test.false c.loop-attempt.auto.attempt-index-end c.loop-attempt.invariant _ c.last_plan.ensures c.in-None.is in
-    record { plans = t.0; counts = t.1 }
+    let plans = first_wins page037 _ _ _ c.loop-attempt-test.false c.loop-attempt.auto.attempt-index-end c.loop-attempt.invariant _ c.in-Some-unnamed.is in
+    record { plans = plans; counts = plan_counted page037 _ _ plans }
