@@ -5,12 +5,14 @@ ghost use Rattle.std.specs.Prelude.{◌≡◌, ◌≤◌, length, drop, IfOk};
 ghost use Rattle.codepage.specs.Page.{page037};
 ghost use Rattle.outcome.specs.Refusal.{refusal_in};
 ghost use Rattle.outcome.specs.Room.{room_refusal, room_length, room_written};
+ghost use Rattle.text.specs.Alphabet.{alphabet_number};
 ghost use Rattle.text.specs.Chars.{chars};
 ghost use Rattle.column_name.specs.Part.{part_refusal, part_of};
 ghost use Rattle.column_name.specs.Name.{generated_name, given_refusal, given_length, given_written, name_refusal, name_length, name_written};
 
+use decimal::Digits;
 use outcome::Refusal;
-use text::Text;
+use text::{Alphabet, Text};
 use types::ColumnMetadata;
 
 // The bytes of a name in the reply: a generated one has none, whatever its place and length.
@@ -45,53 +47,28 @@ pub fn name_part<'a>(reply: &'a [u8], column: ColumnMetadata) -> Result<&'a [u8]
     part_bytes(reply, column.name)
 }
 
-// The generated name of a column: its characters end where the array ends.
-#[derive(Clone, Copy, Debug, PartialEq, Eq)]
-struct Generated {
-    characters: [u8; 24],
-    start: usize,
-    ghost within: { start ≤ length characters },
-}
-
-impl Generated {
-    fn as_bytes(&self) -> &[u8]
-        ensures { result.now ≡ drop self.now.start self.now.characters }
-    {
-        &self.characters[self.start..]
-    }
-}
-
-#[tactic(auto, using(crate::proofs::Letters::col_before))]
-fn generated_name(number: u16) -> Generated
+// The generated name of a column.
+#[tactic(auto, unfolding(crate::specs::Name::generated_name))]
+fn generated_name(number: u16) -> Digits
     ensures { drop result.start result.characters ≡ generated_name number }
 {
-    let digits = decimal::digits_of(number as u64 + 1);
-    let start = digits.start;
-    let mut characters = digits.characters;
-    characters[start - 1] = b'L';
-    characters[start - 2] = b'O';
-    characters[start - 3] = b'C';
-    Generated {
-        characters,
-        start: start - 3,
-    }
+    decimal::digits_of(u64::from(number) + 1).preceded_by(b"COL")
 }
 
 // Writes the characters of a text over the buffer's front, where there is room for them, and says how many they are.
 #[tactic(auto, unfolding(outcome::specs::Room::room_refusal, outcome::specs::Room::room_length, outcome::specs::Room::room_written), using(crate::proofs::Written::chars_length, crate::proofs::Written::chars_page, crate::proofs::Written::chars_other))]
-fn write_text(bytes: &[u8], alphabet: u8, buffer: &mut [u8]) -> Result<usize, Refusal>
-    ensures refuses { refusal_in result ≡ room_refusal (chars page037 alphabet bytes.now) (length buffer.old) }
-    ensures gives { IfOk result (λ n. n ≡ room_length (chars page037 alphabet bytes.now) (length buffer.old)) }
-    ensures leaves { buffer.new ≡ room_written (chars page037 alphabet bytes.now) buffer.old }
+fn write_text(bytes: &[u8], alphabet: Alphabet, buffer: &mut [u8]) -> Result<usize, Refusal>
+    ensures refuses { refusal_in result ≡ room_refusal (chars page037 (alphabet_number alphabet) bytes.now) (length buffer.old) }
+    ensures gives { IfOk result (λ n. n ≡ room_length (chars page037 (alphabet_number alphabet) bytes.now) (length buffer.old)) }
+    ensures leaves { buffer.new ≡ room_written (chars page037 (alphabet_number alphabet) bytes.now) buffer.old }
 {
     let needed = bytes.len();
     if buffer.len() < needed {
         return Err(Refusal::RoomTooShort { needed });
     }
-    if alphabet == 2 {
-        codepage::write_chars(bytes, buffer);
-    } else {
-        buffer[..needed].copy_from_slice(bytes);
+    match alphabet {
+        Alphabet::Ascii => buffer[..needed].copy_from_slice(bytes),
+        Alphabet::Page037 => codepage::write_chars(bytes, buffer),
     }
     Ok(needed)
 }
@@ -109,10 +86,10 @@ pub fn given_text(
     ensures leaves { buffer.new ≡ given_written page037 reply.now number text buffer.old }
 {
     let bytes = part_bytes(reply, text)?;
-    if text.alphabet == 0 {
-        return write_text(generated_name(number).as_bytes(), 1, buffer);
+    match text.alphabet {
+        0 => write_text(generated_name(number).as_bytes(), Alphabet::Ascii, buffer),
+        alphabet => write_text(bytes, Alphabet::from(alphabet), buffer),
     }
-    write_text(bytes, text.alphabet, buffer)
 }
 
 // The entry name text.

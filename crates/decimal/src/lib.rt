@@ -1,7 +1,7 @@
-// Numbers in decimal: as characters to write letters or a sign before, and over the front of a lent buffer.
+// Numbers in decimal: as characters, which letters can be put before, and over the front of a lent buffer.
 #![tactic(auto)]
 
-ghost use Rattle.std.specs.Prelude.{◌≡◌, ◌≤◌, ◌<◌, length, drop, MatchOption};
+ghost use Rattle.std.specs.Prelude.{◌++◌, ◌≡◌, ◌≤◌, ◌<◌, length, drop, MatchOption};
 ghost use Rattle.outcome.specs.Room.{room_written};
 ghost use Rattle.decimal.specs.Decimal.{digit_of, decimal_of, Spells};
 
@@ -11,7 +11,7 @@ fn digit(number: u64) -> u8
     (0x30 + number % 10) as u8
 }
 
-// The digits end where the array ends, so that letters or a sign can be put before them.
+// The digits end where the array ends, so that letters can be put before them.
 #[derive(Clone, Copy, Debug)]
 pub struct Digits {
     pub characters: [u8; 24],
@@ -24,6 +24,17 @@ impl Digits {
         ensures { result.now ≡ drop self.now.start self.now.characters }
     {
         &self.characters[self.start..]
+    }
+
+    // The same with letters before them.
+    pub fn preceded_by<const N: usize>(self, letters: &[u8; N]) -> Self
+        requires { N ≤ self.start }
+        ensures { drop result.start result.characters ≡ letters.now ++ drop self.start self.characters }
+    {
+        let start = self.start - N;
+        let mut characters = self.characters;
+        characters[start..self.start].copy_from_slice(letters);
+        Digits { characters, start }
     }
 }
 

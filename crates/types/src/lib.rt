@@ -148,10 +148,8 @@ impl TypeRow {
 pub fn find_type(base: u16) -> Option<TypeRow>
     ensures { MatchOption result (lookup base ≡ unknown_row) (λ row. (row ≡ lookup base) × (0 < row.base)) }
 {
-    for row in &TYPES {
-        if row.base == base {
-            return Some(*row);
-        }
+    match TYPES.binary_search_by_key(&base, |row| row.base) {
+        Ok(at) => Some(TYPES[at]),
+        Err(_) => None,
     }
-    None
 }

@@ -1,34 +1,19 @@
--- A row that fits is the first that does; past the last, none does.
-use Rattle.std.proofs.Common.{refl, sym, eqb, eq-eqb}
-use borrow.Author.Tests.{ne_eqb}
-use lib.Dec.{ltb→lt}
-use Rattle.search.proofs.First.{first_in_more, first_in_found, first_in_done}
-use Rattle.search.proofs.Tests.{each_at}
-use Rattle.types.specs.Rows.{type_rows, unknown_row, lookup}
+-- The key of a row is its base type: what the search by halves ends at is the row, or the place that it would have.
+use Rattle.std.proofs.Common.{rules}
+use Rattle.std.proofs.lemmas.List.Sorted.{answers_always}
+use Rattle.types.specs.Rows.{type_rows}
 use Rattle.types.specs.declared.TypeRow.{TypeRow}
-use Rattle.types.proofs.Rows.{has_base, rows_known}
+use Rattle.types.proofs.Rows.{row_found, row_missing}
 use Rattle.types.proofs.find_type.Goals as goal
 
-pub loop-row-init : goal.loop-row-init
-unfolding lookup
-loop-row-init c = refl
-
-pub returns-then-row-base : goal.returns-then-row-base
+pub returns-in-Ok : goal.returns-in-Ok
 unfolding type_rows
-returns-then-row-base c = (
-  first_in_found (λ (r : TypeRow). eqb r.base c.args.base) type_rows unknown_row _ c.loop-row.row-index (lookup c.args.base) c.loop-row.invariant
-      c.loop-row-test.true (eq-eqb _ _ c.if-row-base.true),
-  ltb→lt 0 _ (each_at has_base type_rows _ rows_known c.loop-row.row-index c.loop-row-test.true),
-)
+returns-in-Ok c =
+    row_found c.args.base c.in-Ok.at _ c.in-Ok.ensures.bound
+    (c.in-Ok.ensures.position (λ (r : TypeRow). r.base) (answers_always _ _ _ (λ f a r g called. search rules)))
 
-pub loop-row-preserved : goal.loop-row-preserved
+pub returns-in-Err : goal.returns-in-Err
 unfolding type_rows
-loop-row-preserved c =
-    first_in_more (λ (r : TypeRow). eqb r.base c.args.base) type_rows unknown_row _ c.loop-row.row-index (lookup c.args.base)
-    c.loop-row.invariant c.loop-row-test.true (ne_eqb _ _ c.if-row-base.false)
-
-pub returns : goal.returns
-unfolding type_rows
-returns c =
-    sym (first_in_done (λ (r : TypeRow). eqb r.base c.args.base) type_rows unknown_row unknown_row c.loop-row.row-index (lookup c.args.base)
-    c.loop-row.invariant c.loop-row-test.false)
+returns-in-Err c =
+    row_missing c.args.base _ c.in-Err.ensures.bound
+    (c.in-Err.ensures.position (λ (r : TypeRow). r.base) (answers_always _ _ _ (λ f a r g called. search rules)))
