@@ -1,14 +1,18 @@
 // The entries that list columns: D, L, P and d.
+use crate::cards::Status;
 use crate::cases::Print;
+use crate::column_list;
 use crate::instead::{Instead, accepted};
-use crate::lent::{Lent, MARKED_WORD, untouched};
+use crate::lent::{Lent, MARKED_WORD, marked, untouched};
 use crate::payload::Payload;
-use crate::{cards, column_list};
+use column_words::WORDS_PER_COLUMN;
 use sqldard_words::SqldardResult;
 use std::io::Write;
 
-// The records that are lent at most.
+// The records that are lent at most, and their words.
 const RECORDS: u16 = 4096;
+
+const WORDS: usize = 90_112;
 
 // `OK n=COUNT`, then the status and the columns, or the places of their texts.
 fn put_described(
@@ -20,29 +24,20 @@ fn put_described(
     room: &mut [u8],
 ) -> Result<(), Instead> {
     let count = answer.count;
-    let used = count.checked_mul(22).ok_or(Instead::Touched)?;
+    let used = count.checked_mul(WORDS_PER_COLUMN).ok_or(Instead::Touched)?;
     untouched(words, used, MARKED_WORD)?;
     accepted(answer.refusal)?;
+    let (columns, _) = words.as_chunks::<WORDS_PER_COLUMN>();
+    let columns = columns.get(..count).ok_or(Instead::Touched)?;
     write!(out, "OK n={count}")?;
     match print {
-        Print::Places => column_list::put_all_places(out, words, count)?,
+        Print::Places => column_list::put_all_places(out, columns)?,
         Print::Characters => {
-            cards::put_status(out, reply, answer.card, room)?;
-            column_list::put_columns(out, reply, words, count, room)?;
+            write!(out, " {}", Status::new(reply, answer.card, room))?;
+            column_list::put_columns(out, reply, columns, room)?;
         }
     }
     Ok(())
-}
-
-// The words of as many records, marked.
-fn marked(words: &mut [u64], records: u16) -> Result<&mut [u64], Instead> {
-    if RECORDS < records {
-        return Err(Instead::Bad);
-    }
-    let end = 22 * usize::from(records);
-    let words = words.get_mut(..end).ok_or(Instead::Bad)?;
-    words.fill(MARKED_WORD);
-    Ok(words)
 }
 
 // A description for which as many records are lent.
@@ -53,7 +48,14 @@ fn put_list(
     records: u16,
     lent: &mut Lent,
 ) -> Result<(), Instead> {
-    let words = marked(&mut lent.words, records)?;
+    if RECORDS < records {
+        return Err(Instead::Bad);
+    }
+    let words = marked(
+        &mut lent.words,
+        WORDS_PER_COLUMN * usize::from(records),
+        MARKED_WORD,
+    )?;
     let answer = entries::description::parse_sqldard_data(reply, words);
     put_described(out, print, reply, answer, words, &mut lent.text)
 }
@@ -88,7 +90,7 @@ pub(crate) fn put_with_code_point(
     let mut payload = Payload::new(payload);
     let code_point = payload.u16()?;
     let reply = payload.rest;
-    let words = marked(&mut lent.words, RECORDS)?;
+    let words = marked(&mut lent.words, WORDS, MARKED_WORD)?;
     let answer = entries::description::parse_sqldard(code_point, reply, words);
     put_described(out, Print::Characters, reply, answer, words, &mut lent.text)
 }

@@ -1,6 +1,7 @@
 // What a line has instead of an answer: every entry tells it before it writes anything.
 use outcome::RefusalNumbers;
-use std::io;
+use std::io::Write;
+use std::{fmt, io};
 
 #[derive(Debug, Drop)]
 pub(crate) enum Instead {
@@ -25,4 +26,15 @@ pub(crate) fn accepted(refusal: RefusalNumbers) -> Result<(), Instead> {
     } else {
         Ok(())
     }
+}
+
+// `OK` and the answer, where nothing is refused.
+pub(crate) fn put_ok(
+    out: &mut impl Write,
+    refusal: RefusalNumbers,
+    answer: impl fmt::Display + Copy,
+) -> Result<(), Instead> {
+    accepted(refusal)?;
+    write!(out, "OK {answer}")?;
+    Ok(())
 }

@@ -22,6 +22,15 @@ impl Lent {
     }
 }
 
+// The first `count` elements of what is lent, marked.
+pub(crate) fn marked<T: Copy>(lent: &mut [T], count: usize, mark: T) -> Result<&mut [T], Instead>
+    requires { T.is_infallible mark }
+{
+    let lent = lent.get_mut(..count).ok_or(Instead::Bad)?;
+    lent.fill(mark);
+    Ok(lent)
+}
+
 // Whether all behind the first `count` elements is as it was marked.
 pub(crate) fn untouched<T: PartialEq + Copy>(
     lent: &[T],

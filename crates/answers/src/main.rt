@@ -18,6 +18,7 @@ mod type_values;
 use cases::{Case, Entry};
 use instead::Instead;
 use lent::Lent;
+use lists::{Records, Replies};
 use std::io;
 use std::io::{BufReader, BufWriter, Read, Write};
 
@@ -35,10 +36,10 @@ fn put_answer(out: &mut impl Write, case: Case, lent: &mut Lent) -> Result<(), I
         Entry::MessageText => texts::put_message_text(out, payload, lent),
         Entry::NameText => texts::put_name_text(out, payload, lent),
         Entry::NamePart => texts::put_name_part(out, payload),
-        Entry::SameCut => lists::put_same_cut(out, payload, lent),
-        Entry::WidestRow => lists::put_widest_row(out, payload, lent),
-        Entry::RecordsCut => lists::put_same_cut_of_records(out, payload, lent),
-        Entry::RecordsRow => lists::put_widest_row_of_records(out, payload, lent),
+        Entry::SameCut => lists::put_same_cut::<Replies>(out, payload, lent),
+        Entry::WidestRow => lists::put_widest_row::<Replies>(out, payload, lent),
+        Entry::RecordsCut => lists::put_same_cut::<Records>(out, payload, lent),
+        Entry::RecordsRow => lists::put_widest_row::<Records>(out, payload, lent),
     }
 }
 

@@ -1,6 +1,6 @@
 // Texts in lines, and the entries that give a text, written into what they are lent, or a part of the reply: M, T and U.
-use crate::instead::{Instead, accepted};
-use crate::lent::{Lent, MARK, untouched};
+use crate::instead::{Instead, put_ok};
+use crate::lent::{Lent, MARK, marked, untouched};
 use crate::payload::Payload;
 use entries::CountResult;
 use output::Hex;
@@ -21,15 +21,31 @@ impl fmt::Display for HexIfAny<'_> {
     }
 }
 
+// `place/length`.
+#[derive(Clone, Copy)]
+pub(crate) struct Span {
+    pub place: usize,
+    pub length: usize,
+}
+
+impl fmt::Display for Span {
+    fn fmt<W: fmt::Write>(&self, f: &mut fmt::Formatter<W>) -> fmt::Result {
+        let Span { place, length } = *self;
+        write!(f, "{place}/{length}")
+    }
+}
+
 // `place/length/alphabet`.
 #[derive(Clone, Copy)]
 pub(crate) struct Place(pub Text);
 
 impl fmt::Display for Place {
     fn fmt<W: fmt::Write>(&self, f: &mut fmt::Formatter<W>) -> fmt::Result {
-        let place = self.0.place;
-        let length = self.0.length;
-        let alphabet = self.0.alphabet;
+        let Text {
+            place,
+            length,
+            alphabet,
+        } = self.0;
         write!(f, "{place}/{length}/{alphabet}")
     }
 }
@@ -74,9 +90,7 @@ pub(crate) fn message<'a>(
 // The text in what was lent and marked.
 fn put_lent(out: &mut impl Write, lent: &[u8], answer: CountResult) -> Result<(), Instead> {
     untouched(lent, answer.count, MARK)?;
-    accepted(answer.refusal)?;
-    write!(out, "OK {}", HexIfAny(lent.get(..answer.count)))?;
-    Ok(())
+    put_ok(out, answer.refusal, HexIfAny(lent.get(..answer.count)))
 }
 
 // M: a message's text. In front of the reply stand its place, its length and how many bytes are lent.
@@ -89,12 +103,7 @@ pub(crate) fn put_message_text(
     let place = payload.u32()? as usize;
     let length = payload.u32()? as usize;
     let count = usize::from(payload.u16()?);
-    let room = lent
-        .text
-        .as_mut_slice()
-        .get_mut(..count)
-        .ok_or(Instead::Bad)?;
-    room.fill(MARK);
+    let room = marked(&mut lent.text, count, MARK)?;
     let answer = entries::texts::message_text(payload.rest, place, length, room);
     put_lent(out, room, answer)
 }
@@ -124,12 +133,7 @@ pub(crate) fn put_name_text(
     let mut payload = Payload::new(payload);
     let (number, name) = named(&mut payload)?;
     let count = usize::from(payload.u16()?);
-    let room = lent
-        .text
-        .as_mut_slice()
-        .get_mut(..count)
-        .ok_or(Instead::Bad)?;
-    room.fill(MARK);
+    let room = marked(&mut lent.text, count, MARK)?;
     let answer = entries::texts::name_text(
         payload.rest,
         number,
@@ -146,9 +150,9 @@ pub(crate) fn put_name_part(out: &mut impl Write, payload: &[u8]) -> Result<(), 
     let mut payload = Payload::new(payload);
     let (_, name) = named(&mut payload)?;
     let answer = entries::texts::name_part(payload.rest, name.place, name.length, name.alphabet);
-    accepted(answer.refusal)?;
-    let place = answer.place;
-    let length = answer.length;
-    write!(out, "OK {place}/{length}")?;
-    Ok(())
+    let part = Span {
+        place: answer.place,
+        length: answer.length,
+    };
+    put_ok(out, answer.refusal, part)
 }

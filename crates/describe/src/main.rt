@@ -5,6 +5,7 @@ mod status;
 mod table;
 mod texts;
 
+use column_words::WORDS_PER_COLUMN;
 use std::io;
 use std::io::{BufWriter, Write};
 use texts::Texts;
@@ -16,7 +17,8 @@ fn put_description(out: &mut impl Write, texts: &mut Texts, words: &mut [u64]) -
         return writeln!(out, "{}", status::Refused(answer.refusal));
     }
     status::put_status(out, texts, answer.card)?;
-    table::put_table(out, texts, words, answer.count)
+    let (columns, _) = words.as_chunks::<WORDS_PER_COLUMN>();
+    table::put_table(out, texts, columns.get(..answer.count).unwrap_or(&[]))
 }
 
 fn main(rt: HostRuntime) -> io::Result<()> {

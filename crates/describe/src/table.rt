@@ -1,6 +1,7 @@
 // The table of columns: a line of heads, and a line for each column, in cells as wide as what stands in them.
 // A name of Db2 has at most 128 bytes. A longer text is put whole, and moves the rest of its own line only.
 use crate::texts::Texts;
+use column_words::ColumnWords;
 use line::Line;
 use output::Characters;
 use std::io;
@@ -53,18 +54,17 @@ impl Widths {
         }
     }
 
-    // Of the first `count` columns of a list; no cell is less wide than its head.
-    fn of(words: &[u64], count: usize) -> Self {
-        let mut widths = Widths {
+    // Of a list of columns; no cell is less wide than its head.
+    fn of(columns: &[ColumnWords]) -> Self {
+        let heads = Widths {
             name: 4,
             db2_type: 4,
             label: 5,
             schema: 6,
         };
-        for i in 0..count {
-            widths = widths.with(column_words::column_in(words, i));
-        }
-        widths
+        columns.iter().fold(heads, |widths, words| {
+            widths.with(column_words::column_in(words, 0))
+        })
     }
 }
 
@@ -103,6 +103,7 @@ fn put_cells(out: &mut impl Write, column: ColumnMetadata, width: usize) -> io::
     write!(out, "{}", Characters(line.as_bytes()))
 }
 
+// Its number as `cells` lays it out, whose promise no format string has.
 fn put_number(out: &mut impl Write, column: ColumnMetadata) -> io::Result<()> {
     let mut line = Line::<LINE>::new();
     cells::append_number(&mut line, column);
@@ -127,21 +128,20 @@ fn put_row(
     )
 }
 
-// The size, and the table of the first `count` columns of a list; none where there are none.
+// The size, and the table of the columns of a list; none where there are none.
 pub(crate) fn put_table(
     out: &mut impl Write,
     texts: &mut Texts,
-    words: &[u64],
-    count: usize,
+    columns: &[ColumnWords],
 ) -> io::Result<()> {
-    crate::status::put_size(out, count, texts.reply.len())?;
-    if count == 0 {
+    crate::status::put_size(out, columns.len(), texts.reply.len())?;
+    if columns.is_empty() {
         return Ok(());
     }
-    let widths = Widths::of(words, count);
+    let widths = Widths::of(columns);
     put_heads(out, widths)?;
-    for i in 0..count {
-        put_row(out, texts, column_words::column_in(words, i), widths)?;
+    for words in columns {
+        put_row(out, texts, column_words::column_in(words, 0), widths)?;
     }
     Ok(())
 }

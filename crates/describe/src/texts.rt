@@ -32,7 +32,7 @@ impl<'a> Texts<'a> {
         Ok(Texts { reply, room })
     }
 
-    // A text of the column with this number.
+    // A text of the column with this number. Here and at `message` another entry is called, with other arguments: what they share is `first`.
     pub(crate) fn of_column(&mut self, number: u16, text: Text) -> OrDash<'_> {
         let count = column_name::given_text(self.reply, number, text, &mut self.room);
         OrDash(self.first(count))

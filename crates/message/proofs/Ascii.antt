@@ -1,28 +1,13 @@
--- The ways out of the loop that counts, and that a message's blanks are known by their bytes.
-use mathlib.Core.Path.{◌≡◌, refl, sym, ◌∙◌}
+-- A message's blanks are known by their bytes.
+use mathlib.Core.Path.{◌≡◌, refl}
 use mathlib.Core.Bool.{Bool, true, false, not, ◌||◌}
-use mathlib.Core.List.{List}
-use Prim.Native.Nat.{ℕ, ◌*◌, ◌/◌, ◌<◌}
-use native.Mathlib.Nat.{div-zero}
-use lib.Dec.{T, eqb, leb}
-use Rattle.search.specs.Search.{pick, below, count}
+use Prim.Native.Nat.{ℕ, ◌<◌}
+use lib.Dec.{T, eqb}
+use Rattle.search.specs.Search.{pick, below}
 use Rattle.search.proofs.Tests.{agree, agree_same, below_at}
 use Rattle.codepage.specs.Page.{Page, char_in}
 use Rattle.codepage.specs.Blank.{is_blank, is_blank_in}
-use Rattle.message.specs.Message.{is_printable, is_separator, others, is_ascii_message, message_char}
-
--- ---- the two ways out
-
-module _ (bs : List ℕ) (printables rest : ℕ) (p : printables ≡ count is_printable bs) (o : rest ≡ others bs) where
-  pub ascii_none : rest ≡ 0 → false ≡ is_ascii_message bs
-  unfolding is_ascii_message
-  ascii_none z = sym (rw (sym o ∙ z, div-zero (count is_printable bs * 100)) refl)
-
-  pub ascii_some : leb 80 (printables * 100 / rest) ≡ is_ascii_message bs
-  unfolding is_ascii_message
-  ascii_some = rw (p, o) refl
-
--- ---- blanks
+use Rattle.message.specs.Message.{is_printable, is_separator, message_char}
 
 -- in ASCII all but 21 to 7E are blanks: computed
 ascii_blanks : T (below 256 (λ b. agree (eqb b 0x20 || not (is_printable b)) (is_blank (pick (is_printable b) b 0x20))))

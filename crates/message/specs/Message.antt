@@ -1,7 +1,9 @@
 -- A message's characters (DRDA V1, SQLCAXGRP: SQLERRMSG_m, SQLERRMSG_s; 01, SQLCODE: a message).
-use Rattle.std.specs.Prelude.{Bool, not, ◌&&◌, ◌||◌, List, map, ℕ, ◌*◌, ◌/◌, leb, ltb, eqb, length}
+use Rattle.std.specs.Prelude.{Bool, true, false, not, ◌&&◌, ◌||◌, List, map, ℕ, ◌*◌, ◌/◌, leb, ltb, eqb, length}
 use Rattle.search.specs.Search.{pick, count}
 use Rattle.codepage.specs.Page.{Page, char_in}
+use Rattle.text.specs.declared.Alphabet.{Alphabet}
+use Rattle.text.specs.declared.Alphabet.TheVariants.{Ascii, Page037}
 use Rattle.message.specs.Squeezed.{squeezed}
 use Rattle.message.specs.declared.Behind.TheVariants.{Nothing}
 
@@ -20,6 +22,11 @@ others bs = count (λ b. not (is_separator b)) bs
 -- at least 80 in 100 of them printable, rounded down; where there are none, no (01, SQLCODE: a message is ASCII)
 unfoldable pub is_ascii_message : List ℕ → Bool
 is_ascii_message bs = leb 80 (count is_printable bs * 100 / others bs)
+
+-- which of the two alphabets of a message it is: ASCII, or else page 037 (01, SQLCODE: a message)
+abbrev pub is_ascii : Alphabet → Bool
+is_ascii Ascii = true
+is_ascii Page037 = false
 
 -- the character of a message's byte: all but printables are blanks in ASCII, else only 00 and FF (01, SQLCODE: a message)
 unfoldable pub message_char : Page → Bool → ℕ → ℕ

@@ -6,7 +6,9 @@ ghost use Rattle.search.specs.Search.{count};
 ghost use Rattle.codepage.specs.Page.{page037};
 ghost use Rattle.codepage.specs.Blank.{is_blank};
 ghost use Rattle.message.specs.Squeezed.{after, is_gap};
-ghost use Rattle.message.specs.Message.{is_printable, is_separator, others, is_ascii_message, message_char, has_text};
+ghost use Rattle.message.specs.Message.{is_printable, is_separator, others, is_ascii_message, is_ascii, message_char, has_text};
+
+use text::Alphabet;
 
 // How many bytes are looked at together.
 const BLOCK: usize = 128;
@@ -23,7 +25,8 @@ fn is_separator(byte: u8) -> bool
     matches!(byte, 0x00 | 0xFF)
 }
 
-// How many bytes of a block pass a test: so few that they fit 8 bits, and that many bytes are counted at once.
+// How many bytes of a block pass a test: so few that they fit 8 bits, and that many bytes are counted at once. `filter` and `count`, which
+// counts in 64 bits, take ten times the instructions.
 fn count_in<F: Fn(u8) -> bool>(block: &[u8], test: F) -> u8
     requires block_len_bound { length block.now ≤ 128 }
     requires callable { F.IsAlwaysCallable test }
@@ -36,7 +39,8 @@ fn count_in<F: Fn(u8) -> bool>(block: &[u8], test: F) -> u8
     passed
 }
 
-// Both counts of a block, in one pass: with a pass for each (`count_in`) a block took 18 instructions more.
+// Both counts of a block, in one pass: with a pass for each (`count_in`) a block took 18 instructions more. By a `for`: that the counts fit 8 bits
+// is its invariant, for which a `fold` has no place.
 #[derive(Clone, Copy)]
 struct Counted {
     printables: u8,
@@ -71,13 +75,13 @@ fn is_ascii_message(bytes: &[u8]) -> bool
     others > 0 && printables * 100 / others >= 80
 }
 
-// The bytes of a message, and whether they are ASCII; else they are of page 037.
+// The bytes of a message, and their alphabet.
 #[derive(Clone, Copy, Debug, PartialEq, Eq)]
 pub struct Message<'a> {
     pub bytes: &'a [u8],
-    pub ascii: bool,
+    pub alphabet: Alphabet,
     pub ghost bounded: { length bytes.now ≤ 65536 },
-    pub ghost alphabet: { ascii ≡ is_ascii_message bytes.now },
+    pub ghost decided: { is_ascii alphabet ≡ is_ascii_message bytes.now },
 }
 
 impl<'a> Message<'a> {
@@ -85,18 +89,22 @@ impl<'a> Message<'a> {
         requires { length bytes.now ≤ 65536 }
         ensures { result.bytes ≡ bytes.entry }
     {
-        let ascii = is_ascii_message(bytes);
-        Message { bytes, ascii }
+        let alphabet = if is_ascii_message(bytes) {
+            Alphabet::Ascii
+        } else {
+            Alphabet::Page037
+        };
+        Message { bytes, alphabet }
     }
 
     // The character of a byte of it.
     #[tactic(auto, unfolding(crate::specs::Message::message_char))]
     pub fn character(self, byte: u8) -> u8
-        ensures { result ≡ message_char page037 self.entry.ascii byte }
+        ensures { result ≡ message_char page037 (is_ascii self.entry.alphabet) byte }
     {
-        match self.ascii {
-            true if is_printable(byte) => byte,
-            false if !is_separator(byte) => codepage::ebcdic037_to_unicode(byte),
+        match self.alphabet {
+            Alphabet::Ascii if is_printable(byte) => byte,
+            Alphabet::Page037 if !is_separator(byte) => codepage::ebcdic037_to_unicode(byte),
             _ => 0x20,
         }
     }
@@ -104,12 +112,11 @@ impl<'a> Message<'a> {
     // Whether that character is a blank. By bytes: no table is asked for.
     #[tactic(auto, using(crate::proofs::Ascii::blank_ascii, crate::proofs::Ascii::blank_page))]
     pub fn is_blank(self, byte: u8) -> bool
-        ensures { result ≡ is_blank (message_char page037 self.entry.ascii byte) }
+        ensures { result ≡ is_blank (message_char page037 (is_ascii self.entry.alphabet) byte) }
     {
-        if self.ascii {
-            (byte == 0x20) | !is_printable(byte)
-        } else {
-            is_separator(byte) | codepage::is_blank_byte(byte)
+        match self.alphabet {
+            Alphabet::Ascii => (byte == 0x20) | !is_printable(byte),
+            Alphabet::Page037 => is_separator(byte) | codepage::is_blank_byte(byte),
         }
     }
 
