@@ -38,7 +38,6 @@ pub struct Run {
 
 // Whether a column has a name of its own: one that is there, and does not read like those that the reader itself gives.
 #[tactic(auto, using(crate::proofs::Names::named_none, crate::proofs::Names::named_some))]
-#[inline(always)]
 pub fn is_named(reply: &[u8], name: StringRead) -> bool
     requires { name.place + name.length ≤ length reply.now }
     ensures { result ≡ not (is_generated_text page037 reply.now (name_text page037 reply.now name)) }
@@ -46,9 +45,7 @@ pub fn is_named(reply: &[u8], name: StringRead) -> bool
     name.length != 0 && !generated::is_generated_at(reply, name.place, name.length)
 }
 
-// 1 for such a name, else 0: runs of descriptors count with it. Inlined, a name without bytes is asked by no call: 0.79 times the instructions of a run of
-// columns without names.
-#[inline(always)]
+// 1 for such a name, else 0: runs of descriptors count with it.
 pub fn one_if_named(reply: &[u8], name: StringRead) -> usize
     requires { name.place + name.length ≤ length reply.now }
     ensures { (result ≡ pick (not (is_generated_text page037 reply.now (name_text page037 reply.now name))) 1 0) × (result ≤ 1) }

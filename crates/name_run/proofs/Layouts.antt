@@ -215,7 +215,7 @@ module _ (page : Page) (s : List ℕ) (p : ℕ) where
       unfolding name_in
       named_by None g = (
         scanned_none
-        (layout_is false (find_none (is_name_string page s) (no_string 0) (name_strings s p) (sym (ap (find (is_name_string page s)) strings_are) ∙ g) (no_name page s))),
+            (layout_is false (find_none (is_name_string page s) (no_string 0) (name_strings s p) (sym (ap (find (is_name_string page s)) strings_are) ∙ g) (no_name page s))),
         search rules,
       )
       named_by (Some r) g =
