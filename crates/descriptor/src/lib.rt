@@ -312,7 +312,7 @@ pub fn count_offset(reply: &[u8]) -> Result<usize, usize>
     sqlcard::skip_sqldhgrp(reply, flag)
 }
 
-// As column's, without its call where the name has no bytes: a run of columns without names takes 0.75 times the instructions.
+// As column's, without its call where the name has no bytes: a run of columns without names takes 0.82 times the instructions.
 #[tactic(auto, using(crate::proofs::Runs::unnamed))]
 #[inline(always)]
 fn one_if_named(reply: &[u8], name: StringRead) -> usize
