@@ -37,17 +37,14 @@ pub struct Run {
 }
 
 // Whether the bytes of a name say that the column has one of its own: they are there, and do not read like those that the reader itself gives.
-#[inline(always)]
 pub fn is_named(name: &[u8]) -> bool
     ensures { result ≡ (not (eqb (length name.now) 0) && not (is_generated (decoded page037 name.now))) }
 {
     !name.is_empty() && !generated::is_generated_string(name)
 }
 
-// 1 for such a name, else 0: runs of descriptors count with it. Inlined, a name without bytes is asked by no call: 0.79 times the instructions of a run of
-// columns without names.
+// 1 for such a name, else 0: runs of descriptors count with it.
 #[tactic(auto, using(crate::proofs::Names::named_at))]
-#[inline(always)]
 pub fn one_if_named(reply: &[u8], name: StringRead) -> usize
     requires { name.place + name.length ≤ length reply.now }
     ensures { (result ≡ pick (not (is_generated_text page037 reply.now (name_text page037 reply.now name))) 1 0) × (result ≤ 1) }

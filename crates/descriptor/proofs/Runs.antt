@@ -14,6 +14,8 @@ use Rattle.codepage.specs.Page.{Page}
 use Rattle.field.specs.declared.ByteOrder.{ByteOrder}
 use Rattle.strings.specs.declared.StringRead.{StringRead}
 use Rattle.text.specs.Generated.{is_generated_text}
+use Rattle.text.specs.declared.Text.{Text}
+use Rattle.column.proofs.Names.{name_none}
 use Rattle.column.specs.Column.{name_text, column_with, is_named}
 use Rattle.descriptor.specs.declared.Step.{Step}
 use Rattle.descriptor.specs.Nullable.{lenient}
@@ -42,6 +44,11 @@ module _ (order : ByteOrder) (s : List ℕ) (p : ℕ) (r : Step) (e : r ≡ step
   pub step_name : r.next ≤ length s → r.name ≡ (described_at order s p).name
   step_name h =
       ap (λ (x : Step). x.name) (is_step true (le-leb (descriptor_end lenient order s p) (length s) (omega (arith, step_end))))
+
+-- a name without bytes is none of the column's own
+pub unnamed : (page : Page) (s : List ℕ) (r : StringRead) → r.length ≡ 0 → ◌≡◌ {A = ℕ} 0 (pick (not (is_generated_text page s (name_text page s r))) 1 0)
+unfolding is_generated_text
+unnamed page s r e = ap (λ (t : Text). pick (not (is_generated_text page s t)) 1 0) (name_none page s r e)
 
 -- ---- the loop: i descriptors are read, m of them named, and p is the place of the next
 

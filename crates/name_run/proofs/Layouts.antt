@@ -65,6 +65,11 @@ names_inside page s p =
     (each_more (string_inside s (string_end s (p + 19))) (each_more (dx_pair_inside s 7 (dx_start lenient s (p + 17))) each_none)))
     (omega arith)
 
+-- what `scanned_name` answers
+abbrev pub Found : Page → List ℕ → List StringRead → ℕ → Option ScannedName → Type 0
+Found page s strings next o =
+    MatchOption o (find (is_name_string page s) strings ≡ None) (λ r. (find (is_name_string page s) strings ≡ Some r.name) × (r.next ≡ next))
+
 -- the strings of a layout lie in the reply
 pub string_read_inside : (s : List ℕ) (p : ℕ) (r : StringRead) → r ≡ string_at s p → Inside s r
 string_read_inside s p r e = subst (Inside s) (sym e) (string_inside s p)
@@ -206,16 +211,11 @@ module _ (page : Page) (s : List ℕ) (p : ℕ) where
           rw (options, v, g) refl
 
       -- by what was found among them
-      abbrev Found : Option ScannedName → Type 0
-      Found o =
-          MatchOption o (find (is_name_string page s) (m ∷ t ∷ x.name ∷ []) ≡ None)
-          (λ r. (find (is_name_string page s) (m ∷ t ∷ x.name ∷ []) ≡ Some r.name) × (r.next ≡ x.next))
-
-      pub named_by : (o : Option ScannedName) → Found o → (o ≡ scanned_name_at page s p) × IfSome o (λ r. Inside s r.name)
+      pub named_by : (o : Option ScannedName) → Found page s (m ∷ t ∷ x.name ∷ []) x.next o → (o ≡ scanned_name_at page s p) × IfSome o (λ r. Inside s r.name)
       unfolding name_in
       named_by None g = (
         scanned_none
-        (layout_is false (find_none (is_name_string page s) (no_string 0) (name_strings s p) (sym (ap (find (is_name_string page s)) strings_are) ∙ g) (no_name page s))),
+            (layout_is false (find_none (is_name_string page s) (no_string 0) (name_strings s p) (sym (ap (find (is_name_string page s)) strings_are) ∙ g) (no_name page s))),
         search rules,
       )
       named_by (Some r) g =

@@ -193,10 +193,7 @@ pub fn plan_reply(reply: &[u8]) -> Result<Plan, Refusal>
     ensures plans { result ≡ plan_of page037 reply.now }
     ensures counts { IfOk result (Counted page037 reply.now) }
 {
-    let offset = match descriptor::count_offset(reply) {
-        Ok(offset) => offset,
-        Err(expected) => expected,
-    };
+    let (Ok(offset) | Err(offset)) = descriptor::count_offset(reply);
     let counted = Reply {
         bytes: reply,
         offset,

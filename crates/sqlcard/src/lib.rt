@@ -127,8 +127,10 @@ pub fn parse_sqlcard_data(reply: &[u8]) -> Result<SqlCard, Refusal>
     let Some(sqlca) = Sqlca::new(reply) else {
         return Err(Refusal::InvalidSqlcard);
     };
-    let message = alone_message(sqlca)
-        .map_err(|expected| Refusal::BufferTooShort { expected, actual })?;
+    let message = alone_message(sqlca).map_err(|expected| Refusal::BufferTooShort {
+        expected,
+        actual,
+    })?;
     Ok(SqlCard::with_message(sqlca, message))
 }
 
@@ -163,8 +165,10 @@ pub fn consume_sqlca_group(reply: &[u8]) -> Result<Group, Refusal>
             actual,
         });
     };
-    let message = group_message(sqlca)
-        .map_err(|expected| Refusal::BufferTooShort { expected, actual })?;
+    let message = group_message(sqlca).map_err(|expected| Refusal::BufferTooShort {
+        expected,
+        actual,
+    })?;
     Ok(Group {
         card: SqlCard::with_message(sqlca, message),
         length: message.next,

@@ -1,8 +1,8 @@
 -- The ways out: no room for the option flag, FF, and by what was found among the strings of a layout that can be read.
-use Rattle.std.proofs.Common.{sym, ◌∙◌, arith, rules}
+use Rattle.std.proofs.Common.{[], ◌∷◌, sym, ◌∙◌, arith, rules}
 use Rattle.strings.proofs.Strings.{some_read}
 use Rattle.codepage.specs.Page.{page037}
-use Rattle.name_run.proofs.Layouts.{named_short, named_null, string_read_inside, extension_inside, each_of_three, named_by}
+use Rattle.name_run.proofs.Layouts.{named_short, named_null, string_read_inside, extension_inside, each_of_three, Found, named_by}
 use Rattle.name_run.proofs.scan_descriptor_name.Goals as goal
 
 pub returns-then-saturating_sub-lt17-clause-scanned : goal.returns-then-saturating_sub-lt17-clause-scanned
@@ -30,7 +30,9 @@ returns c =
     let q = some_read _ _ _ _ c.skip_strings.ensures _ (sym c.ok-3.ensures.value ∙ c.in_ok-comments_end.was) in
     let u = some_read _ _ _ _ c.skip_sqludtgrp.ensures _ (sym c.ok-4.ensures.value ∙ c.in_ok-udt_end.was) in
     let x = some_read _ _ _ _ c.read_sqldxgrp.ensures _ (sym c.ok-5.ensures.value ∙ c.in_ok-extension.was) in
+    let f : Found page037 c.args.reply.now (c.in_ok-m.m ∷ c.in_ok-s.s ∷ c.in_ok-extension.extension.name ∷ []) c.in_ok-extension.extension.next c.scanned_name.result =
+    search (rules, c.scanned_name.ensures) in
     let r =
     named_by page037 _ _ (omega (arith, c.saturating_sub.ensures, c.if-saturating_sub-lt17.false)) c.if-reply-offset.false
-    _ m.0 _ s.0 _ q.0 _ u.0 _ x.0 x.1 _ c.scanned_name.ensures in
+    _ m.0 _ s.0 _ q.0 _ u.0 _ x.0 x.1 _ f in
     record { scanned = r.0; inside = r.1 }
