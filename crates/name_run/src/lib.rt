@@ -40,6 +40,7 @@ fn first_name(reply: &[u8], strings: [StringRead; 3]) -> Option<StringRead>
 
 // The layout's name, if it has one and can be read. The scan asks at every byte of a reply: names are tested only where the whole layout can be
 // read, and of the extension's pair the one that has bytes.
+#[tactic(auto, using(crate::proofs::Layouts::named_short, crate::proofs::Layouts::named_null, crate::proofs::Layouts::read_inside, crate::proofs::Layouts::named_cut, crate::proofs::Layouts::named_none))]
 pub fn scan_descriptor_name(reply: &[u8], offset: usize) -> Option<ScannedName>
     ensures scanned { result ≡ scanned_name_at page037 reply.now offset }
     ensures inside { IfSome result (λ scanned. Inside reply.now scanned.name) }
@@ -75,6 +76,7 @@ pub struct NameRun {
     pub count: usize,
 }
 
+#[tactic(auto, using(crate::proofs::Runs::run_stop, crate::proofs::Runs::run_more, crate::proofs::Runs::run_done), unfolding(crate::specs::Run::name_run_from))]
 fn name_run_from(reply: &[u8], start: usize) -> NameRun
     ensures { result ≡ name_run_from page037 reply.now start }
 {
