@@ -115,6 +115,7 @@ impl<'a> Iterator for Candidates<'a> {
     fn next(&mut self) -> Option<Text> {
         let reply = self.reply;
         let end = reply.len();
+        // No `find_map`: it was tried, and is longer. Its closure needs a requires and an ensures, and the range must be asked where it stands after it.
         for offset in self.next..end.saturating_sub(1) {
             if may_start(reply, offset) {
                 if let Some(text) = kept_at(reply, self.last, offset) {

@@ -1,29 +1,19 @@
--- A column's name: the ways out of `name_text`, and whether a column is named, by the name's bytes.
+-- Whether a column is named, by its name's bytes.
 use mathlib.Core.Path.{◌≡◌, refl, ap, ◌∙◌}
 use mathlib.Core.Bool.{Bool, true, false, not, ◌&&◌, ◌||◌}
 use mathlib.Core.List.{List}
 use Prim.Native.Nat.{ℕ, ◌+◌, ◌-◌, ◌<◌, ◌≤◌}
 use lib.Dec.{eqb}
 use lib.ListN.{length, take, drop}
-use borrow.Author.Tests.{eq-eqb, ne_eqb}
 use Rattle.search.specs.Search.{pick}
 use Rattle.codepage.specs.Page.{Page}
 use Rattle.strings.specs.declared.StringRead.{StringRead}
 use Rattle.text.specs.Text.{text_of}
 use Rattle.text.specs.Generated.{is_generated, text_chars, decoded, is_generated_text}
 use Rattle.text.proofs.Decode.{lent, lent_length, alphabet_some, decoded_at}
-use Rattle.text.specs.declared.Text.{Text}
 use Rattle.column.specs.Column.{generated_text, string_text, name_text}
 
 module _ (page : Page) (s : List ℕ) (r : StringRead) where
-  pub name_none : r.length ≡ 0 → generated_text ≡ name_text page s r
-  unfolding name_text
-  name_none e = rw (eq-eqb r.length 0 e) refl
-
-  pub name_some : (r.length ≡ 0 → ⊥) → (t : Text) → t ≡ string_text page s r → t ≡ name_text page s r
-  unfolding name_text
-  name_some n t e = rw (ne_eqb r.length 0 n) e
-
   -- by the name's bytes, as the code lends them
   pub named_at : 0 < page.alphabet → r.place + r.length ≤ length s → (b : Bool)
       → b ≡ (not (eqb (length (take (r.place + r.length - r.place) (drop r.place s))) 0)

@@ -61,6 +61,7 @@ fn string_text(reply: &[u8], string: StringRead) -> Text
 }
 
 // The text of a column's name; alphabet 0 says that it is generated from the column's number.
+#[tactic(auto, unfolding(crate::specs::Column::name_text))]
 fn name_text(reply: &[u8], name: StringRead) -> Text
     requires { name.place + name.length ≤ length reply.now }
     ensures { result ≡ name_text page037 reply.now name }
@@ -81,6 +82,7 @@ pub fn order_number(order: ByteOrder) -> u64
     order as u64
 }
 
+// No From or TryFrom: ByteOrder is another crate's, and there is an order for every number.
 pub fn order_of(number: u64) -> ByteOrder
     ensures { result ≡ order_of number }
 {
@@ -91,7 +93,7 @@ pub fn order_of(number: u64) -> ByteOrder
     }
 }
 
-// Values at the front of what is lent.
+// Values at the front of what is lent: the core writes numbers so, and the words of a column are written so.
 pub fn put_values(values: &[u64], numbers: &mut [u64])
     requires { length values.now ≤ length numbers.old }
     ensures { numbers.new ≡ values.now ++ drop (length values.now) numbers.old }
@@ -102,7 +104,9 @@ pub fn put_values(values: &[u64], numbers: &mut [u64])
     }
 }
 
-// A column in numbers: those of its descriptor, and place, length and alphabet of its four texts.
+// A column in numbers: those of its descriptor, and place, length and alphabet of its four texts. Numbers, and not the record at once, since the
+// project wants a thin filler over a core that writes numbers.
+#[tactic(auto, unfolding(crate::specs::Numbers::numbers_of))]
 pub fn put_column(reply: &[u8], number: u16, described: Described, numbers: &mut [u64])
     requires in_bounds { 19 ≤ length numbers.old }
     requires strings_inside { StringsInside reply.now described }
@@ -138,7 +142,7 @@ pub fn put_column(reply: &[u8], number: u16, described: Described, numbers: &mut
     put_values(&values, numbers);
 }
 
-// The text whose three numbers stand from `at` on.
+// The text whose three numbers stand from `at` on. No TryFrom: that they fit is a clause, and nothing is tested for it.
 pub fn text_from(numbers: &[u64], at: usize) -> Text
     requires at_in_bounds { at + 2 < length numbers.now }
     requires at_bound { get_or numbers.now (at + 2) 0 < 256 }
@@ -151,7 +155,8 @@ pub fn text_from(numbers: &[u64], at: usize) -> Text
     }
 }
 
-// The record that a column's numbers stand for.
+// The record that a column's numbers stand for: what a filler over the core stores.
+#[tactic(auto, unfolding(crate::specs::Numbers::column_of))]
 pub fn column_of(numbers: &[u64]) -> ColumnMetadata
     requires in_bounds { 19 ≤ length numbers.now }
     requires fits { Fits numbers.now }
@@ -180,7 +185,7 @@ pub fn column_of(numbers: &[u64]) -> ColumnMetadata
     }
 }
 
-// What a lent list of columns holds before they are filled in.
+// What a lent list of columns holds before they are filled in. No Default: it is of no more use than that, and says nothing of a column.
 #[tactic(auto, unfolding(crate::specs::Column::blank_column))]
 pub fn blank_column() -> ColumnMetadata
     ensures { result ≡ blank_column }

@@ -28,6 +28,7 @@ fn all_digits(bytes: &[u8], alphabet: Alphabet) -> bool
 }
 
 // Whether a text's characters are COL and one or more digits, as the reader itself names a column without a name.
+#[tactic(auto, using(text::proofs::Generated::generated_is))]
 pub fn is_generated(bytes: &[u8], alphabet: Alphabet) -> bool
     ensures { result ≡ is_generated (chars page037 (alphabet_number alphabet) bytes.now) }
 {
@@ -38,6 +39,7 @@ pub fn is_generated(bytes: &[u8], alphabet: Alphabet) -> bool
 }
 
 // The same of bytes of page 037, trimmed. Most names end at the first test: blanks at the end are looked for only after a C.
+#[tactic(auto, using(text::proofs::Bytes::leading_same, text::proofs::Bytes::kept_same, crate::proofs::Quick::leading_inside, crate::proofs::Quick::trimmed_short, crate::proofs::Quick::trimmed_other, crate::proofs::Quick::trimmed_bounds, crate::proofs::Quick::trimmed_text))]
 fn is_generated_trimmed(bytes: &[u8]) -> bool
     ensures { result ≡ is_generated (chars page037 2 (trimmed page037 bytes.now)) }
 {

@@ -13,6 +13,7 @@ ghost use Rattle.identifier.specs.Identifier.{is_identifier, is_identifier_at};
 use text::Alphabet;
 
 // The length is tested first: a long string is left before its characters are looked at.
+#[tactic(auto, using(crate::proofs::Identifiers::identifier_is))]
 fn is_identifier_in(bytes: &[u8], alphabet: Alphabet) -> bool
     ensures { result ≡ is_identifier (chars page037 (alphabet_number alphabet) bytes.now) }
 {
@@ -23,6 +24,7 @@ fn is_identifier_in(bytes: &[u8], alphabet: Alphabet) -> bool
 }
 
 // Of characters that stand for themselves.
+#[tactic(auto, using(crate::proofs::Identifiers::identifier_same))]
 pub fn is_identifier(bytes: &[u8]) -> bool
     ensures { result ≡ is_identifier bytes.now }
 {
@@ -30,6 +32,7 @@ pub fn is_identifier(bytes: &[u8]) -> bool
 }
 
 // Only the blanks at the ends and what is between are looked at.
+#[tactic(auto, using(crate::proofs::Identifiers::end_inside, crate::proofs::Identifiers::trimmed_blank, crate::proofs::Identifiers::trimmed_none, crate::proofs::Identifiers::trimmed_some))]
 fn is_identifier_trimmed(bytes: &[u8], alphabet: Alphabet) -> bool
     ensures { result ≡ is_identifier (trimmed_of is_blank (chars page037 (alphabet_number alphabet) bytes.now)) }
 {
@@ -45,6 +48,7 @@ fn is_identifier_trimmed(bytes: &[u8], alphabet: Alphabet) -> bool
 }
 
 // What follows the blocks of spaces in front: in ASCII, trimming drops them anyhow. The compiler compares many bytes of a block at once.
+#[tactic(auto, using(crate::proofs::Spaces::spaces_less))]
 fn after_spaces(bytes: &[u8]) -> &[u8]
     ensures { trimmed_of is_blank (chars page037 1 result.now) ≡ trimmed_of is_blank (chars page037 1 bytes.now) }
 {
@@ -57,6 +61,7 @@ fn after_spaces(bytes: &[u8]) -> &[u8]
 
 // Whether the text of a string may be a name, by its bytes. It is tested in both alphabets, and only where they differ are all bytes asked which
 // of them it is.
+#[tactic(auto, using(crate::proofs::Identifiers::at_first, crate::proofs::Identifiers::at_second, crate::proofs::Identifiers::at_both))]
 pub fn is_identifier_string(bytes: &[u8]) -> bool
     ensures { result ≡ is_identifier_at page037 bytes.now 0 (length bytes.now) }
 {

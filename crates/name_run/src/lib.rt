@@ -76,6 +76,7 @@ pub struct NameRun {
     pub count: usize,
 }
 
+#[tactic(auto, using(crate::proofs::Runs::run_stop, crate::proofs::Runs::run_more, crate::proofs::Runs::run_done), unfolding(crate::specs::Run::name_run_from))]
 fn name_run_from(reply: &[u8], start: usize) -> NameRun
     ensures { result ≡ name_run_from page037 reply.now start }
 {
@@ -117,6 +118,7 @@ pub fn longest_name_run(reply: &[u8]) -> NameRun
     ensures { result ≡ longest_name_run page037 reply.now }
 {
     let mut best = NameRun { start: 0, count: 0 };
+    // No `fold`: it was tried, and is longer. Its closure needs a requires and an ensures, and what is asked at a start is no test to filter by.
     for start in 0..reply.len().saturating_sub(20) {
         if may_start(reply, start) {
             best = longer_of(best, name_run_from(reply, start));

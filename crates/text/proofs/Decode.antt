@@ -132,10 +132,6 @@ module _ (page : Page) (r : T (rearranged page.table)) (h : T (blanks_as_in037 p
           (ne_eqb (kept (is_blank_in page) bs - leading (is_blank_in page) bs) 0 (λ z. omega arith) ∙ sym (ne_eqb (length bs) 0 (λ z. omega arith)))
 
   module _ (s : List ℕ) (a n : ℕ) (l : a + n ≤ length s) where
-    -- the same of bytes in a reply
-    pub text_empty_at : eqb (text_of page s a n).length 0 ≡ eqb n 0
-    text_empty_at = text_empty (take n (drop a s)) a ∙ ap (λ (k : ℕ). eqb k 0) (lent_length s a n l)
-
     pub decode_none : n ≡ 0 → empty_text ≡ text_of page s a n
     unfolding text_on placed is_ascii
     decode_none z = rw z refl

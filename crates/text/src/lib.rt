@@ -57,7 +57,8 @@ impl Alphabet {
     }
 }
 
-// From a text's number: the bytes of any alphabet but page 037 stand for themselves.
+// From a text's number: the bytes of any alphabet but page 037 stand for themselves. Their characters are those of the number (proved:
+// `same_characters`).
 impl From<u8> for Alphabet {
     ghost from_gives = { λ number alphabet. alphabet ≡ alphabet_of number };
 
@@ -143,6 +144,7 @@ pub fn kept_bytes(bytes: &[u8], alphabet: Alphabet) -> usize
 }
 
 // The text of the `length` bytes from `start` on. One that is not ASCII has a byte above 7F, which trimming keeps: it is never empty.
+#[tactic(auto, using(crate::proofs::Bytes::leading_same, crate::proofs::Bytes::kept_same, crate::proofs::Decode::decode_none, crate::proofs::Decode::decode_ascii, crate::proofs::Decode::decode_page, codepage::proofs::Pages::rearranged_037, codepage::proofs::Pages::blanks_037))]
 pub fn decode_text(reply: &[u8], start: usize, length: usize) -> Text
     requires { start + length ≤ lib.ListN.length reply.now }
     ensures { result ≡ text_of page037 reply.now start length }
