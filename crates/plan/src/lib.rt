@@ -61,7 +61,7 @@ impl Attempt {
     }
 }
 
-// A reply, and where the count of its columns stands: for the readings that begin there.
+// A reply, and where the count of its columns stands: for the readings that begin there. No `strings::Walker`, whose place moves.
 #[derive(Clone, Copy)]
 struct Reply<'a> {
     bytes: &'a [u8],
