@@ -1,10 +1,9 @@
--- What the description is on each way out of decide; a plan of no columns; and what a decision says to who carries it out.
+-- What the description is on each way out of decide.
 use mathlib.Core.List.{List, [], ◌∷◌}
-use mathlib.Core.Path.{◌≡◌, refl, sym, ap, subst, ◌∙◌}
+use mathlib.Core.Path.{◌≡◌, refl, ap, subst, ◌∙◌}
 use Prim.Native.Nat.{ℕ, ◌≤◌, ◌<◌}
 use lib.Dec.{leb}
 use lib.ListN.{length}
-use native.Mathlib.Omega.{arith}
 use borrow.Author.Tests.{lt-ltb, le-ltb, le-leb, lt-leb, eq-eqb, ne_eqb}
 use Rattle.std.specs.Prelude.{Result, Ok, Err}
 use Rattle.search.specs.Search.{pick}
@@ -18,7 +17,7 @@ use Rattle.planned.specs.Planned.{columns_of}
 use Rattle.plan.specs.Plan.{plan_of, reading_of, Counted}
 use Rattle.plan.proofs.Statuses.{refused_is}
 use Rattle.plan.proofs.Choices.{plan_reads}
-use Rattle.plan.specs.Description.{Description, refused_with, status_of, answer_by, description, with_code_point}
+use Rattle.plan.specs.Description.{refused_with, status_of, answer_by, description, with_code_point}
 use Rattle.plan.specs.declared.Decision.{Decision}
 use Rattle.plan.specs.Decision.{CarriesOut, Decides}
 
@@ -72,8 +71,3 @@ module _ (page : Page) (room : ℕ) (s : List ℕ) where
 pub decides_own : (page : Page) (room : ℕ) (s : List ℕ) (point : ℕ) (d : Result Decision Refusal) → Decides page room s d (description page room s)
     → point ≡ 0x2411 → Decides page room s d (with_code_point page room point s)
 decides_own page room s point d t h = subst (Decides page room s d) (own_point page room s point h) t
-
--- a decision carries `wanted` out: its plan can be filled in, and then the list has the columns in front of what was there
-module _ {page : Page} {room : ℕ} {s : List ℕ} {d : Decision} {wanted : Description} (t : CarriesOut page room s d wanted) where
-  pub can_fill : (d.plan.run.count ≡ length (columns_of page s d.plan)) × (d.plan.run.count ≤ room)
-  can_fill = (t.counts ∙ sym (ap length t.plans), omega (arith, t.counts, t.fits))

@@ -19,7 +19,7 @@ use sqlcard::SqlCard;
 
 const SQLDARD: u16 = 0x2411;
 
-// What an entry answers once the columns are written: the status record, and how many they are.
+// What an entry answers once the columns are written: the status record, and how many they are. No `sqlcard::Group`, whose number is a place.
 #[derive(Clone, Copy, Debug, PartialEq, Eq)]
 pub struct Sqldard {
     pub card: SqlCard,
@@ -61,7 +61,7 @@ impl Attempt {
     }
 }
 
-// A reply, and where the count of its columns stands: for the readings that begin there.
+// A reply, and where the count of its columns stands: for the readings that begin there. No `strings::Walker`, whose place moves.
 #[derive(Clone, Copy)]
 struct Reply<'a> {
     bytes: &'a [u8],
@@ -186,7 +186,8 @@ fn scan_plan(reply: &[u8]) -> Option<Plan>
     })
 }
 
-// The first reading with a name that is not generated, else the first that has columns, else the last reader's.
+// The first reading with a name that is not generated, else the first that has columns, else the last reader's. Its limit on the reply is asked here,
+// where a plan begins, and nowhere behind.
 #[tactic(auto, using(crate::proofs::Choices::undecided_start, crate::proofs::Choices::last_wins, crate::proofs::Choices::result_counted))]
 pub fn plan_reply(reply: &[u8]) -> Result<Plan, Refusal>
     requires { length reply.now ≤ 65536 }

@@ -50,7 +50,7 @@ impl Plan {
 
 // The descriptor at `offset`, with `left` more to come after it. A plan is kept and its layout known only at run time: so a match, and no closure.
 #[tactic(auto, using(crate::proofs::Laws::standard_room, crate::proofs::Laws::compact_room))]
-fn read_descriptor(reply: &[u8], plan: Plan, left: usize, offset: usize) -> Described
+fn described_by(reply: &[u8], plan: Plan, left: usize, offset: usize) -> Described
     requires { Reads page037 reply.now plan left offset }
     ensures { (result ≡ described_by plan.layout left reply.now offset) × StringsInside reply.now result }
 {
@@ -80,7 +80,7 @@ pub fn column_numbers(
     ensures fits { Fits numbers.new }
 {
     let left = plan.limit - (index + 1);
-    let described = read_descriptor(reply, plan, left as usize, offset);
+    let described = described_by(reply, plan, left as usize, offset);
     column::put_column(reply, index, described, numbers);
     described.next
 }

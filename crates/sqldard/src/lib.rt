@@ -13,7 +13,7 @@ use plan::{Decision, Sqldard};
 use planned::Columns;
 use types::ColumnMetadata;
 
-// Writes a decision's columns. By places, and no `zip` of the list's `iter_mut`: tried, but an invariant cannot name the list that is lent out then.
+// Writes a decision's columns. By places: after a `zip` with the list's `iter_mut` a proof knows nothing of what the list holds (tried).
 fn fill_columns(reply: &[u8], decision: Decision, columns: &mut [ColumnMetadata]) -> Sqldard
     requires count_value { decision.plan.run.count ≡ length (columns_of page037 reply.now decision.plan) }
     requires count_in_bounds { decision.plan.run.count ≤ length columns.old }
@@ -41,7 +41,7 @@ pub fn parse_sqldard_data(reply: &[u8], columns: &mut [ColumnMetadata]) -> Resul
     Ok(fill_columns(reply, decision, columns))
 }
 
-// The same with the reply's code point, which must be SQLDARD's.
+// The same with the reply's code point, which must be SQLDARD's: an entry of its own, two lines over what the other stands on.
 pub fn parse_sqldard(
     code_point: u16,
     reply: &[u8],
