@@ -11,7 +11,7 @@ ghost use Rattle.name_words.specs.Texts.{words_of_text, text_words};
 use outcome::Refusal;
 use text::Text;
 
-// Writes a text's words from `at` on.
+// Writes a text's words from `at` on. No `From`: `Text` and `[u64; 3]` are other crates' types.
 fn put_text_words(text: Text, words: &mut [u64], at: usize)
     requires { at + 3 ≤ length words.old }
     ensures { words.new ≡ take at words.old ++ (words_of_text text ++ drop (at + 3) words.old) }
@@ -23,7 +23,8 @@ fn put_text_words(text: Text, words: &mut [u64], at: usize)
     ]);
 }
 
-// The entry name scan, with room for a text in each 3 words: how many names were written. Nothing is written where it refuses.
+// The entry name scan, with room for a text in each 3 words: how many names were written. Nothing is written where it refuses. By places, and no
+// `zip` with `as_chunks_mut`: an invariant cannot name the words that are lent out then.
 pub fn scan_column_names(reply: &[u8], words: &mut [u64]) -> Result<usize, Refusal>
     ensures refuses { refusal_in result ≡ (name_scan page037 (length words.old / 3) reply.now).refusal }
     ensures counts { MatchResult result
