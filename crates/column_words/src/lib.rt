@@ -14,6 +14,7 @@ pub const WORDS_PER_COLUMN: usize = 22;
 // and schema, each as place, length and alphabet.
 pub type ColumnWords = [u64; WORDS_PER_COLUMN];
 
+// A function, and no `From`: the record and the array are other crates' types, and `as_chunks` gives arrays, and no type of our own round one.
 #[tactic(auto, unfolding(crate::specs::Words::words_of))]
 #[inline(always)]
 pub fn words_of(column: &ColumnMetadata) -> ColumnWords

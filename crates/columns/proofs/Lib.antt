@@ -1,3 +1,4 @@
+pub mod Places
 pub mod Cutting
 pub mod Summing
 pub mod Same

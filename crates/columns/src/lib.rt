@@ -14,7 +14,8 @@ use types::ColumnMetadata;
 // A longer list is refused.
 pub const MOST_COLUMNS: usize = 4095;
 
-// A list of columns, whether it is held as records or as words.
+// A list of columns, whether it is held as records or as words. By places, and no iterator: that of words would be a `map` by a closure, whose type
+// an `impl` cannot name.
 pub trait ColumnList {
     ghost columns: { Self → List ColumnMetadata };
 
@@ -57,19 +58,20 @@ pub fn same_column(c: &ColumnMetadata, d: &ColumnMetadata) -> bool
     coarse_column(c, d) & (c.ccsid == d.ccsid)
 }
 
+// Whether the columns at place `i` of two lists are cut from a row alike.
+fn same_at<L: ColumnList + Copy>(a: L, b: L, i: usize) -> bool
+    requires first { i < length (L.columns a) }
+    requires second { i < length (L.columns b) }
+    ensures { result ≡ same_column (slice_index_or (L.columns a) i no_column) (slice_index_or (L.columns b) i no_column) }
+{
+    same_column(&a.column(i), &b.column(i))
+}
+
 // Whether the columns of two lists are cut from a row alike.
 pub fn same_columns<L: ColumnList + Copy>(a: L, b: L) -> bool
     ensures { result ≡ same_cut (L.columns a) (L.columns b) }
 {
-    if a.count() != b.count() {
-        return false;
-    }
-    for i in 0..a.count() {
-        if !same_column(&a.column(i), &b.column(i)) {
-            return false;
-        }
-    }
-    true
+    a.count() == b.count() && (0..a.count()).all(|i| same_at(a, b, i))
 }
 
 // The entry same cut.
@@ -94,6 +96,7 @@ pub fn widest_row<L: ColumnList + Copy>(columns: L) -> Result<usize, Refusal>
         return Err(Refusal::ReplyTooLong);
     }
     let mut width = 0;
+    // A `try_fold` would be no plainer: each turn refuses or adds.
     for i in 0..columns.count() {
         let column = columns.column(i);
         if widths::is_large_column(&column) {

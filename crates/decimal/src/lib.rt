@@ -39,6 +39,7 @@ impl Digits {
 }
 
 // From the last digit to the first, while one is left: a `for` over the places would end in a case that never comes.
+#[tactic(auto, using(crate::proofs::Counting::counting_none, crate::proofs::Counting::counting_more))]
 pub fn digits_of(number: u64) -> Digits
     ensures { Spells number result.characters result.start }
 {

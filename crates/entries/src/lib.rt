@@ -19,7 +19,7 @@ use sqlcard::{Group, SqlCard};
 
 // Where a call is refused, the card is that for success.
 #[repr(C)]
-#[derive(Clone, Copy)]
+#[derive(Clone, Copy, Debug, PartialEq, Eq)]
 pub struct SqlcardResult {
     pub refusal: RefusalNumbers,
     pub card: SqlCard,
@@ -27,7 +27,7 @@ pub struct SqlcardResult {
 
 // The length is how many bytes the group takes, 0 where it is refused.
 #[repr(C)]
-#[derive(Clone, Copy)]
+#[derive(Clone, Copy, Debug, PartialEq, Eq)]
 pub struct GroupResult {
     pub refusal: RefusalNumbers,
     pub card: SqlCard,
@@ -36,7 +36,7 @@ pub struct GroupResult {
 
 // How many elements were written, or the sum that is the widest row; 0 where the call is refused.
 #[repr(C)]
-#[derive(Clone, Copy)]
+#[derive(Clone, Copy, Debug, PartialEq, Eq)]
 pub struct CountResult {
     pub refusal: RefusalNumbers,
     pub count: usize,
@@ -44,7 +44,7 @@ pub struct CountResult {
 
 // Whether rows are cut alike; no where the call is refused.
 #[repr(C)]
-#[derive(Clone, Copy)]
+#[derive(Clone, Copy, Debug, PartialEq, Eq)]
 pub struct CutResult {
     pub refusal: RefusalNumbers,
     pub same: bool,
@@ -52,7 +52,7 @@ pub struct CutResult {
 
 // A part of the reply; 0 and 0 where it has no bytes, and where it is refused.
 #[repr(C)]
-#[derive(Clone, Copy)]
+#[derive(Clone, Copy, Debug, PartialEq, Eq)]
 pub struct PartResult {
     pub refusal: RefusalNumbers,
     pub place: usize,

@@ -13,7 +13,7 @@ use names::Plan;
 use outcome::Refusal;
 use text::Text;
 
-// Writes a text's words from `at` on.
+// Writes a text's words from `at` on. No `From`: `Text` and `[u64; 3]` are other crates' types.
 fn put_text_words(text: Text, words: &mut [u64], at: usize)
     requires { at + 3 ≤ length words.old }
     ensures { words.new ≡ take at words.old ++ (words_of_text text ++ drop (at + 3) words.old) }
@@ -25,7 +25,7 @@ fn put_text_words(text: Text, words: &mut [u64], at: usize)
     ]);
 }
 
-// Writes the words of a plan's names. By places, and no `zip` with `chunks_exact_mut`: a proof knows nothing of what is lent out then.
+// Writes the words of a plan's names. By places, and no `zip` with `as_chunks_mut`: an invariant cannot name the words that are lent out then.
 fn fill_words(plan: Plan<'_>, words: &mut [u64])
     requires { length (names_of_plan plan) * 3 ≤ length words.old }
     ensures { words.new ≡ over (text_words (names_of_plan plan.entry)) words.old }

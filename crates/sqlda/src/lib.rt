@@ -119,7 +119,7 @@ pub fn sqlda_type(sql_type: u16, raw: u64, precision: u8, scale: u8, ccsid: u16)
     }
 }
 
-// The type's code without the nullable bit.
+// The type's code without the nullable bit. Two numbers tell a type, and a `From` for each of them would not say which it is.
 pub fn type_code(db2_type: Db2Type) -> u8
     ensures { result ≡ code_of db2_type }
 {
@@ -167,7 +167,8 @@ pub fn type_value(db2_type: Db2Type) -> u64
     }
 }
 
-// The type with this code, and what the value says of it. Codes that are none stand for Xml.
+// The type with this code, and what the value says of it. Codes that are none stand for Xml. An arm for each type, as above: it is the same table read
+// the other way, and a search of a list of types would make them all first.
 #[tactic(auto, unfolding(crate::specs::Codes::type_with))]
 pub fn type_with(code: u64, value: u16) -> Db2Type
     ensures { result ≡ type_with code value }

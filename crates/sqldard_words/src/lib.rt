@@ -19,7 +19,7 @@ use sqlcard::SqlCard;
 
 // How many columns were written, 22 words each. Where the refusal's number is not 0, it is 0, and the card is that for success.
 #[repr(C)]
-#[derive(Clone, Copy)]
+#[derive(Clone, Copy, Debug, PartialEq, Eq)]
 pub struct SqldardResult {
     pub refusal: RefusalNumbers,
     pub card: SqlCard,
@@ -47,7 +47,7 @@ impl From<Result<Sqldard, Refusal>> for SqldardResult {
     }
 }
 
-// Writes a decision's columns as words. By places, and no `zip` with `chunks_exact_mut`: an invariant cannot name the words that are lent out then.
+// Writes a decision's columns as words. By places, and no `zip` with `as_chunks_mut`: an invariant cannot name the words that are lent out then.
 fn fill_words(reply: &[u8], decision: Decision, words: &mut [u64]) -> Sqldard
     requires count_value { decision.plan.run.count ≡ length (columns_of page037 reply.now decision.plan) }
     requires count_in_bounds { decision.plan.run.count * 22 ≤ length words.old }
