@@ -83,6 +83,7 @@ fn skip_eights<F: Fn(u8) -> bool>(reply: &[u8], offset: usize, end: usize, passe
 }
 
 // Where the first byte from a position on and before `end` stands that passes a test.
+#[tactic(auto, using(crate::proofs::Skips::found, crate::proofs::Skips::not_found, search::proofs::Index::first_more, search::proofs::Index::first_found, search::proofs::Index::first_done))]
 pub fn first_byte<F: Fn(u8) -> bool>(
     reply: &[u8],
     offset: usize,
@@ -111,6 +112,7 @@ pub fn next_ff(reply: &[u8], offset: usize, end: usize) -> Option<usize>
 }
 
 // None where the descriptor has no next.
+#[tactic(auto, using(crate::proofs::Laws::next_at, crate::proofs::Laws::next_is, crate::proofs::Skips::found, crate::proofs::Skips::not_found, crate::proofs::Skips::found_some, crate::proofs::Skips::found_none, crate::proofs::Skips::by_ff_found, crate::proofs::Skips::by_ff_more, crate::proofs::Skips::by_ff_none, crate::proofs::Skips::ff_is, crate::proofs::Skips::no_next))]
 pub fn next_compact_descriptor_offset(reply: &[u8], offset: usize) -> Option<usize>
     requires { offset + 16 ≤ length reply.now }
     ensures { result ≡ found_before (length reply.now + 1) (next_compact reply.now offset) }
@@ -170,6 +172,7 @@ fn table_here(reply: &[u8], offset: usize, more: &mut bool) -> Option<Table>
 }
 
 // The first table of the reply.
+#[tactic(auto, unfolding(crate::specs::Table::table_at), using(crate::proofs::Laws::ended_first, crate::proofs::Laws::ended_later, crate::proofs::Laws::table_none, crate::proofs::Laws::table_is, crate::proofs::Laws::table_stands, crate::proofs::Laws::table_missing, search::proofs::Index::first_more, search::proofs::Index::first_found, search::proofs::Index::first_done))]
 pub fn find_compact_descriptor_table(reply: &[u8]) -> Option<Table>
     ensures value { unwrap_or result no_table ≡ table_of reply.now }
     ensures bounds { IfSome result (λ table. (table.start ≤ length reply.now) × ((1 ≤ table.count) × (table.count ≤ 512))) }
