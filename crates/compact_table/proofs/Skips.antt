@@ -1,23 +1,16 @@
 -- A search passes over positions that fail: one step after the other, or to where a weaker test passes.
-use Prim.Native.Nat.{ℕ, zero, suc, ◌+◌, ◌-◌, ◌*◌, ◌/◌, ◌≤◌, ◌<◌}
+use Prim.Native.Nat.{ℕ, zero, suc, ◌+◌, ◌-◌, ◌≤◌, ◌<◌}
 use native.Mathlib.Omega.{arith}
-use mathlib.Core.Path.{◌≡◌, refl, sym, ap, ◌∙◌}
+use mathlib.Core.Path.{◌≡◌, refl, sym}
 use mathlib.Core.List.{List}
-use mathlib.Core.Bool.{Bool, true, false, not, cond, ◌||◌, false≢true}
+use mathlib.Core.Bool.{Bool, true, false, ◌||◌, false≢true}
 use lib.Dec.{ltb}
-use lib.ListN.{length, get_or, take, drop, length-drop}
-use lib.Seq.{length-take-le}
-use Rattle.std.specs.Option.{unwrap_or}
-use Rattle.std.proofs.lemmas.List.Sums.{prefix_len-le-length}
-use Rattle.std.specs.List.{position_or_len}
-use Rattle.std.specs.Simd.{first_chunks}
-use Rattle.std.proofs.lemmas.List.{get_or-take, get_or-drop}
 use borrow.Author.Tests.{lt-ltb, le-ltb, ltb-true, ltb-false}
-use Rattle.std.specs.Prelude.{Option, Some, None}
+use Rattle.std.specs.Prelude.{Some, None}
 use Rattle.search.specs.Search.{pick}
 use Rattle.search.specs.Walks.{first}
 use Rattle.search.proofs.Index.{first_is, first_more, first_found, first_done}
-use Rattle.compact_table.specs.Bytes.{at_byte, in_eight, found_before}
+use Rattle.compact_table.specs.Bytes.{in_eight, found_before}
 use Rattle.compact_table.specs.Table.{is_ff, ff_at, next_here}
 
 module _ (f : ℕ → Bool) (n t : ℕ) where
@@ -66,59 +59,6 @@ skip_eight f n t i h g u =
     let u6 = step f n t (i + 5) (i + 6) (omega arith) g5.1 (omega arith) u5 in
     let u7 = step f n t (i + 6) (i + 7) (omega arith) g6.1 (omega arith) u6 in
     step f n t (i + 7) (i + 8) (omega arith) g7.1 (omega arith) u7
-
--- ---- arrays of eight: l has what s has from i on
-
-abbrev pub passes : (ℕ → Bool) → List ℕ → Bool
-passes test eight = in_eight (at_byte test eight) 0
-
-module _ (test : ℕ → Bool) (s : List ℕ) (n t : ℕ) where
-  array_of : (l : List ℕ) (i m : ℕ) → ((q : ℕ) → q < 8 + m → get_or l q 0 ≡ get_or s (i + q) 0) → passes test (take 8 l) ≡ in_eight (at_byte test s) i
-  array_of l i m h =
-      let e : i + 0 ≡ i = omega arith in
-      let w : (q : ℕ) → q < 8 → get_or (take 8 l) q 0 ≡ get_or s (i + q) 0 = λ q k. get_or-take 8 l q 0 k ∙ h q (omega arith) in
-      rw (w 0 (omega arith), w 1 (omega arith), w 2 (omega arith), w 3 (omega arith), w 4 (omega arith), w 5 (omega arith), w 6 (omega arith), w 7 (omega arith), e) refl
-
-  -- the arrays before the first that passes
-  skip_arrays : (m : ℕ) (l : List ℕ) (i : ℕ) → i + 8 * m ≤ n → ((q : ℕ) → q < 8 * m → get_or l q 0 ≡ get_or s (i + q) 0)
-      → t ≡ first (at_byte test s) i n → t ≡ first (at_byte test s) (i + 8 * position_or_len (passes test) (first_chunks 8 m l)) n
-  skip_arrays zero l i b h u = let e : i + 8 * 0 ≡ i = omega arith in rw e u
-  skip_arrays (suc m) l i b h u =
-      go (passes test (take 8 l)) refl
-      (λ v. skip_arrays m (drop 8 l) (i + 8) (omega arith)
-      (λ q k. let z : i + (8 + q) ≡ i + 8 + q = omega arith in get_or-drop 8 l q 0 ∙ h (8 + q) (omega arith) ∙ ap (λ (j : ℕ). get_or s j 0) z) v)
-    where
-      rest : ℕ
-      rest = position_or_len (passes test) (first_chunks 8 m (drop 8 l))
-
-      go : (p : Bool) → passes test (take 8 l) ≡ p → (t ≡ first (at_byte test s) (i + 8) n → t ≡ first (at_byte test s) (i + 8 + 8 * rest) n)
-          → t ≡ first (at_byte test s) (i + 8 * cond (not p) (1 + rest) 0) n
-      go true e r = let z : i + 8 * 0 ≡ i = omega arith in rw z u
-      go false e r =
-          let f = sym (array_of l i (8 * m) (λ q k. h q (omega arith))) ∙ e in
-          let z : i + 8 * (1 + rest) ≡ i + 8 + 8 * rest = omega arith in
-          rw z (r (skip_eight (at_byte test s) n t i (omega arith) f u))
-
--- the place of the first that passes, or how many they are
-or_length : {A : Type 0} (f : A → Bool) (xs : List A) (r : Option ℕ)
-    → r ≡ cond (ltb (position_or_len f xs) (length xs)) (Some (position_or_len f xs)) None → unwrap_or r (length xs) ≡ position_or_len f xs
-or_length f xs r e = rw e (go (ltb (position_or_len f xs) (length xs)) refl)
-  where
-    go : (b : Bool) → ltb (position_or_len f xs) (length xs) ≡ b → unwrap_or (cond b (Some (position_or_len f xs)) None) (length xs) ≡ position_or_len f xs
-    go true v = refl
-    go false v = let h = ltb-false (position_or_len f xs) (length xs) v in omega (arith, prefix_len-le-length (λ x. not (f x)) xs)
-
--- the bytes from i on and before e, in arrays of eight
-pub skip_slice : (test : ℕ → Bool) (s : List ℕ) (i e : ℕ) → i ≤ e → e ≤ length s → (eights : List (List ℕ)) (r : Option ℕ)
-    → eights ≡ first_chunks 8 (length (take (e - i) (drop i s)) / 8) (take (e - i) (drop i s))
-    → r ≡ cond (ltb (position_or_len (passes test) eights) (length eights)) (Some (position_or_len (passes test) eights)) None
-    → first (at_byte test s) i e ≡ first (at_byte test s) (i + 8 * unwrap_or r (length eights)) e
-skip_slice test s i e a b eights r u v =
-    let l : List ℕ = take (e - i) (drop i s) in
-    let n : length l ≡ e - i = length-take-le (e - i) (drop i s) (omega (arith, length-drop i s)) in
-    rw (or_length _ eights r v, u)
-    (skip_arrays test s e (first (at_byte test s) i e) (length l / 8) l i (omega arith)
-    (λ q k. get_or-take (e - i) (drop i s) q 0 (omega arith) ∙ get_or-drop i s q 0) refl)
 
 -- ---- the answer of a search, by the position that it ends at
 

@@ -49,36 +49,41 @@ pub fn looks_like_compact_descriptor_start(reply: &[u8], offset: usize) -> bool
     looks_like_start_within(reply, offset)
 }
 
-fn any_in_eight<F: Fn(u8) -> bool>(eight: &[u8; 8], passes: &F) -> bool
-    requires { F.IsAlwaysCallable passes.now }
-    ensures { (test : ℕ → Bool) → Computes (F.post passes.now) test → result ≡ in_eight (at_byte test eight.now) 0 }
+fn any_in_eight<F: Fn(u8) -> bool>(reply: &[u8], offset: usize, passes: &F) -> bool
+    requires in_range { offset + 8 ≤ length reply.now }
+    requires callable { F.IsAlwaysCallable passes.now }
+    ensures { (test : ℕ → Bool) → Computes (F.post passes.now) test → result ≡ in_eight (at_byte test reply.now) offset }
 {
-    passes(eight[0])
-        | passes(eight[1])
-        | passes(eight[2])
-        | passes(eight[3])
-        | passes(eight[4])
-        | passes(eight[5])
-        | passes(eight[6])
-        | passes(eight[7])
+    passes(reply[offset])
+        | passes(reply[offset + 1])
+        | passes(reply[offset + 2])
+        | passes(reply[offset + 3])
+        | passes(reply[offset + 4])
+        | passes(reply[offset + 5])
+        | passes(reply[offset + 6])
+        | passes(reply[offset + 7])
 }
 
-// Eight bytes are tested at once, and passed over where none of them passes: one by one, a byte takes 7 instructions and not 1.
+// Eight bytes are tested at once: one loop turn passes over them where none of them passes. A `while`, as the step is not 1: by `as_chunks` and
+// `position` it is proved too, and takes up to 1.05 times the instructions, in replies with many FFs.
 fn skip_eights<F: Fn(u8) -> bool>(reply: &[u8], offset: usize, end: usize, passes: &F) -> usize
     requires in_range { (offset ≤ end) × (end ≤ length reply.now) }
     requires callable { F.IsAlwaysCallable passes.now }
     ensures bound { result ≤ end }
     ensures skips { (test : ℕ → Bool) → Computes (F.post passes.now) test → first (at_byte test reply.now) offset end ≡ first (at_byte test reply.now) result end }
 {
-    let (eights, _) = reply[offset..end].as_chunks::<8>();
-    let skipped = eights
-        .iter()
-        .position(|eight| any_in_eight(eight, passes))
-        .unwrap_or(eights.len());
-    offset + 8 * skipped
+    let mut i = offset;
+    while 8 <= end - i {
+        if any_in_eight(reply, i, passes) {
+            return i;
+        }
+        i += 8;
+    }
+    i
 }
 
 // Where the first byte from a position on and before `end` stands that passes a test.
+#[tactic(auto, using(crate::proofs::Skips::found, crate::proofs::Skips::not_found, search::proofs::Index::first_more, search::proofs::Index::first_found, search::proofs::Index::first_done))]
 pub fn first_byte<F: Fn(u8) -> bool>(
     reply: &[u8],
     offset: usize,
@@ -89,7 +94,7 @@ pub fn first_byte<F: Fn(u8) -> bool>(
     requires callable { F.IsAlwaysCallable passes }
     ensures { (test : ℕ → Bool) → Computes (F.post passes) test → result ≡ found_before end (first (at_byte test reply.now) offset end) }
 {
-    // By `position` over what is left a search through many bytes that pass takes 1.05 times the instructions.
+    // By `position` over what is left, 1.05 times the instructions where many bytes pass.
     for place in skip_eights(reply, offset, end, &passes)..end {
         if passes(reply[place]) {
             return Some(place);
@@ -107,6 +112,7 @@ pub fn next_ff(reply: &[u8], offset: usize, end: usize) -> Option<usize>
 }
 
 // None where the descriptor has no next.
+#[tactic(auto, using(crate::proofs::Laws::next_at, crate::proofs::Laws::next_is, crate::proofs::Skips::found, crate::proofs::Skips::not_found, crate::proofs::Skips::found_some, crate::proofs::Skips::found_none, crate::proofs::Skips::by_ff_found, crate::proofs::Skips::by_ff_more, crate::proofs::Skips::by_ff_none, crate::proofs::Skips::ff_is, crate::proofs::Skips::no_next))]
 pub fn next_compact_descriptor_offset(reply: &[u8], offset: usize) -> Option<usize>
     requires { offset + 16 ≤ length reply.now }
     ensures { result ≡ found_before (length reply.now + 1) (next_compact reply.now offset) }
@@ -166,6 +172,7 @@ fn table_here(reply: &[u8], offset: usize, more: &mut bool) -> Option<Table>
 }
 
 // The first table of the reply.
+#[tactic(auto, unfolding(crate::specs::Table::table_at), using(crate::proofs::Laws::ended_first, crate::proofs::Laws::ended_later, crate::proofs::Laws::table_none, crate::proofs::Laws::table_is, crate::proofs::Laws::table_stands, crate::proofs::Laws::table_missing, search::proofs::Index::first_more, search::proofs::Index::first_found, search::proofs::Index::first_done))]
 pub fn find_compact_descriptor_table(reply: &[u8]) -> Option<Table>
     ensures value { unwrap_or result no_table ≡ table_of reply.now }
     ensures bounds { IfSome result (λ table. (table.start ≤ length reply.now) × ((1 ≤ table.count) × (table.count ≤ 512))) }

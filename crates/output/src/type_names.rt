@@ -1,4 +1,4 @@
-// The names of types.
+// The names of types. Letters, and no Display: a cell's promise speaks of its letters. No promise of their own, which would be this table again.
 use types::Db2Type;
 
 pub fn type_name(db2_type: Db2Type) -> &'static str {

@@ -26,23 +26,3 @@ first_in_all P f x (each_more {x = y} {xs = ys} p ps) q = go (f y) p (first_in_a
     go : (b : Bool) → P y → P (first_in f ys x) → P (pick b y (first_in f ys x))
     go true u v = u
     go false u v = v
-
--- ---- two tests: the first alternative that passes f, else the first that passes g, else l. One is looked at after the other; k is the one that is
--- kept meanwhile, the first that passed g if there was one, and xs are still to come
-
-module _ {X : Type 0} (f g : X → Bool) (l : X) where
-  abbrev pub undecided : X → List X → X
-  undecided k xs = first_in f xs (first_in g (k ∷ xs) l)
-
-  pub undecided_first : (x : X) (xs : List X) → f x ≡ false → first_in f (x ∷ xs) (first_in g (x ∷ xs) l) ≡ undecided x xs
-  undecided_first x xs e = rw e refl
-
-  pub undecided_taken : (k x : X) (xs : List X) → f x ≡ true → undecided k (x ∷ xs) ≡ x
-  undecided_taken k x xs e = rw e refl
-
-  pub undecided_next : (k x : X) (xs : List X) → f x ≡ false → undecided k (x ∷ xs) ≡ undecided (pick (g k) k x) xs
-  undecided_next k x xs e = rw e (go (g k) refl)
-    where
-      go : (b : Bool) → g k ≡ b → first_in f xs (pick b k (first_in g (x ∷ xs) l)) ≡ undecided (pick b k x) xs
-      go true d = rw d refl
-      go false d = refl

@@ -2,11 +2,9 @@ pub mod Tests
 pub mod Each
 pub mod First
 pub mod Over
-pub mod Count
 pub mod Index
 pub mod Best
 pub mod Walks
 pub mod Alternatives
 pub mod Writing
-pub mod Filling
 pub mod Alike

@@ -4,8 +4,8 @@ use mathlib.Core.List.{List, [], ◌∷◌, ◌++◌, append_assoc, append-nil, 
 use Prim.Native.Nat.{ℕ, zero, suc, ◌+◌, ◌≤◌, ◌<◌}
 use native.Mathlib.Numerals.{add-one}
 use native.Mathlib.Omega.{arith}
-use lib.ListN.{length, get_or, take, drop, set, length-append, length-drop, length-map, drop_of_length-le}
-use lib.Seq.{drop-cons, take-suc, set_at, length-take-le, take-length}
+use lib.ListN.{length, get_or, take, drop, set, length-map, drop_of_length-le}
+use lib.Seq.{drop-cons, take-suc, set_at, length-take-le}
 use Rattle.search.specs.Search.{over}
 
 module _ {A : Type 0} (t b : List A) (i : ℕ) where
@@ -15,20 +15,12 @@ module _ {A : Type 0} (t b : List A) (i : ℕ) where
       rw (add-one i, drop-cons b i d q, take-suc t i d p, append_assoc (take i t) (get_or t i d ∷ []) (drop (suc i) b))
       (set_at (take i t) (get_or b i d) (drop (suc i) b) (get_or t i d) i (length-take-le i t (omega arith)))
 
-  -- what is written over keeps its length
-  pub over_length : i ≤ length t → i ≤ length b → length (take i t ++ drop i b) ≡ length b
-  over_length p q = omega (arith, length-append (take i t) (drop i b), length-drop i b, length-take-le i t p)
-
 module _ {A : Type 0} (t b : List A) where
   -- nothing is left of a list that is as long
   pub over_whole : length t ≡ length b → over t b ≡ t
   over_whole h =
       let z : length b ≤ length t = omega arith in
       rw (drop_of_length-le b z) (append-nil t)
-
-  -- written whole: its elements, and what lies past them
-  pub over_copied : take (length t) t ++ drop (length t) b ≡ over t b
-  over_copied = rw (take-length t) refl
 
 -- an element of a list that was mapped
 pub get_d_map : {A B : Type 0} (f : A → B) (l : List A) (i : ℕ) (d : A) (e : B) → i < length l → get_or (map f l) i e ≡ f (get_or l i d)
@@ -41,9 +33,6 @@ abbrev pub Mapped : {A B : Type 0} → (A → B) → List A → List B → List 
 Mapped f l b m i = (i ≤ length l) × (m ≡ take i (map f l) ++ drop i b)
 
 module _ {A B : Type 0} (f : A → B) (l : List A) (b : List B) (h : length l ≤ length b) (m : List B) (i : ℕ) (v : Mapped f l b m i) where
-  pub mapped_length : length m ≡ length b
-  mapped_length = ap length v.1 ∙ over_length (map f l) b i (omega (arith, length-map l f, v.0)) (omega (arith, v.0))
-
   pub mapped_more : (x : B) (d : A) → i < length l → x ≡ f (get_or l i d) → Mapped f l b (set m i x) (i + 1)
   mapped_more x d g e =
       let n : length (map f l) ≡ length l = length-map l f in
@@ -51,8 +40,3 @@ module _ {A B : Type 0} (f : A → B) (l : List A) (b : List B) (h : length l �
       let z : set m i x ≡ set (take i (map f l) ++ drop i b) i (get_or (map f l) i x) =
       ap (λ (w : List B). set w i x) v.1 ∙ ap (set (take i (map f l) ++ drop i b) i) y in
       (omega arith, z ∙ over_next (map f l) b i x (omega arith) (omega arith))
-
-  pub mapped_all : length l ≤ i → m ≡ over (map f l) b
-  mapped_all g =
-      let n : i ≡ length (map f l) = omega (arith, length-map l f, v.0) in
-      v.1 ∙ rw n (over_copied (map f l) b)

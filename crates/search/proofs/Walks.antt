@@ -81,18 +81,3 @@ module _ {A : Type 0} (w : Walk A) (f : A → Bool) (n p₀ : ℕ) where
     walking_done h =
         let k : n - i ≡ 0 = omega arith in
         over (ap (λ (j : ℕ). chain w j i p) k)
-
-    -- a step before the last can be made, and adds what it finds: for who writes the list down
-    pub walking_reads : i < length (chain w n 0 p₀) → (i < n) × (w.reads p (w.end (n - (i + 1)) p) ≡ true)
-        × (chain w (n - i) i p ≡ w.view i p (w.end (n - (i + 1)) p) ∷ chain w (n - (i + 1)) (i + 1) (w.end (n - (i + 1)) p))
-    walking_reads h =
-        let l = chain_le w n 0 p₀ in
-        let j : i < n = omega arith in
-        go j (w.reads p (w.end (n - (i + 1)) p)) refl (turn j)
-      where
-        go : i < n → (b : Bool) → w.reads p (w.end (n - (i + 1)) p) ≡ b
-            → chain w (n - i) i p ≡ pick b (w.view i p (w.end (n - (i + 1)) p) ∷ chain w (n - (i + 1)) (i + 1) (w.end (n - (i + 1)) p)) []
-            → (i < n) × (w.reads p (w.end (n - (i + 1)) p) ≡ true)
-            × (chain w (n - i) i p ≡ w.view i p (w.end (n - (i + 1)) p) ∷ chain w (n - (i + 1)) (i + 1) (w.end (n - (i + 1)) p))
-        go j true e z = (j, e, z)
-        go j false e z = absurd (let x = over z in omega (arith, x.0))

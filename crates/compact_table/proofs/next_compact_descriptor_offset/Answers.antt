@@ -1,8 +1,8 @@
--- The next, or from an FF on to the one after it, or none.
-use Rattle.std.proofs.Common.{arith, refl, sym}
+-- The next, and an FF with none behind it.
+use Rattle.std.proofs.Common.{arith, sym}
 use Rattle.compact_table.specs.Table.{next_here}
 use Rattle.compact_table.proofs.Laws.{next_at, next_is}
-use Rattle.compact_table.proofs.Skips.{found, not_found, found_some, found_none, by_ff_found, by_ff_more, by_ff_none, ff_is, no_next}
+use Rattle.compact_table.proofs.Skips.{found, found_some, by_ff_found, ff_is, no_next}
 use Rattle.compact_table.proofs.next_compact_descriptor_offset.Goals as goal
 
 pub returns-then-looks_like_compact_descriptor_start : goal.returns-then-looks_like_compact_descriptor_start
@@ -17,20 +17,3 @@ loop-ff-smaller c =
     let ff = found_some _ _ _ c.in-Some.ensures in
     let later = (ff_is _ _ _ _ c.loop-ff.invariant.in_range ff.0).0 in
     omega arith
-
-pub loop-ff-preserved : goal.loop-ff-preserved
-loop-ff-preserved c =
-    let ff = found_some _ _ _ c.in-Some.ensures in
-    let here = (ff_is _ _ _ _ c.loop-ff.invariant.in_range ff.0).1 ff.1 in
-    let next = sym (next_at _ _ _ here c.if-looks_like_compact_descriptor_start.ensures) in
-    record {
-      in_range = omega arith;
-      same = by_ff_more _ (next_here _) (no_next _) _ _ _ _ c.loop-ff.invariant.in_range ff.0 c.loop-ff.invariant.same ff.1 next;
-    }
-
-pub returns : goal.returns
-returns c =
-    let none = found_none _ _ c.in_default.ensures in
-    let last = by_ff_none _ (next_here _) (no_next _) _ _ _ _ c.loop-ff.invariant.in_range refl c.loop-ff.invariant.same none in
-    let end = next_is _ _ _ last in
-    not_found _ _ (omega arith)

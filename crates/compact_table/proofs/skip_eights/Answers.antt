@@ -1,12 +1,14 @@
 -- Eight bytes that fail.
-use Rattle.std.proofs.Common.{rules, arith}
-use Rattle.std.proofs.lemmas.Iterator.{YieldsList-from_slice}
-use Rattle.std.proofs.lemmas.Iterator.Search.{position_from_yields_List}
-use Rattle.compact_table.proofs.Skips.{passes, skip_slice}
+use Rattle.std.proofs.Common.{arith, sym}
+use Rattle.compact_table.specs.Bytes.{at_byte}
+use Rattle.compact_table.proofs.Skips.{skip_eight}
 use Rattle.compact_table.proofs.skip_eights.Goals as goal
 
-pub returns-clause-skips : goal.returns-clause-skips
-returns-clause-skips g c = λ test computes.
-    let found = position_from_yields_List (passes test) _ _ c.position.result c.position.ensures.ran
-    (YieldsList-from_slice c.as_chunks.result.0.now cc) (λ x b q k. (search rules, search (rules, k.met))) in
-    rw c.unwrap_or-skipped.ensures (skip_slice test _ _ _ (omega arith) (omega arith) _ _ c.as_chunks.ensures.front found)
+pub loop-i-preserved : goal.loop-i-preserved
+loop-i-preserved g c =
+    record {
+      in_range = omega arith;
+      same = λ test computes.
+          skip_eight (at_byte test _) _ _ _ (omega arith) (sym (c.if-any_in_eight.ensures test computes))
+          (c.loop-i.invariant.same test computes);
+    }
