@@ -302,7 +302,6 @@ pub fn read_descriptor(reply: &[u8], offset: usize, order: ByteOrder) -> Describ
 // Where the count of columns is due: past the SQLCA group and SQLDHGRP.
 #[tactic(auto, using(crate::proofs::Front::count_at_end, crate::proofs::Front::count_at_past))]
 pub fn count_offset(reply: &[u8]) -> Result<usize, usize>
-    requires { length reply.now ≤ 65536 }
     ensures { IsRead reply.now (count_at reply.now) (λ offset. offset ≡ count_at reply.now) result }
 {
     let flag = sqlcard::sqlca_end(reply)?;

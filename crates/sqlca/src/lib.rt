@@ -58,13 +58,11 @@ pub struct Extension {
 pub struct Sqlca<'a> {
     pub reply: &'a [u8],
     ghost whole: { 19 ≤ length reply.now },
-    ghost bounded: { length reply.now ≤ 65536 },
 }
 
 impl<'a> Sqlca<'a> {
     // None where the reply ends within the 19 bytes before the extension.
     pub fn new(reply: &'a [u8]) -> Option<Sqlca<'a>>
-        requires { length reply.now ≤ 65536 }
         ensures { MatchOption result (length reply.now < 19) (λ sqlca. sqlca.reply ≡ reply.entry) }
     {
         if reply.len() < 19 {
@@ -175,7 +173,8 @@ impl<'a> Sqlca<'a> {
     }
 
     fn string_has_text(self, string: StringRead) -> bool
-        requires { string.place + string.length ≤ length self.reply.now }
+        requires inside { string.place + string.length ≤ length self.reply.now }
+        requires short { string.length ≤ 65535 }
         ensures { result ≡ has_text page037 (bytes_of self.entry.reply.now string) }
     {
         Message::new(&self.reply[string.place..string.place + string.length]).has_text()

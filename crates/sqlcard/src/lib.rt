@@ -194,8 +194,7 @@ pub fn sqlca_end(reply: &[u8]) -> Result<usize, usize>
 // Past the group between the SQLCA and the columns, whose flag stands at `offset`.
 #[tactic(auto, unfolding(crate::specs::Sqldhgrp::sqldhgrp_end))]
 pub fn skip_sqldhgrp(reply: &[u8], offset: usize) -> Result<usize, usize>
-    requires offset_in_bounds { offset < length reply.now }
-    requires reply_len_bound { length reply.now ≤ 65536 }
+    requires { offset < length reply.now }
     ensures { IsRead reply.now (sqldhgrp_end reply.now offset) (λ next. next ≡ sqldhgrp_end reply.now offset) result }
 {
     if reply[offset] == 0xFF {

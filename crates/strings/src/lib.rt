@@ -2,7 +2,7 @@
 // Where the reply ends early, the error is how many bytes were expected.
 #![tactic(auto)]
 
-ghost use Rattle.std.specs.Prelude.{◌≡◌};
+ghost use Rattle.std.specs.Prelude.{◌≡◌, ◌≤◌, IfOk};
 ghost use Rattle.strings.specs.Strings.{IsRead, IsStringAt, no_string, strings_end, chosen, pair_at};
 
 use field::ByteOrder;
@@ -30,7 +30,8 @@ impl<'a> Walker<'a> {
     }
 
     pub fn string(self) -> Result<StringRead, usize>
-        ensures { IsStringAt self.entry.reply.now self.entry.offset result }
+        ensures at { IsStringAt self.entry.reply.now self.entry.offset result }
+        ensures short { IfOk result (λ string. string.length ≤ 65535) }
     {
         string_at(self.reply, self.offset)
     }
@@ -49,7 +50,8 @@ pub fn no_string(next: usize) -> StringRead
 
 #[tactic(auto, unfolding(crate::specs::Strings::string_at, crate::specs::Strings::string_end))]
 fn string_at(reply: &[u8], offset: usize) -> Result<StringRead, usize>
-    ensures { IsStringAt reply.now offset result }
+    ensures at { IsStringAt reply.now offset result }
+    ensures short { IfOk result (λ string. string.length ≤ 65535) }
 {
     let end = reply.len();
     // One test where strings follow one another: two take 1.03 times the instructions of a name scan.
@@ -71,7 +73,8 @@ fn string_at(reply: &[u8], offset: usize) -> Result<StringRead, usize>
 
 // The string at a position: what every group of strings is read by.
 pub fn read_string(reply: &[u8], offset: usize) -> Result<StringRead, usize>
-    ensures { IsStringAt reply.now offset result }
+    ensures at { IsStringAt reply.now offset result }
+    ensures short { IfOk result (λ string. string.length ≤ 65535) }
 {
     Walker::new(reply, offset).string()
 }

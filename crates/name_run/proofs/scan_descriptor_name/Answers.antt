@@ -15,8 +15,8 @@ returns-then-reply-offset-clause-scanned c =
 -- whatever their order: which of them comes first is the fact of the goal below
 pub scanned_name-requires : goal.scanned_name-requires
 scanned_name-requires c =
-    let m = some_read _ _ _ _ c.read_string.ensures _ (sym c.ok.ensures.value ∙ c.in_ok-m.was) in
-    let s = some_read _ _ _ _ c.read_string-2.ensures _ (sym c.ok-2.ensures.value ∙ c.in_ok-s.was) in
+    let m = some_read _ _ _ _ c.read_string.ensures.at _ (sym c.ok.ensures.value ∙ c.in_ok-m.was) in
+    let s = some_read _ _ _ _ c.read_string-2.ensures.at _ (sym c.ok-2.ensures.value ∙ c.in_ok-s.was) in
     let x = some_read _ _ _ _ c.read_sqldxgrp.ensures _ (sym c.ok-5.ensures.value ∙ c.in_ok-extension.was) in
     let i = string_read_inside _ _ _ m.0 in
     let j = string_read_inside _ _ _ s.0 in
@@ -25,8 +25,8 @@ scanned_name-requires c =
 
 pub returns : goal.returns
 returns c =
-    let m = some_read _ _ _ _ c.read_string.ensures _ (sym c.ok.ensures.value ∙ c.in_ok-m.was) in
-    let s = some_read _ _ _ _ c.read_string-2.ensures _ (sym c.ok-2.ensures.value ∙ c.in_ok-s.was) in
+    let m = some_read _ _ _ _ c.read_string.ensures.at _ (sym c.ok.ensures.value ∙ c.in_ok-m.was) in
+    let s = some_read _ _ _ _ c.read_string-2.ensures.at _ (sym c.ok-2.ensures.value ∙ c.in_ok-s.was) in
     let q = some_read _ _ _ _ c.skip_strings.ensures _ (sym c.ok-3.ensures.value ∙ c.in_ok-comments_end.was) in
     let u = some_read _ _ _ _ c.skip_sqludtgrp.ensures _ (sym c.ok-4.ensures.value ∙ c.in_ok-udt_end.was) in
     let x = some_read _ _ _ _ c.read_sqldxgrp.ensures _ (sym c.ok-5.ensures.value ∙ c.in_ok-extension.was) in
