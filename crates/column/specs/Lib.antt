@@ -1,3 +1,4 @@
 pub mod Column
+pub mod Sqldagrp
 pub mod Numbers
 pub mod Moved

@@ -6,12 +6,39 @@ ghost use Rattle.search.specs.Search.{pick};
 ghost use Rattle.codepage.specs.Page.{page037};
 ghost use Rattle.text.specs.Generated.{is_generated, decoded, is_generated_text};
 ghost use Rattle.column.specs.Column.{string_text, name_text, StringsInside, blank_column};
+ghost use Rattle.column.specs.Sqldagrp.{sqldagrp_at};
 ghost use Rattle.column.specs.Numbers.{order_number, order_of, text_from, numbers_of, Fits, column_of};
 
 use field::ByteOrder;
 use strings::StringRead;
 use text::Text;
 use types::{ColumnMetadata, Db2Type};
+
+// The numbers of SQLDAGRP; of precision and scale the low 8 bits.
+#[derive(Clone, Copy, Debug, PartialEq, Eq)]
+pub struct Sqldagrp {
+    pub precision: u8,
+    pub scale: u8,
+    pub raw_length: u64,
+    pub sql_type: u16,
+    pub ccsid: u16,
+}
+
+// One reader for both kinds of descriptor.
+pub fn read_sqldagrp(reply: &[u8], offset: usize, order: ByteOrder) -> Sqldagrp
+    requires { offset + 16 ≤ length reply.now }
+    ensures { result ≡ sqldagrp_at order reply.now offset }
+{
+    let precision = field::u16_at(reply, offset, order);
+    let scale = field::u16_at(reply, offset + 2, order);
+    Sqldagrp {
+        precision: (precision % 256) as u8,
+        scale: (scale % 256) as u8,
+        raw_length: field::u64_at(reply, offset + 4, order),
+        sql_type: field::u16_at(reply, offset + 12, order),
+        ccsid: field::u16_at(reply, offset + 14, order),
+    }
+}
 
 // What a descriptor says: its numbers as they stand in the reply, where its strings lie (length 0 where there is none), and what is past it.
 #[derive(Clone, Copy, Debug, PartialEq, Eq)]

@@ -52,6 +52,7 @@ fn is_name_char(character: u8) -> bool
 
 // Whether a name's length byte stands at a position of the descriptor that ends at `end`. Name characters stand up to `stop` where it is past
 // the position: they were tested behind an earlier one and are not tested again.
+#[tactic(auto, using(crate::proofs::Laws::name_size, crate::proofs::Laws::name_over, crate::proofs::Stops::stops_later, crate::proofs::Stops::name_known))]
 fn name_here(reply: &[u8], end: usize, offset: usize, stop: &mut usize) -> bool
     requires in_range { (offset < end) × (end ≤ length reply.now) }
     requires stops { Stops reply.now end offset stop.old }
@@ -78,6 +79,7 @@ fn name_here(reply: &[u8], end: usize, offset: usize, stop: &mut usize) -> bool
     }
 }
 
+#[tactic(auto, using(crate::proofs::Stops::stops_first, crate::proofs::Laws::name_found, crate::proofs::Laws::name_none, search::proofs::Index::first_more, search::proofs::Index::first_found, search::proofs::Index::first_done), unfolding(crate::specs::Compact::name_at))]
 fn extract_column_name(reply: &[u8], offset: usize, end: usize) -> StringRead
     requires { (offset + 16 ≤ end) × (end ≤ length reply.now) }
     ensures { result ≡ compact_name reply.now offset end }
@@ -96,23 +98,21 @@ fn extract_column_name(reply: &[u8], offset: usize, end: usize) -> StringRead
 }
 
 // The descriptor from `offset` to `end`. Its strings lie in the reply, as those who decode them ask.
+#[tactic(auto, using(crate::proofs::Names::name_inside, crate::proofs::Names::none_inside), unfolding(crate::specs::Compact::compact_at))]
 pub fn read_compact(reply: &[u8], offset: usize, end: usize) -> Described
     requires { (offset + 16 ≤ end) × (end ≤ length reply.now) }
     ensures value { result ≡ compact_at reply.now offset end }
     ensures strings_inside { StringsInside reply.now result }
 {
-    let sql_type = field::u16_at(reply, offset + 12, ByteOrder::LittleEndian);
-    let raw_length = field::u64_at(reply, offset + 4, ByteOrder::LittleEndian);
-    let precision = field::u16_at(reply, offset, ByteOrder::LittleEndian);
-    let scale = field::u16_at(reply, offset + 2, ByteOrder::LittleEndian);
+    let numbers = column::read_sqldagrp(reply, offset, ByteOrder::LittleEndian);
     let ccsid = decode_ccsid(reply, offset + 14);
     let name = extract_column_name(reply, offset, end);
     let none = strings::no_string(0);
     Described {
-        sql_type,
-        raw_length,
-        precision: (precision % 256) as u8,
-        scale: (scale % 256) as u8,
+        sql_type: numbers.sql_type,
+        raw_length: numbers.raw_length,
+        precision: numbers.precision,
+        scale: numbers.scale,
         ccsid,
         byte_order: ByteOrder::LittleEndian,
         name,
@@ -123,6 +123,7 @@ pub fn read_compact(reply: &[u8], offset: usize, end: usize) -> Described
     }
 }
 
+#[tactic(auto, using(crate::proofs::Laws::compact_last, crate::proofs::Laws::compact_by_next))]
 fn compact_descriptor_end(left: usize, reply: &[u8], offset: usize) -> usize
     requires { offset + 16 ≤ length reply.now }
     ensures { (result ≡ compact_end left reply.now offset) × (result ≤ length reply.now) }
@@ -141,6 +142,7 @@ fn ffs_here(reply: &[u8], offset: usize) -> bool
     (reply[offset] == 0xFF) & ((reply[offset + 1] == 0xFF) & (reply[offset + 2] == 0xFF))
 }
 
+#[tactic(auto, using(crate::proofs::Laws::no_ffs, compact_table::proofs::Skips::found_some, compact_table::proofs::Skips::by_ff_more, compact_table::proofs::Skips::ff_is))]
 fn last_descriptor_end(reply: &[u8], offset: usize) -> usize
     requires { offset + 16 ≤ length reply.now }
     ensures { (result ≡ last_end reply.now offset) × (result ≤ length reply.now) }
@@ -170,6 +172,7 @@ pub fn compact_end(ends: Ends, left: usize, reply: &[u8], offset: usize) -> usiz
 }
 
 // At most `count` descriptors from a position on: how many there are, and how many have names.
+#[tactic(auto, using(crate::proofs::Names::name_inside, search::proofs::Walks::walking_none))]
 pub fn compact_run(ends: Ends, reply: &[u8], count: usize, offset: usize) -> Run
     requires { offset ≤ length reply.now }
     ensures value { result ≡ compact_run page037 ends reply.now count offset }

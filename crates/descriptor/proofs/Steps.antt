@@ -13,13 +13,14 @@ use Rattle.field.specs.Numbers.{number}
 use Rattle.strings.specs.Strings.{no_string}
 use Rattle.sqlda.specs.Types.{is_known}
 use Rattle.column.specs.declared.Described.{Described}
+use Rattle.column.specs.declared.Sqldagrp.{Sqldagrp}
 use Rattle.column.specs.Column.{StringsInside}
-use Rattle.descriptor.specs.declared.Sqldagrp.{Sqldagrp}
+use Rattle.column.specs.Sqldagrp.{sqldagrp_at}
 use Rattle.descriptor.specs.declared.Sqldoptgrp.{Sqldoptgrp}
 use Rattle.descriptor.specs.declared.Step.{Step}
 use Rattle.descriptor.specs.Nullable.{Flags, lenient, nullable_end, in_nullable}
 use Rattle.descriptor.specs.Descriptor.{opt_end, descriptor_end, opt_name, described_at}
-use Rattle.descriptor.specs.Groups.{sqldagrp_at, sqldoptgrp_at, no_step, step_at}
+use Rattle.descriptor.specs.Groups.{sqldoptgrp_at, no_step, step_at}
 use Rattle.descriptor.proofs.Groups.{Inside, name_inside, label_inside, opt_pair_inside}
 use Rattle.descriptor.proofs.Ends.{descriptor_end_grows}
 

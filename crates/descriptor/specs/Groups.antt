@@ -1,11 +1,10 @@
 -- What the readers of a descriptor answer, as records of the definitions.
-use Rattle.std.specs.Prelude.{Result, Ok, Err, List, ◌≡◌, ℕ, zero, suc, ◌+◌, ◌%◌, ◌≤◌, leb, length}
+use Rattle.std.specs.Prelude.{Result, Ok, Err, List, ◌≡◌, ℕ, zero, suc, ◌+◌, ◌≤◌, leb, length}
 use Rattle.search.specs.Search.{pick}
 use Rattle.field.specs.declared.ByteOrder.{ByteOrder}
 use Rattle.field.specs.declared.ByteOrder.TheVariants.{BigEndian}
 use Rattle.field.specs.Numbers.{number}
 use Rattle.strings.specs.Strings.{strings_end, no_string, pair_at}
-use Rattle.descriptor.specs.declared.Sqldagrp.{Sqldagrp}
 use Rattle.descriptor.specs.declared.Sqldxgrp.{Sqldxgrp}
 use Rattle.descriptor.specs.declared.Label.{Label}
 use Rattle.descriptor.specs.declared.Names.{Names}
@@ -13,16 +12,6 @@ use Rattle.descriptor.specs.declared.Sqldoptgrp.{Sqldoptgrp}
 use Rattle.descriptor.specs.declared.Step.{Step}
 use Rattle.descriptor.specs.Nullable.{lenient, nullable_end, in_nullable}
 use Rattle.descriptor.specs.Descriptor.{dx_end, opt_end, descriptor_end, dx_pair, opt_name, opt_label, opt_pair, described_at}
-
--- the numbers of the SQLDAGRP at p (DRDA V1: SQLDAGRP; 01, Layouts: precision 2, scale 2, length 8, SQLTYPE 2, CCSID 2; 01, Types: low 8 bits)
-abbrev pub sqldagrp_at : ByteOrder → List ℕ → ℕ → Sqldagrp
-sqldagrp_at order s p = record {
-  precision = number order 2 s p % 256;
-  scale = number order 2 s (p + 2) % 256;
-  raw_length = number order 8 s (p + 4);
-  sql_type = number order 2 s (p + 12);
-  ccsid = number order 2 s (p + 14);
-}
 
 -- n empty strings at p, each of two bytes 00 (01, Layouts: strings have a 16-bit BE length)
 abbrev pub AllEmpty : ℕ → List ℕ → ℕ → Type 0

@@ -10,7 +10,7 @@ ghost use Rattle.column.specs.Column.{name_text, StringsInside};
 ghost use Rattle.text.specs.Generated.{is_generated_text};
 ghost use Rattle.descriptor.specs.Nullable.{lenient, nullable_end, group_start};
 ghost use Rattle.descriptor.specs.Descriptor.{udt_end, dx_end, opt_end, descriptor_end, described_at};
-ghost use Rattle.descriptor.specs.Groups.{sqldagrp_at, sqldxgrp_at, sqldoptgrp_at, step_of, step_at, AllEmpty, LabelAt, NamesAt};
+ghost use Rattle.descriptor.specs.Groups.{sqldxgrp_at, sqldoptgrp_at, step_of, step_at, AllEmpty, LabelAt, NamesAt};
 ghost use Rattle.descriptor.specs.Reading.{count_at};
 ghost use Rattle.descriptor.specs.Run.{standard_run};
 ghost use Rattle.strings.specs.Strings.{IsRead, strings_end};
@@ -252,37 +252,12 @@ pub fn descriptor_step(reply: &[u8], offset: usize, order: ByteOrder) -> Result<
     })
 }
 
-// The numbers of SQLDAGRP; of precision and scale the low 8 bits.
-#[derive(Clone, Copy, Debug, PartialEq, Eq)]
-pub struct Sqldagrp {
-    pub precision: u8,
-    pub scale: u8,
-    pub raw_length: u64,
-    pub sql_type: u16,
-    pub ccsid: u16,
-}
-
-fn read_sqldagrp(reply: &[u8], offset: usize, order: ByteOrder) -> Sqldagrp
-    requires { offset + 16 ≤ length reply.now }
-    ensures { result ≡ sqldagrp_at order reply.now offset }
-{
-    let precision = field::u16_at(reply, offset, order);
-    let scale = field::u16_at(reply, offset + 2, order);
-    Sqldagrp {
-        precision: (precision % 256) as u8,
-        scale: (scale % 256) as u8,
-        raw_length: field::u64_at(reply, offset + 4, order),
-        sql_type: field::u16_at(reply, offset + 12, order),
-        ccsid: field::u16_at(reply, offset + 14, order),
-    }
-}
-
 // A descriptor that can be read: past it lies within the reply, as descriptor_step tells.
 pub fn read_descriptor(reply: &[u8], offset: usize, order: ByteOrder) -> Described
     requires { descriptor_end lenient order reply.now offset ≤ length reply.now }
     ensures { (result ≡ described_at order reply.now offset) × StringsInside reply.now result }
 {
-    let numbers = read_sqldagrp(reply, offset, order);
+    let numbers = column::read_sqldagrp(reply, offset, order);
     let options = read_sqldoptgrp(reply, offset + 16).unwrap();
     Described {
         sql_type: numbers.sql_type,

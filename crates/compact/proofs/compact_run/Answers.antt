@@ -6,9 +6,6 @@ use Rattle.compact.proofs.Runs.{run_more, run_stop, run_short, run_done}
 use Rattle.search.proofs.Walks.{walking_none}
 use Rattle.compact.proofs.compact_run.Goals as goal
 
-pub loop-index-init : goal.loop-index-init
-loop-index-init c = record { in_range = search rules; walk = walking_none _ _ _ _ }
-
 pub returns-then-reply-start-lt16-clause-value : goal.returns-then-reply-start-lt16-clause-value
 returns-then-reply-start-lt16-clause-value c =
     run_short page037 _ _ _ _ _ _ _ c.loop-index.invariant.walk c.loop-index-test.true (omega arith)
@@ -16,10 +13,6 @@ returns-then-reply-start-lt16-clause-value c =
 pub returns-then-end-start-clause-value : goal.returns-then-end-start-clause-value
 returns-then-end-start-clause-value c =
     run_stop page037 _ _ _ _ _ _ _ c.loop-index.invariant.walk _ c.loop-index-test.true c.compact_end-end.ensures.value c.if-end-start.true
-
-pub one_if_named-named-requires : goal.one_if_named-named-requires
-one_if_named-named-requires c =
-    name_inside _ _ _ c.if-end-start.false c.compact_end-end.ensures.upper_bound _ c.extract_column_name-name.ensures
 
 pub loop-index-preserved : goal.loop-index-preserved
 loop-index-preserved c =

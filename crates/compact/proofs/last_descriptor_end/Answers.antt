@@ -1,5 +1,5 @@
 -- FF FF FF, or from an FF on to the one after it, or none.
-use Rattle.std.proofs.Common.{rules, arith, refl, sym}
+use Rattle.std.proofs.Common.{rules, refl, sym, arith}
 use Rattle.compact.specs.Compact.{ffs_here}
 use Rattle.compact_table.proofs.Skips.{found_some, found_none, by_ff_found, by_ff_more, by_ff_none, ff_is}
 use Rattle.compact.proofs.Laws.{last_found, last_none, no_ffs}
@@ -10,20 +10,6 @@ returns-then-ffs_here c =
     let ff = found_some _ _ _ c.in-Some.ensures in
     let at = by_ff_found _ (ffs_here _) (no_ffs _) _ _ _ _ c.loop-ff.invariant.in_range ff.0 c.loop-ff.invariant.same ff.1 (sym c.if-ffs_here.ensures) in
     (last_found _ _ _ at ff.1, omega arith)
-
-pub loop-ff-smaller : goal.loop-ff-smaller
-loop-ff-smaller c =
-    let ff = found_some _ _ _ c.in-Some.ensures in
-    let later = (ff_is _ _ _ _ c.loop-ff.invariant.in_range ff.0).0 in
-    omega arith
-
-pub loop-ff-preserved : goal.loop-ff-preserved
-loop-ff-preserved c =
-    let ff = found_some _ _ _ c.in-Some.ensures in
-    record {
-      in_range = omega arith;
-      same = by_ff_more _ (ffs_here _) (no_ffs _) _ _ _ _ c.loop-ff.invariant.in_range ff.0 c.loop-ff.invariant.same ff.1 (sym c.if-ffs_here.ensures);
-    }
 
 pub returns : goal.returns
 returns c =

@@ -6,21 +6,11 @@ use Rattle.compact.proofs.Laws.{name_size, name_over}
 use Rattle.compact.proofs.Stops.{stops_later, name_known, name_whole, name_broken}
 use Rattle.compact.proofs.name_here.Goals as goal
 
-pub returns-then-not-contains-clause-finds : goal.returns-then-not-contains-clause-finds
-returns-then-not-contains-clause-finds c = name_size _ _ _ (search rules)
-
 pub returns-then-not-contains-clause-ends : goal.returns-then-not-contains-clause-ends
 returns-then-not-contains-clause-ends c = stops_later _ _ _ _ c.requires.in_range.0 c.requires.stops
 
-pub returns-then-end-start-clause-finds : goal.returns-then-end-start-clause-finds
-returns-then-end-start-clause-finds c = name_over _ _ _ (search rules) c.if-end-start.true
-
 pub returns-then-end-start-clause-ends : goal.returns-then-end-start-clause-ends
 returns-then-end-start-clause-ends c = stops_later _ _ _ _ c.requires.in_range.0 c.requires.stops
-
-pub returns-then-offset-stop-clause-finds : goal.returns-then-offset-stop-clause-finds
-returns-then-offset-stop-clause-finds c =
-    name_known _ _ _ c.requires.in_range.1 (search rules) c.if-end-start.false _ c.if-offset-stop.true c.requires.stops
 
 pub returns-then-offset-stop-clause-ends : goal.returns-then-offset-stop-clause-ends
 returns-then-offset-stop-clause-ends c = stops_later _ _ _ _ c.requires.in_range.0 c.requires.stops
