@@ -1,12 +1,15 @@
 -- Names and ends by their cases: for each way out of a function one law.
-use Prim.Native.Nat.{ℕ, ◌+◌, ◌-◌, ◌≤◌, ◌<◌}
+use Prim.Native.Nat.{ℕ, suc, ◌+◌, ◌-◌, ◌≤◌, ◌<◌}
 use native.Mathlib.Omega.{arith}
 use mathlib.Core.Path.{◌≡◌, refl, sym, ap}
-use mathlib.Core.List.{List}
+use mathlib.Core.List.{List, [], ◌∷◌}
 use mathlib.Core.Bool.{Bool, true, false, ◌&&◌}
-use lib.ListN.{length, get_or}
+use lib.ListN.{length, get_or, drop}
+use lib.Seq.{drop-cons}
 use lib.Dec.{leb, eqb, ltb}
-use borrow.Author.Tests.{eq-eqb, ne_eqb, lt-ltb, le-ltb, lt-leb, ltb-true, leb-true, leb-false}
+use borrow.Author.Tests.{eq-eqb, ne_eqb, eqb-true, eqb-false, lt-ltb, le-ltb, lt-leb, ltb-true, leb-true, leb-false}
+use Rattle.std.proofs.Common.{rules}
+use Rattle.std.specs.List.{starts_with}
 use Rattle.std.specs.Prelude.{unwrap_or}
 use Rattle.search.specs.Search.{pick}
 use Rattle.search.specs.Walks.{first}
@@ -58,6 +61,19 @@ module _ (k : ℕ) (s : List ℕ) (p : ℕ) where
           let z = leb-false (next_compact s p) (length s) h in
           let u : q ≡ length s = rw (le-ltb (next_compact s p) (length s + 1) (omega arith)) at f in
           (u, omega arith)
+
+-- what the standard library says of a slice that starts with FF FF FF
+pub ffs_is : (s : List ℕ) (q : ℕ) → q + 3 ≤ length s → starts_with eqb (drop q s) (0xFF ∷ 0xFF ∷ 0xFF ∷ []) ≡ ffs_here s q
+unfolding ffs_here
+ffs_is s q h =
+    rw (drop-cons s q 0 (omega arith), drop-cons s (suc q) 0 (omega arith), drop-cons s (suc (suc q)) 0 (omega arith), swap (get_or s q 0), swap (get_or s (suc q) 0), swap (get_or s (suc (suc q)) 0)) (search rules)
+  where
+    swap : (b : ℕ) → eqb 0xFF b ≡ eqb b 0xFF
+    swap b = go (eqb b 0xFF) refl
+      where
+        go : (t : Bool) → eqb b 0xFF ≡ t → eqb 0xFF b ≡ t
+        go true e = eq-eqb 0xFF b (sym (eqb-true b 0xFF e))
+        go false e = ne_eqb 0xFF b (λ z. eqb-false b 0xFF e (sym z))
 
 -- FF FF FF starts with an FF
 pub no_ffs : (s : List ℕ) (q : ℕ) → is_ff s q ≡ false → ffs_here s q ≡ false

@@ -134,12 +134,12 @@ fn compact_descriptor_end(left: usize, reply: &[u8], offset: usize) -> usize
     compact_table::next_compact_descriptor_offset(reply, offset).unwrap_or(reply.len())
 }
 
-#[tactic(auto, unfolding(crate::specs::Compact::ffs_here))]
+#[tactic(auto, using(crate::proofs::Laws::ffs_is))]
 fn ffs_here(reply: &[u8], offset: usize) -> bool
     requires { offset + 3 ≤ length reply.now }
     ensures { result ≡ ffs_here reply.now offset }
 {
-    (reply[offset] == 0xFF) & ((reply[offset + 1] == 0xFF) & (reply[offset + 2] == 0xFF))
+    reply[offset..].starts_with(&[0xFF; 3])
 }
 
 #[tactic(auto, using(crate::proofs::Laws::no_ffs, compact_table::proofs::Skips::found_some, compact_table::proofs::Skips::by_ff_more, compact_table::proofs::Skips::ff_is))]
