@@ -105,7 +105,8 @@ pub struct Sqldoptgrp {
     pub next: usize,
 }
 
-// Whether so many empty strings stand at a position. Each is looked at where it is due, and no length has to be known before the next.
+// Whether so many empty strings stand at a position. Each is looked at where it is due, and no length has to be known before the next. By `all`
+// over their bytes, descriptions take up to 1.07 times the instructions; by equality with an array, up to 1.29 times.
 #[tactic(auto, using(crate::proofs::NameStrings::empty_more, crate::proofs::NameStrings::empty_none))]
 fn are_empty(reply: &[u8], offset: usize, count: usize) -> bool
     ensures { result ≡ true → AllEmpty count reply.now offset }
@@ -230,6 +231,7 @@ pub struct Step {
 
 // The error is a position past the reply's end, too, where the type is not known. A scan asks at every byte of a reply: room
 // and SQLTYPE are tested before any string is walked over.
+#[tactic(auto, using(crate::proofs::Steps::step_short, crate::proofs::Steps::step_unknown, crate::proofs::Steps::step_cut, std::proofs::lemmas::Result::err_from_is_err_and))]
 pub fn descriptor_step(reply: &[u8], offset: usize, order: ByteOrder) -> Result<Step, usize>
     requires { offset ≤ length reply.now }
     ensures at { step_of result ≡ step_at order reply.now offset }
@@ -253,6 +255,7 @@ pub fn descriptor_step(reply: &[u8], offset: usize, order: ByteOrder) -> Result<
 }
 
 // A descriptor that can be read: past it lies within the reply, as descriptor_step tells.
+#[tactic(auto, using(crate::proofs::Steps::descriptor_room, crate::proofs::Steps::options_read, strings::proofs::Strings::read_ok))]
 pub fn read_descriptor(reply: &[u8], offset: usize, order: ByteOrder) -> Described
     requires { descriptor_end lenient order reply.now offset ≤ length reply.now }
     ensures { (result ≡ described_at order reply.now offset) × StringsInside reply.now result }
