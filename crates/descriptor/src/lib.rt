@@ -1,6 +1,8 @@
 // Standard descriptors (SQLDAROW): one at a position of a reply, where their count stands, and runs of them. Only places are read here, no text
 // is decoded.
 // Each of its flags may be missing where the reply ends. Where it cannot be read, the error is how many bytes were expected.
+// Readers ask for a reply and a position in it: each goes on where another ended, and a type of both would be made for each call. A struct for
+// each group, though some have the same types: the names of their fields are those of the document.
 #![tactic(auto)]
 
 ghost use Rattle.std.specs.Prelude.{◌≡◌, true, not, ◌+◌, ◌≤◌, ◌<◌, length, MatchResult};
@@ -130,7 +132,7 @@ fn is_alone(reply: &[u8], string: StringRead, count: usize) -> bool
     string.length != 0 && are_empty(reply, string.next, count)
 }
 
-// SQLLABEL of a SQLDOPTGRP, and what is past SQLCOMMENTS, which is not kept.
+// SQLLABEL of a SQLDOPTGRP, and what is past SQLCOMMENTS, which is not kept. No StringRead alone: the label's own `next` is before the comments.
 #[derive(Clone, Copy, Debug, PartialEq, Eq)]
 pub struct Label {
     pub label: StringRead,
@@ -222,7 +224,7 @@ fn read_sqldoptgrp(reply: &[u8], offset: usize) -> Result<Sqldoptgrp, usize>
     }
 }
 
-// What counting a run asks of a descriptor that can be read: its name, and what is past it.
+// What counting a run asks of a descriptor that can be read: its name, and what is past it, where the name's own `next` is not.
 #[derive(Clone, Copy, Debug, PartialEq, Eq)]
 pub struct Step {
     pub name: StringRead,

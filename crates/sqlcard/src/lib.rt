@@ -14,7 +14,7 @@ use outcome::Refusal;
 use sqlca::{Extension, Sqlca};
 use strings::StringRead;
 
-// A message is its raw string's place and length in the reply, 0 and 0 where there is none.
+// A message is its raw string's place and length in the reply, 0 and 0 where there is none: C reads these fields, which have no Option.
 #[repr(C)]
 #[derive(Clone, Copy, Debug, PartialEq, Eq)]
 pub struct SqlCard {
@@ -134,7 +134,7 @@ pub fn parse_sqlcard_data(reply: &[u8]) -> Result<SqlCard, Refusal>
     Ok(SqlCard::with_message(sqlca, message))
 }
 
-// A status record, and how many bytes of the reply its group takes.
+// A status record, and how many bytes of the reply its group takes. By name: a pair would say neither.
 #[derive(Clone, Copy, Debug, PartialEq, Eq)]
 pub struct Group {
     pub card: SqlCard,

@@ -7,7 +7,7 @@ ghost use Rattle.strings.specs.Strings.{IsRead, IsStringAt, no_string, strings_e
 
 use field::ByteOrder;
 
-// A string's bytes lie at `place`, `length` of them, and `next` is past it.
+// A string's bytes lie at `place`, `length` of them, and `next` is past it. No slice in it: answers give places.
 #[derive(Clone, Copy, Debug, PartialEq, Eq)]
 pub struct StringRead {
     pub place: usize,
