@@ -8,7 +8,7 @@ ghost use Rattle.candidates.specs.Candidates.{same_text, repeats, is_candidate, 
 ghost use Rattle.candidates.specs.View.{left, YieldsCandidate, text_at, reply_of, behind, in_view};
 
 use field::ByteOrder;
-use text::Text;
+use text::{Alphabet, Text};
 
 // A text's bytes, those of them that lie in the reply.
 #[inline(always)]
@@ -60,7 +60,7 @@ fn kept_at(reply: &[u8], last: Option<Text>, offset: usize) -> Option<Text>
     let text = Text {
         place,
         length,
-        alphabet: 1,
+        alphabet: Alphabet::Ascii.into(),
     };
     let is_candidate = 2 <= length
         && length <= reply.len() - place
@@ -73,7 +73,7 @@ fn kept_at(reply: &[u8], last: Option<Text>, offset: usize) -> Option<Text>
 }
 
 // Whether a length of 2 to 128 stands at `offset`. Where not, there is no candidate, and nothing else is read. By the two bytes: this is asked
-// at every byte of a reply.
+// at every byte of a reply. Of one shape with name_run's alone: what is asked at a start is another layout's there.
 #[tactic(auto, unfolding(crate::specs::Candidates::is_candidate, identifier::specs::Identifier::is_identifier), using(crate::proofs::Steps::length_at, std::proofs::Common::tests, std::proofs::lemmas::Grind::common_steps))]
 fn may_start(reply: &[u8], offset: usize) -> bool
     requires { offset + 2 ≤ length reply.now }
@@ -83,7 +83,7 @@ fn may_start(reply: &[u8], offset: usize) -> bool
 }
 
 // The candidates of a reply, in order: where the search goes on, and the last one kept.
-#[derive(Clone, Copy)]
+#[derive(Clone, Copy, Debug, PartialEq, Eq)]
 pub struct Candidates<'a> {
     reply: &'a [u8],
     last: Option<Text>,
@@ -132,9 +132,9 @@ impl<'a> Iterator for Candidates<'a> {
 
 // Five candidates that follow each other, and those after them. Where there is none, there is none after it.
 // What works on them is inlined, here and in `listing`: called, the search for 1323 names takes 1.11 times the instructions.
-#[derive(Clone, Copy)]
+#[derive(Clone, Copy, Debug, PartialEq, Eq)]
 pub struct View<'a> {
-    texts: [Option<Text>; 5],
+    pub texts: [Option<Text>; 5],
     rest: Candidates<'a>,
 }
 
@@ -161,13 +161,6 @@ impl<'a> View<'a> {
         ensures { result.now ≡ reply_of self.now }
     {
         self.rest.reply
-    }
-
-    #[inline(always)]
-    pub fn texts(&self) -> [Option<Text>; 5]
-        ensures { result ≡ self.now.texts }
-    {
-        self.texts
     }
 
     // The first candidate in view.

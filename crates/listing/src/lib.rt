@@ -20,13 +20,15 @@ pub enum Rule {
     BeforeFirst,
 }
 
+// `text` is the view's first, here and below. It is handed on: by the view alone, each function would have to ask once more whether there is
+// one, and its promise would be of a text only where there is.
 #[tactic(auto, unfolding(crate::specs::Listing::returns, candidates::specs::View::behind))]
 #[inline(always)]
 fn returns(text: Text, view: &View) -> bool
     ensures { result ≡ returns (reply_of view.now) text (behind view.now) }
 {
     let reply = view.reply();
-    let [_, Some(second), Some(third), Some(fourth), Some(fifth)] = view.texts() else {
+    let [_, Some(second), Some(third), Some(fourth), Some(fifth)] = view.texts else {
         return false;
     };
     candidates::same_text(reply, text, fifth)
@@ -41,14 +43,14 @@ fn is_before(first: Option<Text>, text: Text, view: &View) -> bool
     ensures { result ≡ is_before (reply_of view.now) first text (behind view.now) }
 {
     let reply = view.reply();
-    let [_, Some(second), ..] = view.texts() else {
+    let [_, Some(second), ..] = view.texts else {
         return false;
     };
     candidates::repeats(reply, second, first) && !candidates::repeats(reply, text, first)
 }
 
 // What a rule has to know behind a candidate: the reply's first, how many are passed over until the search goes on, and the last one listed.
-#[derive(Clone, Copy)]
+#[derive(Clone, Copy, Debug, PartialEq, Eq)]
 struct Listing {
     first: Option<Text>,
     skip: usize,
@@ -101,7 +103,7 @@ impl Listing {
 }
 
 // How many names each rule lists, and the view of the first candidates, from which they are listed again.
-#[derive(Clone, Copy)]
+#[derive(Clone, Copy, Debug, PartialEq, Eq)]
 pub struct Counts<'a> {
     pub view: View<'a>,
     pub returning: usize,
@@ -135,7 +137,7 @@ pub fn count_names(reply: &[u8]) -> Counts<'_>
 }
 
 // The names that a rule lists, in order.
-#[derive(Clone, Copy)]
+#[derive(Clone, Copy, Debug, PartialEq, Eq)]
 pub struct Listed<'a> {
     rule: Rule,
     listing: Listing,
@@ -143,8 +145,8 @@ pub struct Listed<'a> {
 }
 
 impl<'a> Listed<'a> {
-    #[tactic(auto, using(crate::proofs::Lists::first_in_view), unfolding(crate::specs::Listing::listed_by))]
     // Those of a reply, from the view of its first candidates on.
+    #[tactic(auto, using(crate::proofs::Lists::first_in_view), unfolding(crate::specs::Listing::listed_by))]
     pub fn by(rule: Rule, view: View<'a>) -> Self
         ensures { in_view view.entry ≡ candidates (reply_of view.entry) → to_come result ≡ listed_by (reply_of view.entry) rule }
     {

@@ -12,8 +12,8 @@ use field::ByteOrder;
 use strings::StringRead;
 use text::Text;
 
-// The name in a layout, and what is past the layout.
-#[derive(Clone, Copy)]
+// The name in a layout, and what is past the layout. `descriptor::Step` has these fields too: the layout is of a known type there, and its name may be any.
+#[derive(Clone, Copy, Debug, PartialEq, Eq)]
 pub struct ScannedName {
     pub name: StringRead,
     pub next: usize,
@@ -99,7 +99,7 @@ fn longer_of(best: NameRun, run: NameRun) -> NameRun
 }
 
 // Whether a layout with a name may start here: its option flag is not FF, and its first string lies in the reply. Where not, there is no run, and
-// nothing else is read.
+// nothing else is read. Of one shape with `candidates`' alone: what is asked at a start is another layout's there.
 #[tactic(auto, using(crate::proofs::Runs::run_null, crate::proofs::Runs::run_outside))]
 fn may_start(reply: &[u8], start: usize) -> bool
     requires { start + 21 ≤ length reply.now }
@@ -128,7 +128,7 @@ pub fn longest_name_run(reply: &[u8]) -> NameRun
 }
 
 // The names of a run, read again from its start: for who writes them down.
-#[derive(Clone, Copy)]
+#[derive(Clone, Copy, Debug, PartialEq, Eq)]
 pub struct RunNames<'a> {
     reply: &'a [u8],
     offset: usize,

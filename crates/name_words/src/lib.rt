@@ -30,7 +30,7 @@ fn fill_words(plan: Plan<'_>, words: &mut [u64])
     requires { length (names_of_plan plan) * 3 ≤ length words.old }
     ensures { words.new ≡ over (text_words (names_of_plan plan.entry)) words.old }
 {
-    for (i, text) in plan.enumerate() {
+    for (i, text) in plan.source.take(plan.count).enumerate() {
         put_text_words(text, words, i * 3);
     }
 }

@@ -15,7 +15,7 @@ use outcome::Refusal;
 use text::Text;
 
 // Where the names are found: among the candidates, by a rule, or in a run of layouts.
-#[derive(Clone, Copy)]
+#[derive(Clone, Copy, Debug, PartialEq, Eq)]
 pub enum Source<'a> {
     Candidates(Listed<'a>),
     Layouts(RunNames<'a>),
@@ -36,26 +36,11 @@ impl<'a> Iterator for Source<'a> {
     }
 }
 
-// So many names are to be taken from their source. The next one behind them isn't looked for. The count is a field: a method of that name is not
-// called where the iterator's own `count` takes the plan by value, and that one goes through all names.
-#[derive(Clone, Copy)]
+// So many names are to be taken from their source. Who writes them down takes no more (`take`): the next one behind them isn't looked for.
+#[derive(Clone, Copy, Debug, PartialEq, Eq)]
 pub struct Plan<'a> {
-    source: Source<'a>,
+    pub source: Source<'a>,
     pub count: usize,
-}
-
-impl<'a> Iterator for Plan<'a> {
-    type Item = Text;
-
-    ghost next_gives = { YieldsFirst names_of_plan };
-
-    ghost remaining = { item_count names_of_plan };
-
-    #[tactic(auto, using(crate::proofs::Choosing::plan_next))]
-    fn next(&mut self) -> Option<Text> {
-        self.count = self.count.checked_sub(1)?;
-        self.source.next()
-    }
 }
 
 // Which of the three lists is taken. A list of candidates counts from two names on, and the second only if it is longer.
@@ -105,11 +90,12 @@ pub fn decide(reply: &[u8], room: usize) -> Result<Plan<'_>, Refusal>
 }
 
 // Writes a plan's names. By places: after a `zip` with the list's `iter_mut` a proof knows nothing of what the list holds (tried).
+#[tactic(auto, using(crate::proofs::Choosing::taken_none, crate::proofs::Choosing::taken_more))]
 fn fill_names(plan: Plan<'_>, names: &mut [Text])
     requires { length (names_of_plan plan) ≤ length names.old }
     ensures { names.new ≡ over (names_of_plan plan.entry) names.old }
 {
-    for (i, text) in plan.enumerate() {
+    for (i, text) in plan.source.take(plan.count).enumerate() {
         names[i] = text;
     }
 }
