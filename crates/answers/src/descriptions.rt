@@ -6,7 +6,7 @@ use crate::instead::{Instead, accepted};
 use crate::lent::{Lent, MARKED_WORD, marked, untouched};
 use crate::payload::Payload;
 use column_words::WORDS_PER_COLUMN;
-use sqldard_words::SqldardResult;
+use entries::SqldardResult;
 use std::io::Write;
 
 // The records that are lent at most, and their words.

@@ -12,10 +12,10 @@ use texts::Texts;
 
 // All that is written of a reply. It has at most 4,095 columns (`reading_few`), so the list is never too short.
 fn put_description(out: &mut impl Write, texts: &mut Texts, words: &mut [u64]) -> io::Result<()> {
-    let answer = sqldard_words::parse_sqldard_data(texts.reply, words);
-    if answer.refusal.is_refused() {
-        return writeln!(out, "{}", status::Refused(answer.refusal));
-    }
+    let answer = match sqldard_words::parse_sqldard_data(texts.reply, words) {
+        Ok(answer) => answer,
+        Err(refusal) => return writeln!(out, "{}", status::Refused(refusal)),
+    };
     status::put_status(out, texts, answer.card)?;
     let (columns, _) = words.as_chunks::<WORDS_PER_COLUMN>();
     table::put_table(out, texts, columns.get(..answer.count).unwrap_or(&[]))

@@ -1,6 +1,6 @@
 // A reply in words: its status and size; or, alone, why it was refused.
 use crate::texts::Texts;
-use outcome::RefusalNumbers;
+use outcome::{Refusal, RefusalNumbers};
 use output::{Characters, Sqlcode};
 use sqlcard::SqlCard;
 use std::io::Write;
@@ -61,24 +61,22 @@ pub(crate) fn put_size(out: &mut impl Write, columns: usize, bytes: usize) -> io
 
 // `refused`, the refusal's number, and what it means: 6 does not come, since 4,096 columns are lent, and the other numbers are other entries'.
 #[derive(Clone, Copy)]
-pub(crate) struct Refused(pub RefusalNumbers);
+pub(crate) struct Refused(pub Refusal);
 
 impl fmt::Display for Refused {
     fn fmt<W: fmt::Write>(&self, f: &mut fmt::Formatter<W>) -> fmt::Result {
-        let refusal = self.0;
-        let number = refusal.number;
+        let number = RefusalNumbers::from(self.0).number;
         write!(f, "refused: {number}")?;
-        match number {
-            1 => write!(f, ", the reply is empty"),
-            2 => {
-                let expected = Counted(refusal.first, "byte");
-                let actual = refusal.second;
+        match self.0 {
+            Refusal::EmptyReply => write!(f, ", the reply is empty"),
+            Refusal::BufferTooShort { expected, actual } => {
+                let expected = Counted(expected, "byte");
                 write!(
                     f,
                     ", the reply ends early: {expected} expected, {actual} there"
                 )
             }
-            5 => write!(f, ", the reply is longer than 65536 bytes"),
+            Refusal::ReplyTooLong => write!(f, ", the reply is longer than 65536 bytes"),
             _ => Ok(()),
         }
     }

@@ -6,7 +6,7 @@ ghost use Rattle.outcome.specs.Refusal.{in_numbers};
 ghost use Rattle.column_words.specs.Words.{all_words};
 ghost use Rattle.plan.specs.Description.{description, with_code_point};
 
-use sqldard_words::SqldardResult;
+use crate::SqldardResult;
 
 // The entry description, with room for a column in each 22 words. Nothing is written where it refuses.
 pub fn parse_sqldard_data(reply: &[u8], columns: &mut [u64]) -> SqldardResult
@@ -15,7 +15,7 @@ pub fn parse_sqldard_data(reply: &[u8], columns: &mut [u64]) -> SqldardResult
     ensures counts { result.count ≡ length (description page037 (length columns.old / 22) reply.now).columns }
     ensures fills { columns.new ≡ over (all_words (description page037 (length columns.old / 22) reply.now).columns) columns.old }
 {
-    sqldard_words::parse_sqldard_data(reply, columns)
+    SqldardResult::from(sqldard_words::parse_sqldard_data(reply, columns))
 }
 
 // The same with the reply's code point, which must be SQLDARD's.
@@ -25,5 +25,5 @@ pub fn parse_sqldard(code_point: u16, reply: &[u8], columns: &mut [u64]) -> Sqld
     ensures counts { result.count ≡ length (with_code_point page037 (length columns.old / 22) code_point reply.now).columns }
     ensures fills { columns.new ≡ over (all_words (with_code_point page037 (length columns.old / 22) code_point reply.now).columns) columns.old }
 {
-    sqldard_words::parse_sqldard(code_point, reply, columns)
+    SqldardResult::from(sqldard_words::parse_sqldard(code_point, reply, columns))
 }

@@ -8,14 +8,26 @@ pub mod name_scan;
 pub mod status;
 pub mod texts;
 
-ghost use Rattle.std.specs.Prelude.{[], ◌∷◌, ◌≡◌, false};
+ghost use Rattle.std.specs.Prelude.{[], ◌∷◌, ◌≡◌, false, MatchResult};
 ghost use Rattle.std.specs.Result.{result_unwrap_or};
-ghost use Rattle.outcome.specs.Refusal.{in_numbers, refusal_in};
+ghost use Rattle.outcome.specs.Refusal.{accepted, in_numbers, refusal_in, refusal_of};
 ghost use Rattle.sqlcard.specs.Card.{success_card};
 ghost use Rattle.entries.specs.Refused.{no_group};
 
 use outcome::{Refusal, RefusalNumbers};
+use plan::Sqldard;
 use sqlcard::{Group, SqlCard};
+
+// The answers as C has them, which knows no `Result`: a refusal is numbers, and beside it stands what is given, or what counts as nothing.
+
+// How many columns were written, 22 words each. Where the refusal's number is not 0, it is 0, and the card is that for success.
+#[repr(C)]
+#[derive(Clone, Copy, Debug, PartialEq, Eq)]
+pub struct SqldardResult {
+    pub refusal: RefusalNumbers,
+    pub card: SqlCard,
+    pub count: usize,
+}
 
 // Where a call is refused, the card is that for success.
 #[repr(C)]
@@ -69,6 +81,27 @@ fn refusal_numbers<T>(answer: &Result<T, Refusal>) -> RefusalNumbers
     }
 }
 
+impl From<Result<Sqldard, Refusal>> for SqldardResult {
+    ghost from_gives = { λ answer result. MatchResult answer
+        (λ given. result ≡ record { refusal = in_numbers accepted; card = given.card; count = given.count })
+        (λ refusal. result ≡ record { refusal = in_numbers (refusal_of refusal); card = success_card; count = 0 }) };
+
+    fn from(answer: Result<Sqldard, Refusal>) -> Self {
+        match answer {
+            Ok(given) => SqldardResult {
+                refusal: RefusalNumbers::alone(0),
+                card: given.card,
+                count: given.count,
+            },
+            Err(refusal) => SqldardResult {
+                refusal: refusal.into(),
+                card: SqlCard::success(),
+                count: 0,
+            },
+        }
+    }
+}
+
 impl From<Result<SqlCard, Refusal>> for SqlcardResult {
     ghost from_gives = { λ answer result. (result.refusal ≡ in_numbers (refusal_in answer)) × (result.card ≡ result_unwrap_or answer success_card) };
 
@@ -118,6 +151,7 @@ impl From<Result<usize, Refusal>> for CountResult {
     }
 }
 
+// Of one shape with the last one; but C has other names for what they hold, so they are two structs, and one `impl` would need a trait that fills them.
 impl From<Result<bool, Refusal>> for CutResult {
     ghost from_gives = { λ answer result. (result.refusal ≡ in_numbers (refusal_in answer)) × (result.same ≡ result_unwrap_or answer false) };
 

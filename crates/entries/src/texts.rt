@@ -14,7 +14,8 @@ use crate::{CountResult, PartResult};
 use text::Text;
 use types::ColumnMetadata;
 
-// The entries take a column, and ask for its number and its name alone.
+// The functions below take a column, and ask for its number and its name alone. C gives a name as its place, length and alphabet, one by one, so the
+// entries take them so, and the alphabet as a number.
 fn named_column(number: u16, place: usize, length: usize, alphabet: u8) -> ColumnMetadata
     ensures { result ≡ named_column number place length alphabet }
 {
@@ -65,7 +66,7 @@ pub fn name_text(
     CountResult::from(column_name::name_text(reply, column, buffer))
 }
 
-// The entry message text.
+// The entry message text. Place and length one by one, as C gives them.
 #[tactic(auto, using(crate::proofs::Answers::message_given))]
 pub fn message_text(reply: &[u8], place: usize, length: usize, buffer: &mut [u8]) -> CountResult
     ensures refuses { result.refusal ≡ in_numbers (message_refusal page037 reply.now place length (lib.ListN.length buffer.old)) }

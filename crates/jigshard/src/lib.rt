@@ -21,8 +21,7 @@ ghost use Rattle.std.specs.Prelude.{length, ◌/◌, ◌≡◌};
 ghost use Rattle.text.specs.Text.{text_is};
 ghost use lib.ListN.{drop, take};
 
-use entries::{CountResult, CutResult, GroupResult, PartResult, SqlcardResult};
-use sqldard_words::SqldardResult;
+use entries::{CountResult, CutResult, GroupResult, PartResult, SqlcardResult, SqldardResult};
 
 // The entry description, with room for a column in each 22 words. Nothing is written where it refuses.
 #[unsafe(no_mangle)]

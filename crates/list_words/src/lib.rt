@@ -27,6 +27,7 @@ impl<'a> Model for WordColumns<'a> {
 
 impl<'a> WordColumns<'a> {
     // The columns of words that stand for columns and nothing else.
+    #[tactic(auto, using(column_words::proofs::Chunks::all_columns, column_words::proofs::Chunks::columns_of_arrays))]
     pub fn new(words: &'a [u64]) -> Option<Self>
         ensures { MatchOption result (are_columns words.now ≡ false) (λ columns. (are_columns words.now ≡ true) × (columns ≡ columns_in words.now)) }
     {

@@ -7,7 +7,7 @@ ghost use Rattle.sqlda.specs.Codes.{value_of, type_with, is_type};
 
 use types::{ColumnMetadata, Db2Type, Kind, TypeRow};
 
-// What SQLTYPE and its length, precision, scale and CCSID say of a column.
+// What SQLTYPE and its length, precision, scale and CCSID say of a column, each as the column has it: nullable is a `bool` there.
 #[derive(Clone, Copy, Debug, PartialEq, Eq)]
 pub struct SqldaType {
     pub db2_type: Db2Type,
@@ -36,6 +36,13 @@ fn searched_base(base: u16, ccsid: u16) -> u16
     }
 }
 
+// How a type that is not known is described: as VarChar, and no base type is 0.
+const UNKNOWN: TypeRow = TypeRow {
+    base: 0,
+    kind: Kind::VarChar,
+    code: ColumnMetadata::DRDA_TYPE_VARCHAR,
+};
+
 // The row that describes the column: 480 below raw length 8 is Real, which has no row of its own.
 #[tactic(auto, unfolding(crate::specs::Types::row_for))]
 fn row_for(sql_type: u16, raw: u64, ccsid: u16) -> TypeRow
@@ -49,7 +56,7 @@ fn row_for(sql_type: u16, raw: u64, ccsid: u16) -> TypeRow
             code: ColumnMetadata::DRDA_TYPE_FLOAT4,
         };
     }
-    types::find_type(searched_base(base, ccsid)).unwrap_or(TypeRow::UNKNOWN)
+    types::find_type(searched_base(base, ccsid)).unwrap_or(UNKNOWN)
 }
 
 // A length has 16 bits: a longer raw one counts as 65,535.
@@ -60,6 +67,7 @@ fn capped(raw: u64) -> u16
     raw.min(65535) as u16
 }
 
+// An arm for each kind, since the kinds differ in what they say of a type besides.
 fn db2_type_for(kind: Kind, raw: u64, precision: u8, scale: u8) -> Db2Type
     ensures { result ≡ type_of kind raw precision scale }
 {
@@ -149,7 +157,7 @@ pub fn type_code(db2_type: Db2Type) -> u8
     }
 }
 
-// What the type says besides: its length, its digits, or precision and scale in two bytes.
+// What the type says besides: its length, its digits, or precision and scale in two bytes. One number of each, as a column's words have it.
 pub fn type_value(db2_type: Db2Type) -> u64
     ensures { result ≡ value_of db2_type }
 {

@@ -1,51 +1,18 @@
 // The description entries for programs that cannot lend a list of records: each column in 22 words of 64 bits.
 #![tactic(auto)]
 
-ghost use Rattle.std.specs.Prelude.{◌≡◌, ◌≤◌, ◌*◌, ◌/◌, length, MatchResult};
+ghost use Rattle.std.specs.Prelude.{◌≡◌, ◌≤◌, ◌*◌, ◌/◌, length};
 ghost use Rattle.search.specs.Search.{over};
 ghost use Rattle.codepage.specs.Page.{page037};
-ghost use Rattle.outcome.specs.Refusal.{accepted, refusal_of, in_numbers};
-ghost use Rattle.sqlcard.specs.Card.{success_card};
 ghost use Rattle.planned.specs.Planned.{columns_of};
 ghost use Rattle.column_words.specs.Words.{all_words};
 ghost use Rattle.plan.specs.Decision.{Decides};
 ghost use Rattle.plan.specs.Description.{Description, description, with_code_point};
 ghost use Rattle.sqldard_words.specs.Given.{Gives};
 
-use outcome::{Refusal, RefusalNumbers};
+use outcome::Refusal;
 use plan::{Decision, Sqldard};
 use planned::Columns;
-use sqlcard::SqlCard;
-
-// How many columns were written, 22 words each. Where the refusal's number is not 0, it is 0, and the card is that for success.
-#[repr(C)]
-#[derive(Clone, Copy, Debug, PartialEq, Eq)]
-pub struct SqldardResult {
-    pub refusal: RefusalNumbers,
-    pub card: SqlCard,
-    pub count: usize,
-}
-
-impl From<Result<Sqldard, Refusal>> for SqldardResult {
-    ghost from_gives = { λ answer result. MatchResult answer
-        (λ given. result ≡ record { refusal = in_numbers accepted; card = given.card; count = given.count })
-        (λ refusal. result ≡ record { refusal = in_numbers (refusal_of refusal); card = success_card; count = 0 }) };
-
-    fn from(answer: Result<Sqldard, Refusal>) -> Self {
-        match answer {
-            Ok(given) => SqldardResult {
-                refusal: RefusalNumbers::alone(0),
-                card: given.card,
-                count: given.count,
-            },
-            Err(refusal) => SqldardResult {
-                refusal: refusal.into(),
-                card: SqlCard::success(),
-                count: 0,
-            },
-        }
-    }
-}
 
 // Writes a decision's columns as words. By places, and no `zip` with `as_chunks_mut`: an invariant cannot name the words that are lent out then.
 fn fill_words(reply: &[u8], decision: Decision, words: &mut [u64]) -> Sqldard
@@ -79,23 +46,23 @@ fn written(
 }
 
 // The entry description, with room for a column in each 22 words. Nothing is written where it refuses.
-pub fn parse_sqldard_data(reply: &[u8], columns: &mut [u64]) -> SqldardResult
-    ensures refuses { result.refusal ≡ in_numbers (description page037 (length columns.old / 22) reply.now).refusal }
-    ensures gives { result.card ≡ (description page037 (length columns.old / 22) reply.now).card }
-    ensures counts { result.count ≡ length (description page037 (length columns.old / 22) reply.now).columns }
+pub fn parse_sqldard_data(reply: &[u8], columns: &mut [u64]) -> Result<Sqldard, Refusal>
+    ensures gives { Gives result (description page037 (length columns.old / 22) reply.now) }
     ensures fills { columns.new ≡ over (all_words (description page037 (length columns.old / 22) reply.now).columns) columns.old }
 {
     let decision = plan::decide(reply, columns.len() / 22);
-    written(reply, decision, columns).into()
+    written(reply, decision, columns)
 }
 
 // The same with the reply's code point, which must be SQLDARD's.
-pub fn parse_sqldard(code_point: u16, reply: &[u8], columns: &mut [u64]) -> SqldardResult
-    ensures refuses { result.refusal ≡ in_numbers (with_code_point page037 (length columns.old / 22) code_point reply.now).refusal }
-    ensures gives { result.card ≡ (with_code_point page037 (length columns.old / 22) code_point reply.now).card }
-    ensures counts { result.count ≡ length (with_code_point page037 (length columns.old / 22) code_point reply.now).columns }
+pub fn parse_sqldard(
+    code_point: u16,
+    reply: &[u8],
+    columns: &mut [u64],
+) -> Result<Sqldard, Refusal>
+    ensures gives { Gives result (with_code_point page037 (length columns.old / 22) code_point reply.now) }
     ensures fills { columns.new ≡ over (all_words (with_code_point page037 (length columns.old / 22) code_point reply.now).columns) columns.old }
 {
     let decision = plan::decide_at(code_point, reply, columns.len() / 22);
-    written(reply, decision, columns).into()
+    written(reply, decision, columns)
 }

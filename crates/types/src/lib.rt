@@ -36,7 +36,7 @@ pub enum Db2Type {
     Xml,
 }
 
-// A column of the reply; number counts from 0.
+// A column of the reply; number counts from 0. Nullable is a `bool`: yes or no, as SQLTYPE's low bit says it.
 #[derive(Clone, Copy, Debug, PartialEq, Eq)]
 pub struct ColumnMetadata {
     pub number: u16,
@@ -133,15 +133,6 @@ pub struct TypeRow {
     pub base: u16,
     pub kind: Kind,
     pub code: u8,
-}
-
-impl TypeRow {
-    // What stands for the row of a type that is not known: no base type is 0.
-    pub const UNKNOWN: TypeRow = TypeRow {
-        base: 0,
-        kind: Kind::VarChar,
-        code: ColumnMetadata::DRDA_TYPE_VARCHAR,
-    };
 }
 
 // The row of a base type, none where the type is not known.
