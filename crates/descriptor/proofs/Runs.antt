@@ -14,8 +14,6 @@ use Rattle.codepage.specs.Page.{Page}
 use Rattle.field.specs.declared.ByteOrder.{ByteOrder}
 use Rattle.strings.specs.declared.StringRead.{StringRead}
 use Rattle.text.specs.Generated.{is_generated_text}
-use Rattle.text.specs.declared.Text.{Text}
-use Rattle.column.proofs.Names.{name_none}
 use Rattle.column.specs.Column.{name_text, column_with, is_named}
 use Rattle.descriptor.specs.declared.Step.{Step}
 use Rattle.descriptor.specs.Nullable.{lenient}
@@ -47,8 +45,8 @@ module _ (order : ByteOrder) (s : List ℕ) (p : ℕ) (r : Step) (e : r ≡ step
 
 -- a name without bytes is none of the column's own
 pub unnamed : (page : Page) (s : List ℕ) (r : StringRead) → r.length ≡ 0 → ◌≡◌ {A = ℕ} 0 (pick (not (is_generated_text page s (name_text page s r))) 1 0)
-unfolding is_generated_text
-unnamed page s r e = ap (λ (t : Text). pick (not (is_generated_text page s t)) 1 0) (name_none page s r e)
+unfolding is_generated_text name_text
+unnamed page s r e = rw e refl
 
 -- ---- the loop: i descriptors are read, m of them named, and p is the place of the next
 
