@@ -7,10 +7,9 @@ use lib.ListN.{length}
 use borrow.Author.Tests.{lt-ltb, le-ltb, le-leb, lt-leb, eq-eqb, ne_eqb}
 use Rattle.std.specs.Prelude.{Result, Ok, Err}
 use Rattle.search.specs.Search.{pick}
-use Rattle.codepage.specs.Page.{Page}
+use Rattle.codepage.specs.Page.{Page, page037}
 use Rattle.outcome.specs.declared.Refusal.{Refusal}
 use Rattle.outcome.specs.Refusal.{accepted, refusal_of}
-use Rattle.sqlcard.specs.declared.SqlCard.{SqlCard}
 use Rattle.planned.specs.declared.Plan.{Plan}
 use Rattle.plan.specs.Choice.{choice}
 use Rattle.planned.specs.Planned.{columns_of}
@@ -18,8 +17,8 @@ use Rattle.plan.specs.Plan.{plan_of, reading_of, Counted}
 use Rattle.plan.proofs.Statuses.{refused_is}
 use Rattle.plan.proofs.Choices.{plan_reads}
 use Rattle.plan.specs.Description.{refused_with, status_of, answer_by, description, with_code_point}
-use Rattle.plan.specs.declared.Decision.{Decision}
-use Rattle.plan.specs.Decision.{CarriesOut, Decides}
+use Rattle.plan.specs.declared.decision.Decision.{Decision}
+use Rattle.plan.specs.Decision.{columns_decided, CarriesOut, Decides}
 
 module _ (page : Page) (room : ℕ) (s : List ℕ) where
   pub other_point : (point : ℕ) → (point ≡ 0x2411 → ⊥) → refused_with (4 ∷ point ∷ []) ≡ with_code_point page room point s
@@ -58,16 +57,16 @@ module _ (page : Page) (room : ℕ) (s : List ℕ) where
           let l = lt-leb (length (columns_of page s p)) room (rw c.count at k) in
           rw c.count (rw l refl ∙ by_room)
 
-      pub in_room : (card : SqlCard) → p.run.count ≤ room → card ≡ status_of page s p.alone
-          → CarriesOut page room s (record { card = card; plan = p }) (description page room s)
-      in_room card k g =
-          let d : Decision = record { card = card; plan = p } in
-          let l = le-leb (length (columns_of page s p)) room (rw c.count at k) in
-          let full : CarriesOut page room s d (record { refusal = accepted; card = status_of page s p.alone; columns = columns_of page s p }) =
-          record { accepts = refl; gives = g; plans = refl; counts = c.count; fits = rw (← c.count) k } in
-          subst (CarriesOut page room s d) (rw l refl ∙ by_room) full
+-- a decision is of the plan of its reply, and of that plan's status
+pub in_room : (room : ℕ) (d : Decision) → length d.reply.now ≤ 65536 → Ok d.plan ≡ plan_of page037 d.reply.now → Counted page037 d.reply.now d.plan
+    → d.plan.run.count ≤ room → d.card ≡ status_of page037 d.reply.now d.plan.alone → CarriesOut room d (description page037 room d.reply.now)
+in_room room d h e c k g =
+    let l = le-leb (length (columns_decided d)) room (rw c.count at k) in
+    let full : CarriesOut room d (record { refusal = accepted; card = status_of page037 d.reply.now d.plan.alone; columns = columns_decided d }) =
+    record { accepts = refl; gives = g; plans = refl; fits = rw (← c.count) k } in
+    subst (CarriesOut room d) (rw l refl ∙ by_room page037 room d.reply.now h d.plan e c) full
 
 -- with a code point: the same decision under SQLDARD's, else the refusal that names it
-pub decides_own : (page : Page) (room : ℕ) (s : List ℕ) (point : ℕ) (d : Result Decision Refusal) → Decides page room s d (description page room s)
-    → point ≡ 0x2411 → Decides page room s d (with_code_point page room point s)
-decides_own page room s point d t h = subst (Decides page room s d) (own_point page room s point h) t
+pub decides_own : (page : Page) (room : ℕ) (s : List ℕ) (point : ℕ) (d : Result Decision Refusal) → Decides room d (description page room s)
+    → point ≡ 0x2411 → Decides room d (with_code_point page room point s)
+decides_own page room s point d t h = subst (Decides room d) (own_point page room s point h) t

@@ -148,11 +148,12 @@ module _ (page : Page) (s : List ℕ) (b : Best) (e : b ≡ scan_best page s) wh
       scan_counted page s b n f (subst (Counts page s) (sym e) (counts_scan page s))
       ∙ ap (λ (x : Best). counted page s (uncounted (layouts.Standard x.order) true x.start (limit_of x))) e
 
-  pub scan_none : b.run.count ≡ 0 → None ≡ with_columns (scan_plan page s)
-  scan_none h = no_columns _ _ (scan_is (limit_of b) refl) h
+  pub scan_some : 1 ≤ b.run.count → Some (plan_with (layouts.Standard b.order) true b.start 512 b.run) ≡ with_columns (scan_plan page s)
+  scan_some h = some_columns _ _ (scan_is 512 (rw (le-leb 1 b.run.count h) refl)) (λ z. omega arith)
 
-  pub scan_some : (b.run.count ≡ 0 → ⊥) → Some (plan_with (layouts.Standard b.order) true b.start 512 b.run) ≡ with_columns (scan_plan page s)
-  scan_some h = some_columns _ _ (scan_is 512 (rw (le-leb 1 b.run.count (omega arith)) refl)) h
+-- no run, no columns
+pub scan_none : (page : Page) (s : List ℕ) → no_run ≡ scan_best page s → None ≡ with_columns (scan_plan page s)
+scan_none page s e = no_columns _ _ (scan_is page s no_run e 0 refl) refl
 
 -- ---- the last reader
 

@@ -17,6 +17,10 @@ use outcome::Refusal;
 use planned::{Layout, Plan};
 use sqlcard::SqlCard;
 
+mod decision;
+
+pub use decision::Decision;
+
 const SQLDARD: u16 = 0x2411;
 
 // What an entry answers once the columns are written: the status record, and how many they are. No `sqlcard::Group`, whose number is a place.
@@ -24,13 +28,6 @@ const SQLDARD: u16 = 0x2411;
 pub struct Sqldard {
     pub card: SqlCard,
     pub count: usize,
-}
-
-// What is answered, and the plan of the columns to write.
-#[derive(Clone, Copy, Debug, PartialEq, Eq)]
-pub struct Decision {
-    pub card: SqlCard,
-    pub plan: Plan,
 }
 
 // The readings that are tried before the last reader. Each is a function with arguments of its own, so a list of closures would need `dyn`.
@@ -173,10 +170,7 @@ fn compact_plan(reply: &[u8]) -> Option<Plan>
 fn scan_plan(reply: &[u8]) -> Option<Plan>
     ensures { result ≡ with_columns (scan_plan page037 reply.now) }
 {
-    let best = scan::scan_standard_sqldagroups(reply);
-    if best.run.count == 0 {
-        return None;
-    }
+    let best = scan::scan_standard_sqldagroups(reply)?;
     Some(Plan {
         layout: Layout::Standard(best.order),
         alone: true,
@@ -228,9 +222,9 @@ fn card_by(reply: &[u8], alone: bool) -> SqlCard
 }
 
 // Every refusal is decided here, before the list is written.
-#[tactic(auto, using(crate::proofs::Deciding::too_long, crate::proofs::Deciding::not_read, crate::proofs::Deciding::too_short, crate::proofs::Deciding::in_room))]
-pub fn decide(reply: &[u8], room: usize) -> Result<Decision, Refusal>
-    ensures { Decides page037 room reply.now result (description page037 room reply.now) }
+#[tactic(auto, using(crate::proofs::Deciding::too_long, crate::proofs::Deciding::not_read, crate::proofs::Deciding::too_short))]
+pub fn decide(reply: &[u8], room: usize) -> Result<Decision<'_>, Refusal>
+    ensures { Decides room result (description page037 room reply.now) }
 {
     if reply.len() > 65536 {
         return Err(Refusal::ReplyTooLong);
@@ -241,12 +235,16 @@ pub fn decide(reply: &[u8], room: usize) -> Result<Decision, Refusal>
         return Err(Refusal::RoomTooShort { needed });
     }
     let card = card_by(reply, plan.alone);
-    Ok(Decision { card, plan })
+    Ok(Decision { card, reply, plan })
 }
 
 #[tactic(auto, using(crate::proofs::Deciding::other_point, crate::proofs::Deciding::decides_own))]
-pub fn decide_at(code_point: u16, reply: &[u8], room: usize) -> Result<Decision, Refusal>
-    ensures { Decides page037 room reply.now result (with_code_point page037 room code_point reply.now) }
+pub fn decide_at(
+    code_point: u16,
+    reply: &[u8],
+    room: usize,
+) -> Result<Decision<'_>, Refusal>
+    ensures { Decides room result (with_code_point page037 room code_point reply.now) }
 {
     if code_point != SQLDARD {
         return Err(Refusal::UnexpectedCodePoint(code_point));

@@ -20,7 +20,7 @@ use Rattle.field.specs.Numbers.{number}
 use Rattle.sqlda.specs.Types.{is_known}
 use Rattle.descriptor.specs.Nullable.{lenient}
 use Rattle.descriptor.proofs.Steps.{descriptor_end_unknown}
-use Rattle.scan.specs.Scan.{score, better, run_from, scan_order, Few, InHand}
+use Rattle.scan.specs.Scan.{score, better, no_run, run_from, scan_order}
 
 pub keep_new : (x y : Best) (b : Bool) → b ≡ better y x → b ≡ true → y ≡ keep better x y
 unfolding keep
@@ -42,8 +42,16 @@ greater_not_below (pos m) (pos n) e f = le-ltb n 0 (omega arith)
 greater_not_below (pos m) (negsuc n) e f = absurd (false≢true f)
 greater_not_below (negsuc m) b e f = absurd (false≢true (sym e))
 
-pub in_hand_new : (x y : Best) (b : Bool) → InHand x → Few y.run → b ≡ better y x → b ≡ true → InHand y
-in_hand_new x y b h k e f = record { few = k; score = greater_not_below (score x.run) (score y.run) h.score (sym e ∙ f) }
+module _ (x y : Best) (b : Bool) (h : lt_z (score x.run) (pos 0) ≡ false) (e : b ≡ better y x) (f : b ≡ true) where
+  pub new_above : lt_z (score y.run) (pos 0) ≡ false
+  new_above = greater_not_below (score x.run) (score y.run) h (sym e ∙ f)
+
+  -- and one that takes its place has columns
+  pub new_counts : y.run.count ≡ 0 → y ≡ no_run
+  unfolding score
+  new_counts k =
+      let z : score y.run ≡ pos 0 = rw k refl in
+      absurd (false≢true (sym h ∙ (ap (λ (i : ℤ). lt_z (score x.run) i) (sym z) ∙ (sym e ∙ f))))
 
 no_steps : {A : Type 0} (w : Walk A) (n p : ℕ) → ((k : ℕ) → w.reads p (w.end k p) ≡ false) → chain w n 0 p ≡ []
 unfolding chain
@@ -52,16 +60,16 @@ no_steps w (suc k) p h = rw (h k) refl
 
 module _ (page : Page) (order : ByteOrder) (s : List ℕ) (p : ℕ) (h : p + 16 ≤ length s) (t : ℕ) (d : t ≡ number order 2 s (p + 12)) (b : Bool) (e : b ≡ is_known t) (f : b ≡ false) where
   -- no descriptor of an unknown type can be read
-  no_run : standard_run page order s 512 p ≡ run_of page s []
+  empty_run : standard_run page order s 512 p ≡ run_of page s []
   unfolding standard_run
-  no_run =
+  empty_run =
       let past = descriptor_end_unknown lenient order s p h (sym (e ∙ ap is_known d) ∙ f) in
       ap (run_of page s) (no_steps (standard_walk page order s) 512 p (λ k. rw past (lt-leb (suc (length s)) (length s) (omega arith))))
 
   -- and a run without columns has score 0
-  not_better : (x : Best) → InHand x → better (run_from page order s p) x ≡ false
+  not_better : (x : Best) → lt_z (score x.run) (pos 0) ≡ false → better (run_from page order s p) x ≡ false
   unfolding run_from score
-  not_better x i = ap (λ (r : Run). lt_z (score x.run) (score r)) no_run ∙ i.score
+  not_better x i = ap (λ (r : Run). lt_z (score x.run) (score r)) empty_run ∙ i
 
-  pub start_passed : (x : Best) → InHand x → x ≡ keep better x (run_from page order s p)
+  pub start_passed : (x : Best) → lt_z (score x.run) (pos 0) ≡ false → x ≡ keep better x (run_from page order s p)
   start_passed x i = keep_old x (run_from page order s p) false (sym (not_better x i)) refl

@@ -1,5 +1,5 @@
 -- The scan: from each start the longest run of standard descriptors, all starts in BE, then all in LE (01, Choice).
-use Rattle.std.specs.Prelude.{Bool, false, ◌&&◌, List, ◌≡◌, ℕ, ◌-◌, ◌≤◌, leb, ℤ, pos, length}
+use Rattle.std.specs.Prelude.{Bool, ◌&&◌, List, ℕ, ◌-◌, ◌≤◌, leb, ℤ, pos, length}
 use Rattle.std.specs.Int.Signed.{lt_z}
 use Rattle.search.specs.Search.{pick}
 use Rattle.search.specs.Walks.{best, chain}
@@ -48,8 +48,3 @@ scan_columns page s = chain (standard_walk page (scan_best page s).order s) (lim
 pub record Few (r : Run) : Type 0 where
   pub named : r.named ≤ r.count
   pub count : r.count ≤ 512
-
--- what holds of the best run so far: few columns, and a score that is not below 0 (01, Choice: above 0, replaces)
-pub record InHand (x : Best) : Type 0 where
-  pub few : Few x.run
-  pub score : lt_z (score x.run) (pos 0) ≡ false

@@ -5,28 +5,26 @@ ghost use Rattle.std.specs.Prelude.{◌≡◌, ◌++◌, ◌≤◌, length, drop
 ghost use Rattle.search.specs.Search.{over};
 ghost use Rattle.codepage.specs.Page.{page037};
 ghost use Rattle.outcome.specs.Refusal.{refusal_in};
-ghost use Rattle.planned.specs.Planned.{columns_of};
+ghost use Rattle.plan.specs.Decision.{columns_decided};
 ghost use Rattle.plan.specs.Description.{description, with_code_point};
 
 use outcome::Refusal;
 use plan::{Decision, Sqldard};
-use planned::Columns;
 use types::ColumnMetadata;
 
 // Writes a decision's columns. By places: after a `zip` with the list's `iter_mut` a proof knows nothing of what the list holds (tried).
-fn fill_columns(reply: &[u8], decision: Decision, columns: &mut [ColumnMetadata]) -> Sqldard
-    requires count_value { decision.plan.run.count ≡ length (columns_of page037 reply.now decision.plan) }
-    requires count_in_bounds { decision.plan.run.count ≤ length columns.old }
+fn fill_columns(decision: Decision<'_>, columns: &mut [ColumnMetadata]) -> Sqldard
+    requires { length (columns_decided decision) ≤ length columns.old }
     ensures gives { result.card ≡ decision.card }
-    ensures counts { result.count ≡ decision.plan.run.count }
-    ensures fills { columns.new ≡ columns_of page037 reply.now decision.plan ++ drop decision.plan.run.count columns.old }
+    ensures counts { result.count ≡ length (columns_decided decision) }
+    ensures fills { columns.new ≡ columns_decided decision ++ drop (length (columns_decided decision)) columns.old }
 {
-    for (i, column) in Columns::new(reply, decision.plan).enumerate() {
+    for (i, column) in decision.columns().enumerate() {
         columns[i] = column;
     }
     Sqldard {
         card: decision.card,
-        count: decision.plan.run.count,
+        count: decision.count(),
     }
 }
 
@@ -38,7 +36,7 @@ pub fn parse_sqldard_data(reply: &[u8], columns: &mut [ColumnMetadata]) -> Resul
     ensures fills { columns.new ≡ over (description page037 (length columns.old) reply.now).columns columns.old }
 {
     let decision = plan::decide(reply, columns.len())?;
-    Ok(fill_columns(reply, decision, columns))
+    Ok(fill_columns(decision, columns))
 }
 
 // The same with the reply's code point, which must be SQLDARD's: an entry of its own, two lines over what the other stands on.
@@ -53,5 +51,5 @@ pub fn parse_sqldard(
     ensures fills { columns.new ≡ over (with_code_point page037 (length columns.old) code_point reply.now).columns columns.old }
 {
     let decision = plan::decide_at(code_point, reply, columns.len())?;
-    Ok(fill_columns(reply, decision, columns))
+    Ok(fill_columns(decision, columns))
 }

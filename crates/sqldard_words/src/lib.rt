@@ -4,45 +4,41 @@
 ghost use Rattle.std.specs.Prelude.{◌≡◌, ◌≤◌, ◌*◌, ◌/◌, length};
 ghost use Rattle.search.specs.Search.{over};
 ghost use Rattle.codepage.specs.Page.{page037};
-ghost use Rattle.planned.specs.Planned.{columns_of};
 ghost use Rattle.column_words.specs.Words.{all_words};
-ghost use Rattle.plan.specs.Decision.{Decides};
+ghost use Rattle.plan.specs.Decision.{columns_decided, Decides};
 ghost use Rattle.plan.specs.Description.{Description, description, with_code_point};
 ghost use Rattle.sqldard_words.specs.Given.{Gives};
 
 use outcome::Refusal;
 use plan::{Decision, Sqldard};
-use planned::Columns;
 
 // Writes a decision's columns as words. By places, and no `zip` with `as_chunks_mut`: an invariant cannot name the words that are lent out then.
-fn fill_words(reply: &[u8], decision: Decision, words: &mut [u64]) -> Sqldard
-    requires count_value { decision.plan.run.count ≡ length (columns_of page037 reply.now decision.plan) }
-    requires count_in_bounds { decision.plan.run.count * 22 ≤ length words.old }
+fn fill_words(decision: Decision<'_>, words: &mut [u64]) -> Sqldard
+    requires { length (columns_decided decision) * 22 ≤ length words.old }
     ensures gives { result.card ≡ decision.card }
-    ensures counts { result.count ≡ decision.plan.run.count }
-    ensures fills { words.new ≡ over (all_words (columns_of page037 reply.now decision.plan)) words.old }
+    ensures counts { result.count ≡ length (columns_decided decision) }
+    ensures fills { words.new ≡ over (all_words (columns_decided decision)) words.old }
 {
-    for (i, column) in Columns::new(reply, decision.plan).enumerate() {
+    for (i, column) in decision.columns().enumerate() {
         column_words::put_column_words(column, words, i * 22);
     }
     Sqldard {
         card: decision.card,
-        count: decision.plan.run.count,
+        count: decision.count(),
     }
 }
 
 // Writes and answers what was decided, whichever description that carries out.
 fn written(
-    reply: &[u8],
-    decision: Result<Decision, Refusal>,
+    decision: Result<Decision<'_>, Refusal>,
     words: &mut [u64],
 ) -> Result<Sqldard, Refusal>
-    requires { (wanted : Description) × Decides page037 (length words.old / 22) reply.now decision wanted }
-    ensures gives { (wanted : Description) → Decides page037 (length words.old / 22) reply.now decision wanted → Gives result wanted }
-    ensures fills { (wanted : Description) → Decides page037 (length words.old / 22) reply.now decision wanted → words.new ≡ over (all_words wanted.columns) words.old }
+    requires { (wanted : Description) × Decides (length words.old / 22) decision wanted }
+    ensures gives { (wanted : Description) → Decides (length words.old / 22) decision wanted → Gives result wanted }
+    ensures fills { (wanted : Description) → Decides (length words.old / 22) decision wanted → words.new ≡ over (all_words wanted.columns) words.old }
 {
     let decision = decision?;
-    Ok(fill_words(reply, decision, words))
+    Ok(fill_words(decision, words))
 }
 
 // The entry description, with room for a column in each 22 words. Nothing is written where it refuses.
@@ -50,8 +46,7 @@ pub fn parse_sqldard_data(reply: &[u8], columns: &mut [u64]) -> Result<Sqldard, 
     ensures gives { Gives result (description page037 (length columns.old / 22) reply.now) }
     ensures fills { columns.new ≡ over (all_words (description page037 (length columns.old / 22) reply.now).columns) columns.old }
 {
-    let decision = plan::decide(reply, columns.len() / 22);
-    written(reply, decision, columns)
+    written(plan::decide(reply, columns.len() / 22), columns)
 }
 
 // The same with the reply's code point, which must be SQLDARD's.
@@ -63,6 +58,9 @@ pub fn parse_sqldard(
     ensures gives { Gives result (with_code_point page037 (length columns.old / 22) code_point reply.now) }
     ensures fills { columns.new ≡ over (all_words (with_code_point page037 (length columns.old / 22) code_point reply.now).columns) columns.old }
 {
-    let decision = plan::decide_at(code_point, reply, columns.len() / 22);
-    written(reply, decision, columns)
+    written(
+        plan::decide_at(code_point, reply, columns.len() / 22),
+        columns,
+    )
+    .into()
 }

@@ -3,8 +3,7 @@ use Rattle.std.proofs.Common.{ℕ, ◌≡◌, ◌+◌, ◌*◌, ◌++◌, arith,
 use Rattle.std.specs.Iterator.Adapters.{enumerate_count}
 use mathlib.Core.List.{flat_map}
 use Rattle.search.proofs.Writing.{writing_block, writing_end}
-use Rattle.codepage.specs.Page.{page037}
-use Rattle.planned.specs.Planned.{columns_of}
+use Rattle.plan.specs.Decision.{columns_decided}
 use Rattle.column_words.specs.Words.{words_of, all_words}
 use Rattle.column_words.proofs.Words.{words_length, all_length}
 use Rattle.sqldard_words.proofs.fill_words.Goals as goal
@@ -19,7 +18,7 @@ loop-i-preserved c =
       counts = omega (arith, inv.counts, ap length t.0, t.2);
       writing = rw e
           (writing_block (words_of c.in-Some.column) _ 22 (words_length c.in-Some.column)
-          (omega (arith, c.requires.count_value, c.requires.count_in_bounds, inv.counts, inv.writing.as_long, ap length t.0, t.1))
+          (omega (arith, c.requires, inv.counts, inv.writing.as_long, ap length t.0, t.1))
           c.put_column_words.ensures
           (rw (t.0, ← t.1) at inv.writing));
     }
@@ -29,6 +28,6 @@ unfolding flat_map
 returns-clause-fills c =
     let t = c.in-None.ensures.steps in
     let inv = c.loop-i.invariant in
-    let columns = columns_of page037 c.args.reply.now c.args.decision.plan in
+    let columns = columns_decided c.args.decision in
     let e : enumerate_count c.loop-i.i-iterator * 22 ≡ length (all_words columns) = omega (arith, inv.counts, ap length t.0.0, all_length columns) in
     writing_end (rw t.0.0 at inv.writing) ∙ ap (λ (n : ℕ). all_words columns ++ drop n c.args.words.now) e
