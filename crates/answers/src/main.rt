@@ -22,7 +22,7 @@ use lists::{Records, Replies};
 use std::io;
 use std::io::{BufReader, BufWriter, Read, Write};
 
-// Answers a case: an entry is a function and an arm.
+// Answers a case: an entry is a function and an arm. No table of functions: they take other arguments, and `out` of any type.
 fn put_answer(out: &mut impl Write, case: Case, lent: &mut Lent) -> Result<(), Instead> {
     let payload = case.payload;
     match case.entry {
@@ -73,7 +73,8 @@ fn end_line(out: &mut impl Write, answered: Result<bool, Instead>) -> io::Result
     Ok(true)
 }
 
-// Each case's line is out before the next case is read.
+// Each case's line is out before the next case is read. With a bound, as std's readers have one: a loop is proved to end, and an input that is not
+// known may never end.
 fn put_all(
     input: &mut impl Read,
     out: &mut impl Write,

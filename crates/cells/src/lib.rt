@@ -3,36 +3,31 @@
 // and promise twice.
 #![tactic(auto)]
 
-ghost use Rattle.std.specs.Prelude.{◌++◌, ◌≡◌, ◌/◌, ◌%◌, [], ◌∷◌};
+ghost use Rattle.std.specs.Prelude.{◌++◌, ◌≡◌, [], ◌∷◌};
 ghost use Rattle.decimal.specs.Decimal.{decimal_of};
 ghost use Rattle.line.specs.Line.{with_text, padded};
-ghost use Rattle.cells.specs.Cells.{is_sized, in_brackets, precision_text, values_text, type_text, yes_or_no, number_cell, cells_of};
+ghost use Rattle.sqlda.specs.Types.{code_of};
+ghost use Rattle.sqlda.specs.Codes.{value_of};
+ghost use Rattle.cells.specs.Cells.{in_brackets, values_text, type_text, yes_or_no, number_cell, cells_of};
 
 use line::Line;
 use types::{ColumnMetadata, Db2Type};
 
-// Whether types with this code have one value, a length or digits.
-fn is_sized(code: u8) -> bool
-    ensures { result ≡ is_sized code }
+// `5,1`.
+fn append_precision<const N: usize>(line: &mut Line<N>, precision: u8, scale: u8)
+    ensures { line.new ≡ with_text N line.old (decimal_of precision ++ ((0x2C ∷ []) ++ decimal_of scale)) }
 {
-    matches!(code, 0xBA | 0x30 | 0x32 | 0x3C | 0x3E | 0x60 | 0x62 | 0x1E)
-}
-
-// `5,1` of a value that holds precision and scale.
-fn append_precision<const N: usize>(line: &mut Line<N>, value: u64)
-    ensures { line.new ≡ with_text N line.old (decimal_of (value / 256) ++ ((0x2C ∷ []) ++ decimal_of (value % 256))) }
-{
-    line.append_decimal(value / 256);
+    line.append_decimal(u64::from(precision));
     line.append(b",");
-    line.append_decimal(value % 256);
+    line.append_decimal(u64::from(scale));
 }
 
 // `(5,1)`.
-fn append_precision_in_brackets<const N: usize>(line: &mut Line<N>, value: u64)
-    ensures { line.new ≡ with_text N line.old (precision_text value) }
+fn append_precision_in_brackets<const N: usize>(line: &mut Line<N>, precision: u8, scale: u8)
+    ensures { line.new ≡ with_text N line.old (in_brackets (decimal_of precision ++ ((0x2C ∷ []) ++ decimal_of scale))) }
 {
     line.append(b"(");
-    append_precision(line, value);
+    append_precision(line, precision, scale);
     line.append(b")");
 }
 
@@ -45,18 +40,25 @@ fn append_size<const N: usize>(line: &mut Line<N>, value: u64)
     line.append(b")");
 }
 
-// What a type with this code and value says besides its name.
+// What a type says besides its name.
 #[tactic(auto, unfolding(crate::specs::Cells::values_text))]
-fn append_values<const N: usize>(line: &mut Line<N>, code: u8, value: u64)
-    ensures { line.new ≡ with_text N line.old (values_text code value) }
+fn append_values<const N: usize>(line: &mut Line<N>, db2_type: Db2Type)
+    ensures { line.new ≡ with_text N line.old (values_text (code_of db2_type) (value_of db2_type)) }
 {
-    if code == 0x0C {
-        append_precision_in_brackets(line, value);
-    } else if is_sized(code) {
-        append_size(line, value);
-    } else {
+    match db2_type {
+        Db2Type::Decimal { precision, scale } => {
+            append_precision_in_brackets(line, precision, scale)
+        }
+        Db2Type::DecFloat(digits) => append_size(line, u64::from(digits)),
+        Db2Type::Char(n)
+        | Db2Type::VarChar(n)
+        | Db2Type::Graphic(n)
+        | Db2Type::VarGraphic(n)
+        | Db2Type::Binary(n)
+        | Db2Type::VarBinary(n)
+        | Db2Type::RowId(n) => append_size(line, u64::from(n)),
         // No text: said to the line, whose room what it holds does not pass.
-        line.append(b"");
+        _ => line.append(b""),
     }
 }
 
@@ -65,11 +67,7 @@ pub fn append_type<const N: usize>(line: &mut Line<N>, letters: &[u8], db2_type:
     ensures { line.new ≡ with_text N line.old (type_text letters.now db2_type) }
 {
     line.append(letters);
-    append_values(
-        line,
-        sqlda::type_code(db2_type),
-        sqlda::type_value(db2_type),
-    );
+    append_values(line, db2_type);
 }
 
 #[tactic(auto, using(line::proofs::Appends::text_cell))]

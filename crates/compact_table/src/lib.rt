@@ -1,4 +1,5 @@
-// The table of compact descriptors, which is found by how its first descriptors look. All its numbers are little-endian.
+// The table of compact descriptors, which is found by how its first descriptors look. All its numbers are little-endian. A place in the reply moves
+// at each call, so each function asks anew for the bytes behind it: a type of reply and place would be made for one call.
 #![tactic(auto)]
 
 ghost use Rattle.std.specs.Prelude.{◌≡◌, ℕ, Bool, ◌+◌, ◌<◌, ◌≤◌, leb, length, IfSome, unwrap_or};
@@ -8,7 +9,7 @@ ghost use Rattle.compact_table.specs.Table.{in_bounds, ff_at, looks_compact, nex
 
 use field::ByteOrder;
 
-// Where the first descriptor stands, and how many the table declares.
+// Where the first descriptor stands, and how many the table declares. A run of names has two such numbers, but its count is of what was found.
 #[derive(Clone, Copy, Debug, PartialEq, Eq)]
 pub struct Table {
     pub start: usize,
@@ -49,6 +50,7 @@ pub fn looks_like_compact_descriptor_start(reply: &[u8], offset: usize) -> bool
     looks_like_start_within(reply, offset)
 }
 
+// What is asked of the test stands at each function that takes one: no bound says what a closure computes.
 fn any_in_eight<F: Fn(u8) -> bool>(reply: &[u8], offset: usize, passes: &F) -> bool
     requires in_range { offset + 8 ≤ length reply.now }
     requires callable { F.IsAlwaysCallable passes.now }
@@ -82,7 +84,8 @@ fn skip_eights<F: Fn(u8) -> bool>(reply: &[u8], offset: usize, end: usize, passe
     i
 }
 
-// Where the first byte from a position on and before `end` stands that passes a test.
+// Where the first byte from a position on and before `end` stands that passes a test. Positions in the reply, as in the definitions, and no part of
+// it, from whose front each answer would be counted.
 #[tactic(auto, using(crate::proofs::Skips::found, crate::proofs::Skips::not_found, search::proofs::Index::first_more, search::proofs::Index::first_found, search::proofs::Index::first_done))]
 pub fn first_byte<F: Fn(u8) -> bool>(
     reply: &[u8],
@@ -133,7 +136,8 @@ fn is_count(count: u16) -> bool
     (1..=512).contains(&count)
 }
 
-// Whether the descriptor has a next. Where the search for one has failed once, it fails at every later position: `more` spares it there.
+// Whether the descriptor has a next. Where the search for one has failed once, it fails at every later position: `more` spares it there. It is
+// lent: what it says is of an offset, which a type would hold beside the reply and move at each turn.
 fn has_next(reply: &[u8], offset: usize, more: &mut bool) -> bool
     requires in_range { offset + 16 ≤ length reply.now }
     requires ended { Ended reply.now offset more.old }

@@ -11,7 +11,7 @@ fn digit(number: u64) -> u8
     (0x30 + number % 10) as u8
 }
 
-// The digits end where the array ends, so that letters can be put before them.
+// The digits end where the array ends, so that letters can be put before them. No `String`, which is on the heap.
 #[derive(Clone, Copy, Debug)]
 pub struct Digits {
     pub characters: [u8; 24],
@@ -55,7 +55,8 @@ pub fn digits_of(number: u64) -> Digits
     Digits { characters, start }
 }
 
-// Writes the digits over the buffer's front and says how many they are; where there is no room for them, the buffer is as it was.
+// Writes the digits over the buffer's front and says how many they are; where there is no room for them, the buffer is as it was. For programs that
+// use this crate: in the library's own texts letters stand before a number, or a line holds it.
 #[tactic(auto, unfolding(outcome::specs::Room::room_written))]
 pub fn write_decimal(number: u64, buffer: &mut [u8]) -> Option<usize>
     ensures gives { MatchOption result (length buffer.old < length (decimal_of number)) (λ n. (n ≡ length (decimal_of number)) × (n ≤ length buffer.old)) }

@@ -1,5 +1,6 @@
 // A line that is put together text by text, with room for `N` bytes. What finds no room is cut off, so no caller has to know beforehand that
-// its text fits.
+// its text fits. An array with what is used of it, as a `Vec` or a `String` is on the heap; and no Display: `write!` promises what it prints of a
+// `String` alone.
 #![tactic(auto)]
 
 ghost use Rattle.std.specs.Prelude.{◌≡◌, ◌-◌, [], length};
@@ -39,7 +40,7 @@ impl<const N: usize> Line<N> {
     pub fn len(&self) -> usize
         ensures { result ≡ length self.now }
     {
-        self.used
+        self.as_bytes().len()
     }
 
     pub fn as_bytes(&self) -> &[u8]

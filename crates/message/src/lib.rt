@@ -13,6 +13,7 @@ use text::Alphabet;
 // How many bytes are looked at together.
 const BLOCK: usize = 128;
 
+// By its range, as the definition: `is_ascii_graphic` leaves the blank out.
 pub fn is_printable(byte: u8) -> bool
     ensures { result ≡ is_printable byte }
 {

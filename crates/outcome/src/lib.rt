@@ -23,7 +23,8 @@ pub enum Refusal {
     LargeObject { number: u16 },
 }
 
-// A refusal's number and its values in document 01's order: `count` of them, the others 0. Number 0 is none.
+// A refusal's number and its values in document 01's order: `count` of them, the others 0. Number 0 is none. C has no enum with values, so a number
+// stands for one, and a count beside them.
 #[repr(C)]
 #[derive(Clone, Copy, Debug, PartialEq, Eq)]
 pub struct RefusalNumbers {

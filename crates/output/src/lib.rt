@@ -13,15 +13,12 @@ pub use type_names::type_name;
 #[derive(Clone, Copy, Debug)]
 pub struct Characters<'a>(pub &'a [u8]);
 
-fn is_printable(character: u8) -> bool {
-    matches!(character, 0x20..=0x7E)
-}
-
 fn printed(character: u8) -> char {
-    if is_printable(character) | (character >= 0xA0) {
-        char::from(character)
-    } else {
+    let character = char::from(character);
+    if character.is_control() {
         '.'
+    } else {
+        character
     }
 }
 
@@ -29,7 +26,10 @@ impl fmt::Display for Characters<'_> {
     fn fmt<W: fmt::Write>(&self, f: &mut fmt::Formatter<W>) -> fmt::Result {
         let characters = self.0;
         // A quick path: those of ASCII are written at once.
-        if characters.iter().all(|character| is_printable(*character)) {
+        if characters
+            .iter()
+            .all(|character| character.is_ascii() && !character.is_ascii_control())
+        {
             if let Ok(text) = std::str::from_utf8(characters) {
                 return f.write_str(text);
             }

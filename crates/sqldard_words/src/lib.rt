@@ -62,5 +62,4 @@ pub fn parse_sqldard(
         plan::decide_at(code_point, reply, columns.len() / 22),
         columns,
     )
-    .into()
 }
