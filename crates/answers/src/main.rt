@@ -43,7 +43,7 @@ fn put_answer(out: &mut impl Write, case: Case, lent: &mut Lent) -> Result<(), I
     }
 }
 
-// The next case, read and answered; whether there was one.
+// The next case, read and answered; whether there was one: nothing of it is left to give.
 fn put_next(
     input: &mut impl Read,
     out: &mut impl Write,

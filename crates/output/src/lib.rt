@@ -26,9 +26,8 @@ impl fmt::Display for Characters<'_> {
     fn fmt<W: fmt::Write>(&self, f: &mut fmt::Formatter<W>) -> fmt::Result {
         let characters = self.0;
         // A quick path: those of ASCII are written at once.
-        if characters
-            .iter()
-            .all(|character| character.is_ascii() && !character.is_ascii_control())
+        if characters.iter().all(|character| character.is_ascii()
+            && !character.is_ascii_control())
         {
             if let Ok(text) = std::str::from_utf8(characters) {
                 return f.write_str(text);
