@@ -60,7 +60,6 @@ pub(crate) fn put_size(out: &mut impl Write, columns: usize, bytes: usize) -> io
 }
 
 // `refused`, the refusal's number, and what it means: 6 does not come, since 4,096 columns are lent, and the other numbers are other entries'.
-// By number, since an answer in words is C's, which has no enum of refusals.
 #[derive(Clone, Copy)]
 pub(crate) struct Refused(pub Refusal);
 
