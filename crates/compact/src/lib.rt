@@ -37,7 +37,8 @@ fn decode_ccsid(reply: &[u8], offset: usize) -> u16
 }
 
 // As text's own test of ASCII characters, but all at once: `matches!` tests one after the other, and takes 1.4 times the instructions for a name. The
-// compiler tests letters first, which stand last here: most characters of names are letters.
+// compiler tests letters first, which stand last here: most characters of names are letters. By `is_ascii_alphanumeric` for the last three, compact
+// tables take up to 1.014 times the instructions.
 fn is_name_char(character: u8) -> bool
     ensures { result ≡ is_name_char character }
 {
