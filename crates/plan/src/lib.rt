@@ -239,11 +239,7 @@ pub fn decide(reply: &[u8], room: usize) -> Result<Decision<'_>, Refusal>
 }
 
 #[tactic(auto, using(crate::proofs::Deciding::other_point, crate::proofs::Deciding::decides_own))]
-pub fn decide_at(
-    code_point: u16,
-    reply: &[u8],
-    room: usize,
-) -> Result<Decision<'_>, Refusal>
+pub fn decide_at(code_point: u16, reply: &[u8], room: usize) -> Result<Decision<'_>, Refusal>
     ensures { Decides room result (with_code_point page037 room code_point reply.now) }
 {
     if code_point != SQLDARD {

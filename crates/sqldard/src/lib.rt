@@ -15,9 +15,9 @@ use types::ColumnMetadata;
 // Writes a decision's columns. By places: after a `zip` with the list's `iter_mut` a proof knows nothing of what the list holds (tried).
 fn fill_columns(decision: Decision<'_>, columns: &mut [ColumnMetadata]) -> Sqldard
     requires { length (columns_decided decision) ≤ length columns.old }
-    ensures gives { result.card ≡ decision.card }
-    ensures counts { result.count ≡ length (columns_decided decision) }
-    ensures fills { columns.new ≡ columns_decided decision ++ drop (length (columns_decided decision)) columns.old }
+    ensures gives { result.card ≡ decision.entry.card }
+    ensures counts { result.count ≡ length (columns_decided decision.entry) }
+    ensures fills { columns.new ≡ columns_decided decision.entry ++ drop (length (columns_decided decision.entry)) columns.old }
 {
     for (i, column) in decision.columns().enumerate() {
         columns[i] = column;

@@ -15,9 +15,9 @@ use plan::{Decision, Sqldard};
 // Writes a decision's columns as words. By places, and no `zip` with `as_chunks_mut`: an invariant cannot name the words that are lent out then.
 fn fill_words(decision: Decision<'_>, words: &mut [u64]) -> Sqldard
     requires { length (columns_decided decision) * 22 ≤ length words.old }
-    ensures gives { result.card ≡ decision.card }
-    ensures counts { result.count ≡ length (columns_decided decision) }
-    ensures fills { words.new ≡ over (all_words (columns_decided decision)) words.old }
+    ensures gives { result.card ≡ decision.entry.card }
+    ensures counts { result.count ≡ length (columns_decided decision.entry) }
+    ensures fills { words.new ≡ over (all_words (columns_decided decision.entry)) words.old }
 {
     for (i, column) in decision.columns().enumerate() {
         column_words::put_column_words(column, words, i * 22);
@@ -29,13 +29,10 @@ fn fill_words(decision: Decision<'_>, words: &mut [u64]) -> Sqldard
 }
 
 // Writes and answers what was decided, whichever description that carries out.
-fn written(
-    decision: Result<Decision<'_>, Refusal>,
-    words: &mut [u64],
-) -> Result<Sqldard, Refusal>
+fn written(decision: Result<Decision<'_>, Refusal>, words: &mut [u64]) -> Result<Sqldard, Refusal>
     requires { (wanted : Description) × Decides (length words.old / 22) decision wanted }
-    ensures gives { (wanted : Description) → Decides (length words.old / 22) decision wanted → Gives result wanted }
-    ensures fills { (wanted : Description) → Decides (length words.old / 22) decision wanted → words.new ≡ over (all_words wanted.columns) words.old }
+    ensures gives { (wanted : Description) → Decides (length words.old / 22) decision.entry wanted → Gives result wanted }
+    ensures fills { (wanted : Description) → Decides (length words.old / 22) decision.entry wanted → words.new ≡ over (all_words wanted.columns) words.old }
 {
     let decision = decision?;
     Ok(fill_words(decision, words))
