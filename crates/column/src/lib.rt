@@ -87,7 +87,7 @@ fn string_text(reply: &[u8], string: StringRead) -> Text
     text::decode_text(reply, string.place, string.length)
 }
 
-// The text of a column's name; alphabet 0 says that it is generated from the column's number.
+// The text of a column's name; alphabet 0, which is no `Alphabet`, says that it is generated from the column's number.
 #[tactic(auto, unfolding(crate::specs::Column::name_text))]
 fn name_text(reply: &[u8], name: StringRead) -> Text
     requires { name.place + name.length ≤ length reply.now }

@@ -27,7 +27,8 @@ fn all_digits(bytes: &[u8], alphabet: Alphabet) -> bool
     bytes.iter().all(|byte| alphabet.is_digit(*byte))
 }
 
-// Whether a text's characters are COL and one or more digits, as the reader itself names a column without a name.
+// Whether a text's characters are COL and one or more digits, as the reader itself names a column without a name. Bytes and alphabet
+// stay apart: as one struct the name scan took up to 5 % more instructions (see text's `all_name_chars`).
 #[tactic(auto, using(text::proofs::Generated::generated_is))]
 pub fn is_generated(bytes: &[u8], alphabet: Alphabet) -> bool
     ensures { result ≡ is_generated (chars page037 (alphabet_number alphabet) bytes.now) }

