@@ -127,7 +127,8 @@ pub fn longest_name_run(reply: &[u8]) -> NameRun
     best
 }
 
-// The names of a run, read again from its start: for who writes them down.
+// The names of a run, read again from its start: for who writes them down. Counted here too, not by the plan alone: layouts that have names may
+// stand behind a run of 512, and they are none of its names.
 #[derive(Clone, Copy, Debug, PartialEq, Eq)]
 pub struct RunNames<'a> {
     reply: &'a [u8],

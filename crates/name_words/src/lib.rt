@@ -30,12 +30,13 @@ fn fill_words(plan: Plan<'_>, words: &mut [u64])
     requires { length (names_of_plan plan) * 3 ≤ length words.old }
     ensures { words.new ≡ over (text_words (names_of_plan plan.entry)) words.old }
 {
-    for (i, text) in plan.source.take(plan.count).enumerate() {
+    for (i, text) in plan.enumerate() {
         put_text_words(text, words, i * 3);
     }
 }
 
 // The entry name scan, with room for a text in each 3 words: how many names were written. Nothing is written where it refuses.
+// `names`' writes records: the two differ in what they write, and that is by places.
 #[tactic(auto, using(crate::proofs::Words::no_words))]
 pub fn scan_column_names(reply: &[u8], words: &mut [u64]) -> Result<usize, Refusal>
     ensures refuses { refusal_in result ≡ (name_scan page037 (length words.old / 3) reply.now).refusal }

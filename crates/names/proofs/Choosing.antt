@@ -1,18 +1,16 @@
 -- Which of the three lists is taken: a law for each way out of the plan, and what a plan gives.
 use mathlib.Core.Path.{◌≡◌, refl, sym, ap, ◌∙◌}
 use mathlib.Core.Bool.{Bool, true, false, false≢true, and-eq-true_iff, ◌&&◌}
-use mathlib.Core.List.{List, [], ◌∷◌}
+use mathlib.Core.List.{List, []}
 use Prim.Native.Nat.{ℕ, zero, suc, ◌+◌, ◌-◌, ◌≤◌, ◌<◌}
 use native.Mathlib.Numerals.{add-one}
 use native.Mathlib.Omega.{arith}
 use lib.Dec.{ltb, leb}
 use lib.ListN.{length, take}
-use lib.Seq.{take_all, take-nil}
+use lib.Seq.{take_all}
 use borrow.Author.Tests.{lt-ltb, le-ltb, le-leb, lt-leb, leb-true, leb-false, ltb-true, ltb-false}
 use Rattle.std.proofs.Common.{Option, Some, None}
-use Rattle.std.specs.declared.iter.Take.{Take}
 use Rattle.std.specs.Iterator.{YieldsFirst}
-use Rattle.std.specs.Iterator.Adapters.{take_source, take_count}
 use Rattle.search.specs.Search.{pick}
 use Rattle.codepage.specs.Page.{Page, page037}
 use Rattle.text.specs.declared.Text.{Text}
@@ -33,22 +31,16 @@ use Rattle.names.specs.declared.Source.{Source}
 use Rattle.names.specs.declared.Plan.{Plan}
 use Rattle.names.specs.Decision.{names_of, names_of_plan, IsPlanOf}
 
--- ---- one name of those that are taken
+-- ---- one name of a plan
 
--- what is still to come of a source of which so many names are taken
-abbrev pub taken_left : Take Source → List Text
-taken_left t = take (take_count t) (names_of (take_source t))
+take_none : (k : ℕ) → take {A = Text} k [] ≡ []
+take_none zero = refl
+take_none (suc k) = refl
 
-pub taken_none : (t : Take Source) (s : Source) → (0 < take_count t → YieldsFirst names_of (take_source t) None s) → taken_left t ≡ []
-taken_none t s h = go (take_count t) h
-  where
-    go : (k : ℕ) → (0 < k → YieldsFirst names_of (take_source t) None s) → take k (names_of (take_source t)) ≡ []
-    go zero h = refl
-    go (suc k) h = rw (h (omega arith)).0 (take-nil (suc k))
-
-pub taken_more : (t u : Take Source) (x : Text) → names_of (take_source t) ≡ x ∷ names_of (take_source u) → take_count u + 1 ≡ take_count t
-    → taken_left t ≡ x ∷ taken_left u
-taken_more t u x e f = rw (← f, add-one (take_count u), e) refl
+pub plan_next : (p : Plan) (s : Source) (k : ℕ) (r : Option Text) → 1 ≤ p.count → k ≡ p.count - 1 → YieldsFirst names_of p.source r s
+    → YieldsFirst names_of_plan p r (record { source = s; count = k })
+plan_next p s k None i j h = let e : p.count ≡ k + 1 = omega arith in (rw (e, add-one k, h.0) refl, rw h.1 (take_none k))
+plan_next p s k (Some x) i j h = let e : p.count ≡ k + 1 = omega arith in rw (e, add-one k, h) refl
 
 -- ---- the choice
 

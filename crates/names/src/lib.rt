@@ -36,11 +36,27 @@ impl<'a> Iterator for Source<'a> {
     }
 }
 
-// So many names are to be taken from their source. Who writes them down takes no more (`take`): the next one behind them isn't looked for.
+// So many names are to be taken from their source. The next one behind them isn't looked for. The count is a field: a method of that name is not
+// called where the iterator's own `count` takes the plan by value, and that one goes through all names.
+// No `source.take(count)` by who writes them: it was tried, and is longer. Each of the two proves by itself there what `names_of_plan` says here once.
 #[derive(Clone, Copy, Debug, PartialEq, Eq)]
 pub struct Plan<'a> {
-    pub source: Source<'a>,
+    source: Source<'a>,
     pub count: usize,
+}
+
+impl<'a> Iterator for Plan<'a> {
+    type Item = Text;
+
+    ghost next_gives = { YieldsFirst names_of_plan };
+
+    ghost remaining = { item_count names_of_plan };
+
+    #[tactic(auto, using(crate::proofs::Choosing::plan_next))]
+    fn next(&mut self) -> Option<Text> {
+        self.count = self.count.checked_sub(1)?;
+        self.source.next()
+    }
 }
 
 // Which of the three lists is taken. A list of candidates counts from two names on, and the second only if it is longer.
@@ -71,7 +87,8 @@ fn plan_names(reply: &[u8]) -> Plan<'_>
     }
 }
 
-// Every refusal is decided here, before the list is written: `room` is how many names it takes.
+// Every refusal is decided here, before the list is written: `room` is how many names it takes. Another than `plan::decide`: that one decides over
+// descriptions, by other limits.
 #[tactic(auto, using(crate::proofs::Deciding::too_long, crate::proofs::Deciding::too_short, crate::proofs::Deciding::in_room))]
 pub fn decide(reply: &[u8], room: usize) -> Result<Plan<'_>, Refusal>
     ensures refuses { refusal_in result ≡ (name_scan page037 room reply.now).refusal }
@@ -90,17 +107,17 @@ pub fn decide(reply: &[u8], room: usize) -> Result<Plan<'_>, Refusal>
 }
 
 // Writes a plan's names. By places: after a `zip` with the list's `iter_mut` a proof knows nothing of what the list holds (tried).
-#[tactic(auto, using(crate::proofs::Choosing::taken_none, crate::proofs::Choosing::taken_more))]
 fn fill_names(plan: Plan<'_>, names: &mut [Text])
     requires { length (names_of_plan plan) ≤ length names.old }
     ensures { names.new ≡ over (names_of_plan plan.entry) names.old }
 {
-    for (i, text) in plan.source.take(plan.count).enumerate() {
+    for (i, text) in plan.enumerate() {
         names[i] = text;
     }
 }
 
-// The entry name scan: how many names were written. Nothing is written where it refuses.
+// The entry name scan: how many names were written. Nothing is written where it refuses. Into words it is `name_words`': the two differ in what they
+// write, and that is by places.
 pub fn scan_column_names(reply: &[u8], names: &mut [Text]) -> Result<usize, Refusal>
     ensures refuses { refusal_in result ≡ (name_scan page037 (length names.old) reply.now).refusal }
     ensures counts { MatchResult result
