@@ -9,7 +9,8 @@ use columns::MOST_COLUMNS;
 use list_words::WordColumns;
 use outcome::{Refusal, RefusalNumbers};
 
-// The refusal of words that stand for no list of columns, which is the library's own.
+// The refusal of words that stand for no list of columns, which is the library's own. A number: with an error enum, its two conversions and a
+// function for each entry that answers it, this file was twice as long.
 const NO_COLUMNS: u8 = 255;
 
 // The entry same cut: `first` and `second` are lists of columns, 22 words each. A list that is too long is refused before its words are looked at.

@@ -1,11 +1,10 @@
 -- Lists that are alike by a test: where the test is an equivalence of elements, this is one of lists.
-use Prim.Native.Nat.{ℕ, suc, ◌+◌, ◌≤◌, ◌<◌}
-use mathlib.Core.Path.{◌≡◌, refl, sym, ap, ◌∙◌}
+use Prim.Native.Nat.{suc}
+use mathlib.Core.Path.{◌≡◌, refl, ap}
 use mathlib.Core.List.{List, [], ◌∷◌}
 use mathlib.Core.Bool.{Bool, true, false, ◌&&◌, false≢true, and-eq-true_iff}
-use lib.ListN.{length, get_or, drop, drop_of_length-le}
+use lib.ListN.{length}
 use Rattle.search.specs.Search.{alike}
-use Rattle.search.proofs.Each.{drop_next}
 
 module _ {A : Type 0} (f : A → A → Bool) where
   pub alike_refl : ((x : A) → f x x ≡ true) → (xs : List A) → alike f xs xs ≡ true
@@ -43,21 +42,3 @@ module _ {A : Type 0} (f : A → A → Bool) where
       go : (b : Bool) → alike f xs ys ≡ b → false ≡ b
       go true e = absurd (h (alike_length xs ys e))
       go false e = refl
-
-  -- a loop over two lists of equal length: t is the answer, and `t ≡ alike f (drop i xs) (drop i ys)` its invariant
-  module _ (xs ys : List A) (d : A) (i : ℕ) (t : Bool) (e : t ≡ alike f (drop i xs) (drop i ys)) where
-    turn : i < length xs → i < length ys → t ≡ (f (get_or xs i d) (get_or ys i d) && alike f (drop (i + 1) xs) (drop (i + 1) ys))
-    turn h k =
-        e ∙ ap (λ (l : List A). alike f l (drop i ys)) (drop_next xs i d h)
-        ∙ ap (λ (l : List A). alike f (get_or xs i d ∷ drop (i + 1) xs) l) (drop_next ys i d k)
-
-    pub alike_more : i < length xs → i < length ys → f (get_or xs i d) (get_or ys i d) ≡ true → t ≡ alike f (drop (i + 1) xs) (drop (i + 1) ys)
-    alike_more h k g = turn h k ∙ rw g refl
-
-    pub alike_fails : i < length xs → i < length ys → f (get_or xs i d) (get_or ys i d) ≡ false → false ≡ t
-    alike_fails h k g = sym (turn h k ∙ rw g refl)
-
-    pub alike_done : length xs ≤ i → length ys ≤ i → true ≡ t
-    alike_done h k =
-        sym
-        (e ∙ ap (λ (l : List A). alike f l (drop i ys)) (drop_of_length-le xs h) ∙ ap (λ (l : List A). alike f [] l) (drop_of_length-le ys k))

@@ -1,6 +1,5 @@
 pub mod Tests
 pub mod Each
-pub mod First
 pub mod Over
 pub mod Index
 pub mod Best

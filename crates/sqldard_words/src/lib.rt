@@ -47,11 +47,7 @@ pub fn parse_sqldard_data(reply: &[u8], columns: &mut [u64]) -> Result<Sqldard, 
 }
 
 // The same with the reply's code point, which must be SQLDARD's.
-pub fn parse_sqldard(
-    code_point: u16,
-    reply: &[u8],
-    columns: &mut [u64],
-) -> Result<Sqldard, Refusal>
+pub fn parse_sqldard(code_point: u16, reply: &[u8], columns: &mut [u64]) -> Result<Sqldard, Refusal>
     ensures gives { Gives result (with_code_point page037 (length columns.old / 22) code_point reply.now) }
     ensures fills { columns.new ≡ over (all_words (with_code_point page037 (length columns.old / 22) code_point reply.now).columns) columns.old }
 {
