@@ -175,8 +175,9 @@ pub fn type_value(db2_type: Db2Type) -> u64
     }
 }
 
-// The type with this code, and what the value says of it. Codes that are none stand for Xml. An arm for each type, as above: it is the same table read
-// the other way, and a search of a list of types would make them all first.
+// The type with this code, and what the value says of it. Codes that are none stand for Xml, since every code has an answer here: who may hold another
+// asks `is_type` first, as column_words::column_get, which answers an Option. An arm for each type, as above: it is the same table read the other way, and
+// a search of a list of types would make them all first.
 #[tactic(auto, unfolding(crate::specs::Codes::type_with))]
 pub fn type_with(code: u64, value: u16) -> Db2Type
     ensures { result ≡ type_with code value }
