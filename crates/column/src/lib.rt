@@ -56,7 +56,7 @@ pub struct Described {
     pub next: usize,
 }
 
-// How many columns a run of descriptors has, and how many of them have names that are not generated.
+// How many columns a run of descriptors has, and how many of them have names that are not generated. Two numbers, as others are with other meanings.
 #[derive(Clone, Copy, Debug, PartialEq, Eq)]
 pub struct Run {
     pub count: usize,
@@ -70,7 +70,7 @@ pub fn is_named(name: &[u8]) -> bool
     !name.is_empty() && !generated::is_generated_string(name)
 }
 
-// 1 for such a name, else 0: runs of descriptors count with it.
+// 1 for such a name, else 0: runs of descriptors count with it, and hold a place in the reply.
 #[tactic(auto, using(crate::proofs::Names::named_at))]
 pub fn one_if_named(reply: &[u8], name: StringRead) -> usize
     requires { name.place + name.length ≤ length reply.now }
@@ -79,6 +79,7 @@ pub fn one_if_named(reply: &[u8], name: StringRead) -> usize
     usize::from(is_named(&reply[name.place..name.place + name.length]))
 }
 
+// By its place, here and for names: a text is a place in the reply.
 #[tactic(auto, unfolding(crate::specs::Column::string_text))]
 fn string_text(reply: &[u8], string: StringRead) -> Text
     requires { string.place + string.length ≤ length reply.now }
@@ -103,6 +104,7 @@ fn name_text(reply: &[u8], name: StringRead) -> Text
     string_text(reply, name)
 }
 
+// No From: it would stand beside ByteOrder, in field, and its definition with it, which is of a column's numbers.
 pub fn order_number(order: ByteOrder) -> u64
     ensures { result ≡ order_number order }
 {

@@ -53,7 +53,7 @@ pub fn words_of(column: &ColumnMetadata) -> ColumnWords
     ]
 }
 
-// Writes a column's words from `at` on.
+// Writes a column's words from `at` on: words stand at a place, which no From has.
 pub fn put_column_words(column: ColumnMetadata, words: &mut [u64], at: usize)
     requires { at + 22 ≤ length words.old }
     ensures { words.new ≡ take at words.old ++ (words_of column ++ drop (at + 22) words.old) }

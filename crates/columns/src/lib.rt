@@ -58,7 +58,7 @@ pub fn same_column(c: &ColumnMetadata, d: &ColumnMetadata) -> bool
     coarse_column(c, d) & (c.ccsid == d.ccsid)
 }
 
-// Whether the columns at place `i` of two lists are cut from a row alike.
+// Whether the columns at place `i` of two lists are cut from a row alike. Two lists that are compared, here and below, and no pair: nothing keeps both.
 fn same_at<L: ColumnList + Copy>(a: L, b: L, i: usize) -> bool
     requires first { i < length (L.columns a) }
     requires second { i < length (L.columns b) }

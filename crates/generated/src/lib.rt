@@ -21,6 +21,7 @@ fn starts_col(bytes: &[u8], alphabet: Alphabet) -> bool
         && alphabet.character(bytes[2]) == b'L'
 }
 
+// One line over `all`, as text's `all_name_chars`: the function that serves any test is std's.
 fn all_digits(bytes: &[u8], alphabet: Alphabet) -> bool
     ensures { result ≡ each (is_digit_of page037 (alphabet_number alphabet)) bytes.now }
 {

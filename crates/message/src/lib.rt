@@ -86,6 +86,7 @@ pub struct Message<'a> {
 }
 
 impl<'a> Message<'a> {
+    // The bound is asked here, behind which the type has it: of a string, or of bytes that an entry has measured.
     pub fn new(bytes: &'a [u8]) -> Message<'a>
         requires { length bytes.now ≤ 65536 }
         ensures { result.bytes ≡ bytes.entry }

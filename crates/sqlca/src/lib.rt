@@ -24,6 +24,7 @@ fn is_near(bits: u32) -> bool
     field::to_signed(bits).unsigned_abs() <= 100_000
 }
 
+// One line over `all`, as text's `all_name_chars`: the function that serves any test is std's.
 fn all_printable(bytes: &[u8]) -> bool
     ensures { result ≡ each is_printable bytes.now }
 {

@@ -67,7 +67,8 @@ fn capped(raw: u64) -> u16
     raw.min(65535) as u16
 }
 
-// An arm for each kind, since the kinds differ in what they say of a type besides.
+// An arm for each kind, since the kinds differ in what they say of a type besides. Raw length and precision, here and in `length_for`, are two of a
+// descriptor's numbers: the five stand together in column's `Sqldagrp`, above this crate.
 fn db2_type_for(kind: Kind, raw: u64, precision: u8, scale: u8) -> Db2Type
     ensures { result ≡ type_of kind raw precision scale }
 {

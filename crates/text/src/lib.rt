@@ -39,7 +39,7 @@ impl Alphabet {
     {
         match self {
             Alphabet::Ascii => {
-                (byte >= 0x09) & (byte <= 0x0D) | (byte == 0x20) | (byte == 0x85) | (byte == 0xA0)
+                matches!(byte, 0x09..=0x0D | 0x20 | 0x85 | 0xA0)
             }
             Alphabet::Page037 => codepage::is_blank_byte(byte),
         }
@@ -52,7 +52,7 @@ impl Alphabet {
     {
         match self {
             Alphabet::Ascii => byte.is_ascii_digit(),
-            Alphabet::Page037 => (byte >= 0xF0) & (byte <= 0xF9),
+            Alphabet::Page037 => matches!(byte, 0xF0..=0xF9),
         }
     }
 }
@@ -114,7 +114,8 @@ fn is_name_char(character: u8) -> bool
 }
 
 // Bytes and alphabet stay apart, here and in generated, identifier and column_name: as one struct the name scan took up to 5 % more instructions,
-// 9 % where the struct was no reference, or its functions were inlined.
+// 9 % where the struct was no reference, or its functions were inlined; and an `impl Model` is refused where it is `Copy` and has a lifetime.
+// One line over `all`, as generated's and sqlca's: the function that serves any test is std's.
 pub fn all_name_chars(bytes: &[u8], alphabet: Alphabet) -> bool
     ensures { result ≡ each (is_name_of page037 (alphabet_number alphabet)) bytes.now }
 {
@@ -147,7 +148,8 @@ pub fn kept_bytes(bytes: &[u8], alphabet: Alphabet) -> usize
     }
 }
 
-// The text of the `length` bytes from `start` on. One that is not ASCII has a byte above 7F, which trimming keeps: it is never empty.
+// The text of the `length` bytes from `start` on: by their place, since a text is a place in the reply. One that is not ASCII has a byte above
+// 7F, which trimming keeps: it is never empty.
 #[tactic(auto, using(crate::proofs::Bytes::leading_same, crate::proofs::Bytes::kept_same, crate::proofs::Decode::decode_none, crate::proofs::Decode::decode_ascii, crate::proofs::Decode::decode_page, codepage::proofs::Pages::rearranged_037, codepage::proofs::Pages::blanks_037))]
 pub fn decode_text(reply: &[u8], start: usize, length: usize) -> Text
     requires { start + length ≤ lib.ListN.length reply.now }
