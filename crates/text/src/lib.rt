@@ -52,7 +52,7 @@ impl Alphabet {
     {
         match self {
             Alphabet::Ascii => byte.is_ascii_digit(),
-            Alphabet::Page037 => matches!(byte, 0xF0..=0xF9),
+            Alphabet::Page037 => (byte >= 0xF0) & (byte <= 0xF9),
         }
     }
 }
