@@ -109,6 +109,7 @@ pub fn read_compact(reply: &[u8], offset: usize, end: usize) -> Described
     let ccsid = decode_ccsid(reply, offset + 14);
     let name = extract_column_name(reply, offset, end);
     let none = strings::no_string(0);
+    // Field by field, as in descriptor: a method of the numbers that gives all but the strings is as fast, but takes 10 lines more and a definition.
     Described {
         sql_type: numbers.sql_type,
         raw_length: numbers.raw_length,

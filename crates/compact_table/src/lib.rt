@@ -7,6 +7,7 @@ ghost use Rattle.compact_table.specs.Bytes.{Computes, at_byte, in_eight, found_b
 ghost use Rattle.search.specs.Walks.{first};
 ghost use Rattle.compact_table.specs.Table.{in_bounds, ff_at, looks_compact, next_compact, is_count, table_from, no_table, table_of, Ended};
 
+use column::Sqldagrp;
 use field::ByteOrder;
 
 // Where the first descriptor stands, and how many the table declares. A run of names has two such numbers, but its count is of what was found.
@@ -16,28 +17,28 @@ pub struct Table {
     pub count: usize,
 }
 
-fn in_bounds(sql_type: u16, precision: u16, scale: u16, raw_length: u64) -> bool
-    ensures { result ≡ in_bounds sql_type precision scale raw_length }
+fn in_bounds(numbers: Sqldagrp) -> bool
+    ensures { result ≡ in_bounds numbers.sql_type numbers.precision numbers.scale numbers.raw_length }
 {
+    let sql_type = numbers.sql_type;
+    let raw_length = numbers.raw_length;
     let lob = matches!(sql_type - sql_type % 2, 404 | 408 | 412 | 988);
-    (precision % 256 <= 63)
-        & ((scale % 256 <= 63) & ((raw_length <= 65536) | (lob & (raw_length <= 0x7FFF_FFFF))))
+    (numbers.precision <= 63)
+        & ((numbers.scale <= 63) & ((raw_length <= 65536) | (lob & (raw_length <= 0x7FFF_FFFF))))
 }
 
-// The tests that most positions fail come first; the search for the type comes last.
+// The tests that most positions fail come first; the search for the type comes last. The reader is inlined, and only the type is read before the
+// first test: the compiled code is the same as where each number is read by hand.
 #[tactic(auto, unfolding(crate::specs::Table::looks_compact))]
 fn looks_like_start_within(reply: &[u8], offset: usize) -> bool
     requires { offset + 16 ≤ length reply.now }
     ensures { result ≡ looks_compact reply.now offset }
 {
-    let sql_type = field::u16_at(reply, offset + 12, ByteOrder::LittleEndian);
-    if !(384..=2437).contains(&sql_type) {
+    let numbers = column::read_sqldagrp(reply, offset, ByteOrder::LittleEndian);
+    if !(384..=2437).contains(&numbers.sql_type) {
         return false;
     }
-    let precision = field::u16_at(reply, offset, ByteOrder::LittleEndian);
-    let scale = field::u16_at(reply, offset + 2, ByteOrder::LittleEndian);
-    let raw_length = field::u64_at(reply, offset + 4, ByteOrder::LittleEndian);
-    in_bounds(sql_type, precision, scale, raw_length) && sqlda::is_known_sql_type(sql_type)
+    in_bounds(numbers) && sqlda::is_known_sql_type(numbers.sql_type)
 }
 
 #[tactic(auto, unfolding(crate::specs::Table::looks_compact))]
@@ -182,6 +183,7 @@ pub fn find_compact_descriptor_table(reply: &[u8]) -> Option<Table>
     ensures bounds { IfSome result (λ table. (table.start ≤ length reply.now) × ((1 ≤ table.count) × (table.count ≤ 512))) }
 {
     let mut more = true;
+    // No `find_map`: its closure would need four clauses, as `more` speaks of the offset that comes next, and laws about the calls before it.
     for offset in 0..reply.len().saturating_sub(17) {
         if let Some(table) = table_here(reply, offset, &mut more) {
             return Some(table);

@@ -264,6 +264,7 @@ pub fn read_descriptor(reply: &[u8], offset: usize, order: ByteOrder) -> Describ
 {
     let numbers = column::read_sqldagrp(reply, offset, order);
     let options = read_sqldoptgrp(reply, offset + 16).unwrap();
+    // Field by field, as in compact: a method of the numbers that gives all but the strings is as fast, but takes 10 lines more and a definition.
     Described {
         sql_type: numbers.sql_type,
         raw_length: numbers.raw_length,

@@ -4,4 +4,4 @@ use Rattle.compact_table.proofs.Laws.{looks_outside}
 use Rattle.compact_table.proofs.looks_like_start_within.Goals as goal
 
 pub returns-then-not-contains : goal.returns-then-not-contains
-returns-then-not-contains c = looks_outside _ _ _ c.requires c.u16_at-sql_type.ensures (search rules)
+returns-then-not-contains c = looks_outside _ _ c.read_sqldagrp-numbers.result.sql_type c.requires (search rules) (search rules)
