@@ -38,7 +38,8 @@ impl<'a> Iterator for Source<'a> {
 
 // So many names are to be taken from their source. The next one behind them isn't looked for. The count is a field: a method of that name is not
 // called where the iterator's own `count` takes the plan by value, and that one goes through all names.
-// No `source.take(count)` by who writes them: it was tried, and is longer. Each of the two proves by itself there what `names_of_plan` says here once.
+// No `source.take(count)` by who writes them: it was tried, and is longer. Each of the two proves by itself there what `names_of_plan` says here
+// once.
 #[derive(Clone, Copy, Debug, PartialEq, Eq)]
 pub struct Plan<'a> {
     source: Source<'a>,
@@ -106,18 +107,8 @@ pub fn decide(reply: &[u8], room: usize) -> Result<Plan<'_>, Refusal>
     Ok(plan)
 }
 
-// Writes a plan's names. By places: after a `zip` with the list's `iter_mut` a proof knows nothing of what the list holds (tried).
-fn fill_names(plan: Plan<'_>, names: &mut [Text])
-    requires { length (names_of_plan plan) ≤ length names.old }
-    ensures { names.new ≡ over (names_of_plan plan.entry) names.old }
-{
-    for (i, text) in plan.enumerate() {
-        names[i] = text;
-    }
-}
-
-// The entry name scan: how many names were written. Nothing is written where it refuses. Into words it is `name_words`': the two differ in what they
-// write, and that is by places.
+// The entry name scan: how many names were written. Nothing is written where it refuses. Into words it is `name_words`', which writes a block of them
+// for each name.
 pub fn scan_column_names(reply: &[u8], names: &mut [Text]) -> Result<usize, Refusal>
     ensures refuses { refusal_in result ≡ (name_scan page037 (length names.old) reply.now).refusal }
     ensures counts { MatchResult result
@@ -126,6 +117,6 @@ pub fn scan_column_names(reply: &[u8], names: &mut [Text]) -> Result<usize, Refu
     ensures fills { names.new ≡ over (name_scan page037 (length names.old) reply.now).names names.old }
 {
     let plan = decide(reply, names.len())?;
-    fill_names(plan, names);
+    filling::fill(plan, names);
     Ok(plan.count)
 }

@@ -4,6 +4,8 @@
 
 ghost use Rattle.std.specs.Prelude.{◌≡◌, IfOk, ◌+◌, ◌≤◌, length};
 ghost use Rattle.codepage.specs.Page.{page037};
+ghost use Rattle.std.proofs.Props.{props};
+ghost use Rattle.strings.specs.Strings.{IsRead};
 ghost use Rattle.descriptor.specs.Reading.{count_at};
 ghost use Rattle.plan.specs.Choice.{last_count_at};
 ghost use Rattle.plan.specs.Decision.{Decides};
@@ -38,6 +40,7 @@ enum Attempt {
     Scan,
 }
 
+// In document 01's order.
 const ATTEMPTS: [Attempt; 4] = [
     Attempt::Standard(ByteOrder::BigEndian),
     Attempt::Compact,
@@ -58,12 +61,13 @@ impl Attempt {
     }
 }
 
-// A reply, and where the count of its columns stands: for the readings that begin there. No `strings::Walker`, whose place moves.
+// A reply, and where the count of its columns stands, or how long the reply should be: for the readings that begin there. No `strings::Walker`, whose
+// place moves.
 #[derive(Clone, Copy)]
 struct Reply<'a> {
     bytes: &'a [u8],
-    offset: usize,
-    ghost counted: { offset ≡ count_at bytes.now },
+    count_offset: Result<usize, usize>,
+    ghost counted: { IsRead bytes.now (count_at bytes.now) (λ offset. offset ≡ count_at bytes.now) count_offset } by { Prim.hlevel props },
 }
 
 impl Reply<'_> {
@@ -72,8 +76,9 @@ impl Reply<'_> {
     fn standard_plan(self, order: ByteOrder) -> Option<Plan>
         ensures { result ≡ with_columns (standard_plan page037 order self.entry.bytes.now) }
     {
-        let Reply { bytes, offset } = self;
-        if bytes.len().checked_sub(offset)? < 2 {
+        let bytes = self.bytes;
+        let offset = self.count_offset.ok()?;
+        if bytes.len() - offset < 2 {
             return None;
         }
         let limit = field::u16_at(bytes, offset, order);
@@ -94,36 +99,22 @@ impl Reply<'_> {
         })
     }
 
-    // A byte FF that was not counted with the groups before stands before the last reader's count.
-    #[tactic(auto, unfolding(crate::specs::Choice::last_count_at))]
-    fn last_count_offset(self) -> usize
-        requires { self.offset + 2 ≤ length self.bytes.now }
-        ensures { (result ≡ last_count_at self.entry.bytes.now) × (result + 2 ≤ length self.entry.bytes.now) }
-    {
-        let Reply { bytes, offset } = self;
-        let count = field::u16_at(bytes, offset, ByteOrder::LittleEndian);
-        if count > 256 && bytes.len() - offset >= 3 && bytes[offset] == 0xFF {
-            return offset + 1;
-        }
-        offset
-    }
-
     // The only reading that may be refused: it is asked where the four before gave no column. It has none itself where the count is missing.
     #[tactic(auto, using(crate::proofs::Plans::last_empty, crate::proofs::Plans::last_early, crate::proofs::Plans::last_none, crate::proofs::Plans::last_is))]
     fn last_plan(self) -> Result<Plan, Refusal>
         ensures { result ≡ last_plan page037 self.entry.bytes.now }
     {
-        let Reply { bytes, offset } = self;
+        let bytes = self.bytes;
         let size = bytes.len();
         if size == 0 {
             return Err(Refusal::EmptyReply);
         }
-        if size < offset {
-            return Err(Refusal::BufferTooShort {
-                expected: offset,
+        let offset = self
+            .count_offset
+            .map_err(|expected| Refusal::BufferTooShort {
+                expected,
                 actual: size,
-            });
-        }
+            })?;
         let layout = Layout::Compact(Ends::Last);
         if size - offset < 2 {
             return Ok(Plan {
@@ -134,9 +125,9 @@ impl Reply<'_> {
                 run: Run { count: 0, named: 0 },
             });
         }
-        let count_offset = self.last_count_offset();
-        let limit = field::u16_at(bytes, count_offset, ByteOrder::LittleEndian);
-        let start = count_offset + 2;
+        let offset = last_count_offset(bytes, offset);
+        let limit = field::u16_at(bytes, offset, ByteOrder::LittleEndian);
+        let start = offset + 2;
         let run = compact::compact_run(Ends::Last, bytes, limit as usize, start);
         Ok(Plan {
             layout,
@@ -146,6 +137,19 @@ impl Reply<'_> {
             run,
         })
     }
+}
+
+// A byte FF that was not counted with the groups before stands before the last reader's count.
+#[tactic(auto, unfolding(crate::specs::Choice::last_count_at))]
+fn last_count_offset(reply: &[u8], offset: usize) -> usize
+    requires { offset + 2 ≤ length reply.now }
+    ensures { (offset ≡ count_at reply.now → result ≡ last_count_at reply.now) × (result + 2 ≤ length reply.now) }
+{
+    let count = field::u16_at(reply, offset, ByteOrder::LittleEndian);
+    if count > 256 && reply.len() - offset >= 3 && reply[offset] == 0xFF {
+        return offset + 1;
+    }
+    offset
 }
 
 #[tactic(auto, using(crate::proofs::Plans::some_columns, crate::proofs::Plans::no_columns, crate::proofs::Plans::compact_none, crate::proofs::Plans::compact_is))]
@@ -180,18 +184,17 @@ fn scan_plan(reply: &[u8]) -> Option<Plan>
     })
 }
 
-// The first reading with a name that is not generated, else the first that has columns, else the last reader's. Its limit on the reply is asked here,
-// where a plan begins, and nowhere behind.
+// The first reading with a name that is not generated, else the first that has columns, else the last reader's. In one loop: a `find` for each would
+// read a reply twice. Its limit on the reply is asked here, where a plan begins, and nowhere behind.
 #[tactic(auto, using(crate::proofs::Choices::undecided_start, crate::proofs::Choices::last_wins, crate::proofs::Choices::result_counted))]
 pub fn plan_reply(reply: &[u8]) -> Result<Plan, Refusal>
     requires { length reply.now ≤ 65536 }
     ensures plans { result ≡ plan_of page037 reply.now }
     ensures counts { IfOk result (Counted page037 reply.now) }
 {
-    let (Ok(offset) | Err(offset)) = descriptor::count_offset(reply);
     let counted = Reply {
         bytes: reply,
-        offset,
+        count_offset: descriptor::count_offset(reply),
     };
     let mut unnamed = None;
     for attempt in ATTEMPTS {
@@ -224,7 +227,8 @@ fn card_by(reply: &[u8], alone: bool) -> SqlCard
 // Every refusal is decided here, before the list is written.
 #[tactic(auto, using(crate::proofs::Deciding::too_long, crate::proofs::Deciding::not_read, crate::proofs::Deciding::too_short))]
 pub fn decide(reply: &[u8], room: usize) -> Result<Decision<'_>, Refusal>
-    ensures { Decides room result (description page037 room reply.now) }
+    ensures of_reply { IfOk result (λ decision. decision.reply ≡ reply.entry) }
+    ensures decides { Decides room result (description page037 room reply.now) }
 {
     if reply.len() > 65536 {
         return Err(Refusal::ReplyTooLong);
@@ -240,7 +244,8 @@ pub fn decide(reply: &[u8], room: usize) -> Result<Decision<'_>, Refusal>
 
 #[tactic(auto, using(crate::proofs::Deciding::other_point, crate::proofs::Deciding::decides_own))]
 pub fn decide_at(code_point: u16, reply: &[u8], room: usize) -> Result<Decision<'_>, Refusal>
-    ensures { Decides room result (with_code_point page037 room code_point reply.now) }
+    ensures of_reply { IfOk result (λ decision. decision.reply ≡ reply.entry) }
+    ensures decides { Decides room result (with_code_point page037 room code_point reply.now) }
 {
     if code_point != SQLDARD {
         return Err(Refusal::UnexpectedCodePoint(code_point));

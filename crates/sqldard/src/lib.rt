@@ -12,16 +12,14 @@ use outcome::Refusal;
 use plan::{Decision, Sqldard};
 use types::ColumnMetadata;
 
-// Writes a decision's columns. By places: after a `zip` with the list's `iter_mut` a proof knows nothing of what the list holds (tried).
+// Writes a decision's columns, and answers their status and count.
 fn fill_columns(decision: Decision<'_>, columns: &mut [ColumnMetadata]) -> Sqldard
     requires { length (columns_decided decision) ≤ length columns.old }
     ensures gives { result.card ≡ decision.entry.card }
     ensures counts { result.count ≡ length (columns_decided decision.entry) }
     ensures fills { columns.new ≡ columns_decided decision.entry ++ drop (length (columns_decided decision.entry)) columns.old }
 {
-    for (i, column) in decision.columns().enumerate() {
-        columns[i] = column;
-    }
+    filling::fill(decision.columns(), columns);
     Sqldard {
         card: decision.card,
         count: decision.count(),

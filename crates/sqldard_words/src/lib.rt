@@ -9,6 +9,7 @@ ghost use Rattle.plan.specs.Decision.{columns_decided, Decides};
 ghost use Rattle.plan.specs.Description.{Description, description, with_code_point};
 ghost use Rattle.sqldard_words.specs.Given.{Gives};
 
+use column_words::WORDS_PER_COLUMN;
 use outcome::Refusal;
 use plan::{Decision, Sqldard};
 
@@ -20,7 +21,7 @@ fn fill_words(decision: Decision<'_>, words: &mut [u64]) -> Sqldard
     ensures fills { words.new ≡ over (all_words (columns_decided decision.entry)) words.old }
 {
     for (i, column) in decision.columns().enumerate() {
-        column_words::put_column_words(column, words, i * 22);
+        column_words::put_column_words(column, words, i * WORDS_PER_COLUMN);
     }
     Sqldard {
         card: decision.card,
@@ -43,16 +44,19 @@ pub fn parse_sqldard_data(reply: &[u8], columns: &mut [u64]) -> Result<Sqldard, 
     ensures gives { Gives result (description page037 (length columns.old / 22) reply.now) }
     ensures fills { columns.new ≡ over (all_words (description page037 (length columns.old / 22) reply.now).columns) columns.old }
 {
-    written(plan::decide(reply, columns.len() / 22), columns)
+    written(
+        plan::decide(reply, columns.len() / WORDS_PER_COLUMN),
+        columns,
+    )
 }
 
-// The same with the reply's code point, which must be SQLDARD's.
+// The same with the reply's code point, which must be SQLDARD's: an entry of its own of document 01, a line over `written`.
 pub fn parse_sqldard(code_point: u16, reply: &[u8], columns: &mut [u64]) -> Result<Sqldard, Refusal>
     ensures gives { Gives result (with_code_point page037 (length columns.old / 22) code_point reply.now) }
     ensures fills { columns.new ≡ over (all_words (with_code_point page037 (length columns.old / 22) code_point reply.now).columns) columns.old }
 {
     written(
-        plan::decide_at(code_point, reply, columns.len() / 22),
+        plan::decide_at(code_point, reply, columns.len() / WORDS_PER_COLUMN),
         columns,
     )
 }
