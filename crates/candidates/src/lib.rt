@@ -34,20 +34,16 @@ pub fn same_text(reply: &[u8], a: Text, b: Text) -> bool
 pub fn repeats(reply: &[u8], text: Text, other: Option<Text>) -> bool
     ensures { result ≡ repeats reply.now text other }
 {
-    match other {
-        Some(other) => same_text(reply, text, other),
-        None => false,
-    }
+    other.is_some_and(|other| same_text(reply, text, other))
 }
 
 // Whether a candidate repeats the last one kept, less than 8 bytes on.
 fn is_near_repeat(reply: &[u8], last: Option<Text>, text: Text) -> bool
     ensures { result ≡ is_near_repeat reply.now last text }
 {
-    match last {
-        Some(last) => text.place.saturating_sub(last.place) < 8 && same_text(reply, text, last),
-        None => false,
-    }
+    last.is_some_and(|last| {
+        text.place.saturating_sub(last.place) < 8 && same_text(reply, text, last)
+    })
 }
 
 // The candidate whose length stands at `offset`, if it is one and is kept. The offset moves at each call: a struct of it and the reply, which could
