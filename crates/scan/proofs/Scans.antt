@@ -21,7 +21,7 @@ use Rattle.field.specs.Numbers.{number}
 use Rattle.sqlda.specs.Types.{is_known}
 use Rattle.descriptor.specs.Nullable.{lenient}
 use Rattle.descriptor.proofs.Steps.{descriptor_end_unknown}
-use Rattle.scan.specs.InHand.{in_hand}
+use Rattle.scan.specs.Inside.{in_hand}
 use Rattle.scan.specs.Scan.{score, better, run_from, scan_order}
 
 pub keep_new : (x y : Best) (b : Bool) → b ≡ better y x → b ≡ true → y ≡ keep better x y

@@ -71,7 +71,7 @@ struct InHand {
 }
 
 impl InHand {
-    ghost use Rattle.scan.specs.InHand.{in_hand};
+    ghost use Rattle.scan.specs.Inside.{in_hand};
 
     // 0 where there is none.
     #[tactic(auto, unfolding(crate::specs::Scan::score))]

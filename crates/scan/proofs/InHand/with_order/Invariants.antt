@@ -2,7 +2,7 @@
 use Rattle.std.proofs.Common.{◌≡◌}
 use Rattle.search.specs.Walks.{best}
 use Rattle.codepage.specs.Page.{page037}
-use Rattle.scan.specs.InHand.{in_hand}
+use Rattle.scan.specs.Inside.{in_hand}
 use Rattle.scan.specs.Scan.{better, run_from, scan_order}
 use Rattle.scan.proofs.InHand.with_order.Given as goal
 

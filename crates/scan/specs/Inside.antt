@@ -1,4 +1,4 @@
--- The best run so far, if there is one (01, Choice).
+-- What functions of this crate promise each other of the best run so far (01, Choice).
 use Rattle.std.specs.Prelude.{Option, Some, None}
 use Rattle.scan.specs.declared.Best.{Best}
 use Rattle.scan.specs.declared.Found.{Found}
