@@ -19,7 +19,8 @@ fn bytes_of(reply: &[u8], text: Text) -> &[u8]
     rest.get(..text.length).unwrap_or(rest)
 }
 
-// Whether two texts of ASCII are equal.
+// Whether two texts of ASCII are equal. Here and in the next two the reply stands beside its texts: a text is a place in it, and who compares
+// holds both.
 #[tactic(auto, unfolding(crate::specs::Candidates::same_text))]
 #[inline(always)]
 pub fn same_text(reply: &[u8], a: Text, b: Text) -> bool
@@ -33,23 +34,20 @@ pub fn same_text(reply: &[u8], a: Text, b: Text) -> bool
 pub fn repeats(reply: &[u8], text: Text, other: Option<Text>) -> bool
     ensures { result ≡ repeats reply.now text other }
 {
-    match other {
-        Some(other) => same_text(reply, text, other),
-        None => false,
-    }
+    other.is_some_and(|other| same_text(reply, text, other))
 }
 
 // Whether a candidate repeats the last one kept, less than 8 bytes on.
 fn is_near_repeat(reply: &[u8], last: Option<Text>, text: Text) -> bool
     ensures { result ≡ is_near_repeat reply.now last text }
 {
-    match last {
-        Some(last) => text.place.saturating_sub(last.place) < 8 && same_text(reply, text, last),
-        None => false,
-    }
+    last.is_some_and(|last| {
+        text.place.saturating_sub(last.place) < 8 && same_text(reply, text, last)
+    })
 }
 
-// The candidate whose length stands at `offset`, if it is one and is kept.
+// The candidate whose length stands at `offset`, if it is one and is kept. The offset moves at each call: a struct of it and the reply, which could
+// hold that two bytes stand there, would be made anew for each.
 #[tactic(auto, unfolding(crate::specs::Candidates::kept_at, crate::specs::Candidates::is_kept, crate::specs::Candidates::is_candidate), using(std::proofs::Common::tests))]
 fn kept_at(reply: &[u8], last: Option<Text>, offset: usize) -> Option<Text>
     requires { offset + 2 ≤ length reply.now }
@@ -146,6 +144,7 @@ impl<'a> View<'a> {
         ensures same_reply { reply_of result ≡ reply.now }
     {
         let mut rest = Candidates::of(reply);
+        // No `array::from_fn`: std's tells what each call gave, but not where the last one left `rest`, and what follows the five stays unproved.
         let texts = [
             rest.next(),
             rest.next(),

@@ -80,6 +80,8 @@ fn name_here(reply: &[u8], end: usize, offset: usize, stop: &mut usize) -> bool
     }
 }
 
+// A `for`, and no `find`: `stop` goes on with the place, and what one turn found out spares the next the test. Reply and end are two: each
+// descriptor has another end, and a struct of both would be made for each.
 #[tactic(auto, using(crate::proofs::Stops::stops_first, crate::proofs::Laws::name_found, crate::proofs::Laws::name_none, search::proofs::Index::first_more, search::proofs::Index::first_found, search::proofs::Index::first_done), unfolding(crate::specs::Compact::name_at))]
 fn extract_column_name(reply: &[u8], offset: usize, end: usize) -> StringRead
     requires { (offset + 16 ≤ end) × (end ≤ length reply.now) }

@@ -12,13 +12,15 @@ use field::ByteOrder;
 use strings::StringRead;
 use text::Text;
 
-// The name in a layout, and what is past the layout. `descriptor::Step` has these fields too: the layout is of a known type there, and its name may be any.
+// The name in a layout, and what is past the layout. `descriptor::Step` has these fields too: the layout is of a known type there, and its name may
+// be any.
 #[derive(Clone, Copy, Debug, PartialEq, Eq)]
 pub struct ScannedName {
     pub name: StringRead,
     pub next: usize,
 }
 
+// By its place, and no `get`: that it lies in the reply is what those who read it promise, as `strings::read_string`.
 #[tactic(auto, using(identifier::proofs::Identifiers::identifier_at, text::proofs::Decode::lent))]
 fn is_name_string(reply: &[u8], string: StringRead) -> bool
     requires { Inside reply.now string }
@@ -90,7 +92,8 @@ fn name_run_from(reply: &[u8], start: usize) -> NameRun
     NameRun { start, count: 512 }
 }
 
-// Only a longer run replaces.
+// Only a longer run replaces. A line with a promise of its own, called once, and no `Ord` on runs: by counts alone, runs that start elsewhere would
+// be equal.
 #[tactic(auto, unfolding(search::specs::Walks::keep))]
 fn longer_of(best: NameRun, run: NameRun) -> NameRun
     ensures { result ≡ keep longer best run }

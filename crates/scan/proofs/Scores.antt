@@ -9,8 +9,9 @@ use lib.Signed.{mag, lt_z}
 use mir.Syntax.{w64}
 use mir.Val.{SFits, to_z, of_z}
 use mir.Facts.{to_z-of_z, to_z_pos}
-use borrow.Author.Tests.{lt-ltb, le-ltb, ltb-true, ltb-false}
+use borrow.Author.Tests.{lt-ltb, le-ltb, le-leb, ltb-true, ltb-false}
 use Rattle.column.specs.declared.Run.{Run}
+use Rattle.scan.specs.Score.{exact_score}
 use Rattle.scan.specs.Scan.{score}
 
 -- ---- the machine's difference
@@ -50,6 +51,11 @@ pub back64 : (z : ℤ) → mag z < 0x8000_0000_0000_0000 → to_z w64 (of_z w64 
 back64 z h = to_z-of_z {w = w64} {z = z} (record { sfits = h })
 
 -- ---- the score
+
+-- of a run that counts
+pub score_counted : (r : Run) → 2 ≤ r.count → 1 ≤ r.named → exact_score r.named r.count (r.count - r.named) ≡ score r
+unfolding score
+score_counted r h k = rw (le-leb 2 r.count h, le-leb 1 r.named k) refl
 
 -- a and b are the machine's scores of x and y
 pub better_is : (x y : Run) (a b : ℤ) → mag a < 0x8000_0000_0000_0000 → mag b < 0x8000_0000_0000_0000 → a ≡ score x → b ≡ score y
