@@ -2,11 +2,10 @@
 // that no reply needs to hold.
 use crate::instead::Instead;
 use crate::payload::Payload;
+use column_words::WORDS_PER_COLUMN;
 
-// The bytes of a record, and the words of a column.
+// The bytes of a record.
 const RECORD: usize = 50;
-
-const COLUMN: usize = 22;
 
 // What the type with this code takes of a value: nothing where it has none, the low 8 bits for DecFloat.
 fn value_taken(code: u8, value: u16) -> u64 {
@@ -62,11 +61,11 @@ pub(crate) fn fill_records<'a>(
     if bytes.len() % RECORD != 0 {
         return Err(Instead::Bad);
     }
-    let end = bytes.len() / RECORD * COLUMN;
+    let end = bytes.len() / RECORD * WORDS_PER_COLUMN;
     let (columns, rest) = words.split_at_mut_checked(end).ok_or(Instead::Bad)?;
     for (record, column) in bytes
         .chunks_exact(RECORD)
-        .zip(columns.chunks_exact_mut(COLUMN))
+        .zip(columns.chunks_exact_mut(WORDS_PER_COLUMN))
     {
         fill_record(record, column)?;
     }

@@ -21,7 +21,7 @@ impl fmt::Display for HexIfAny<'_> {
     }
 }
 
-// `place/length`.
+// `place/length`, as it is printed: of a message or a name's part, where `Place` has an alphabet too.
 #[derive(Clone, Copy)]
 pub(crate) struct Span {
     pub place: usize,
