@@ -43,9 +43,7 @@ fn number_words(record: &mut Payload) -> Result<[u64; 10], Instead> {
 fn fill_record(record: &[u8], words: &mut [u64]) -> Result<(), Instead> {
     let mut record = Payload::new(record);
     let (numbers, texts) = words.split_at_mut_checked(10).ok_or(Instead::Bad)?;
-    for (word, number) in numbers.iter_mut().zip(number_words(&mut record)?) {
-        *word = number;
-    }
+    numbers.copy_from_slice(&number_words(&mut record)?);
     for words in texts.chunks_exact_mut(3) {
         let text = text_words(&mut record)?;
         words.copy_from_slice(&text);
@@ -53,6 +51,7 @@ fn fill_record(record: &[u8], words: &mut [u64]) -> Result<(), Instead> {
     Ok(())
 }
 
+// Bytes and words one by one: what is read and what is written, and nothing keeps both.
 // The records' words at the front of `words`, and the words behind them, where the bytes are those of records.
 pub(crate) fn fill_records<'a>(
     bytes: &[u8],
