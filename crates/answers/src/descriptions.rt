@@ -3,16 +3,11 @@ use crate::cards::Status;
 use crate::cases::Print;
 use crate::column_list;
 use crate::instead::{Instead, accepted};
-use crate::lent::{Lent, MARKED_WORD, marked, untouched};
+use crate::lent::{Lent, MARKED_WORD, RECORDS, WORDS, marked, untouched};
 use crate::payload::Payload;
 use column_words::WORDS_PER_COLUMN;
 use entries::SqldardResult;
 use std::io::Write;
-
-// The records that are lent at most, and their words.
-const RECORDS: u16 = 4096;
-
-const WORDS: usize = 90_112;
 
 // `OK n=COUNT`, then the status and the columns, or the places of their texts.
 fn put_described(

@@ -1,28 +1,34 @@
 // What is lent to the entries. It is marked beforehand, so that it is seen where more was written than the answer.
 use crate::instead::Instead;
+use column_words::WORDS_PER_COLUMN;
 use std::alloc::{AllocError, Global};
 
 pub(crate) const MARK: u8 = 0xAA;
 
 pub(crate) const MARKED_WORD: u64 = 0xAAAA_AAAA_AAAA_AAAA;
 
+// The records that are lent for a description at most, and their words.
+pub(crate) const RECORDS: u16 = 4096;
+
+pub(crate) const WORDS: usize = 4096 * WORDS_PER_COLUMN;
+
 #[derive(Drop)]
 pub(crate) struct Lent {
     // What M and T lend, and where a text is written to be printed.
     pub text: Vec<u8>,
-    // 8,400 columns of 22 words: as many records as a payload can hold, and more than the 4,096 columns of each of two replies.
+    // 8,400 columns: as many records as a payload can hold, and more than are lent for each of two replies.
     pub words: Vec<u64>,
 }
 
 impl Lent {
     pub(crate) fn new(alloc: Global) -> Result<Self, AllocError> {
         let text = vec![in alloc; 0u8; 65_536]?;
-        let words = vec![in alloc; 0u64; 184_800]?;
+        let words = vec![in alloc; 0u64; 8400 * WORDS_PER_COLUMN]?;
         Ok(Lent { text, words })
     }
 }
 
-// The first `count` elements of what is lent, marked.
+// The first `count` elements of what is lent, marked. Two calls of std's, and no type: what is marked is lent to an entry at once.
 pub(crate) fn marked<T: Copy>(lent: &mut [T], count: usize, mark: T) -> Result<&mut [T], Instead>
     requires { T.is_infallible mark }
 {

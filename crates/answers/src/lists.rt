@@ -1,14 +1,12 @@
 // The entries that ask of lists of columns: C and W of described replies, Q and R of records in the payload.
 use crate::instead::{Instead, put_ok};
-use crate::lent::Lent;
+use crate::lent::{Lent, WORDS};
 use crate::payload::Payload;
 use crate::records::fill_records;
+use column_words::WORDS_PER_COLUMN;
 use std::io::Write;
 
-// The words of the 4,096 records that are lent for a description.
-const WORDS: usize = 90_112;
-
-// How a payload holds lists.
+// How a payload holds lists: replies and records are laid out differently, and have nothing else in common.
 pub(crate) trait Lists {
     // The bytes of each of two lists.
     fn two(payload: &[u8]) -> Result<(&[u8], &[u8]), Instead>;
@@ -37,7 +35,7 @@ impl Lists for Replies {
     ) -> Result<(&'a [u64], &'a mut [u64]), Instead> {
         let columns = words.get_mut(..WORDS).ok_or(Instead::Bad)?;
         let count = entries::description::parse_sqldard_data(bytes, columns).count;
-        let end = count.checked_mul(22).ok_or(Instead::Bad)?;
+        let end = count.checked_mul(WORDS_PER_COLUMN).ok_or(Instead::Bad)?;
         let (columns, rest) = words.split_at_mut_checked(end).ok_or(Instead::Bad)?;
         Ok((columns, rest))
     }

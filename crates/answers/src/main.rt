@@ -96,8 +96,7 @@ fn main(rt: HostRuntime) -> io::Result<()> {
     let alloc = rt.alloc();
     let mut input = BufReader::new(alloc, rt.reader())?;
     let mut out = BufWriter::new(alloc, io::writer(&rt))?;
-    // The longest payload that is taken.
-    let mut room = vec![in alloc; 0u8; 420_000]?;
+    let mut room = vec![in alloc; 0u8; cases::LONGEST]?;
     let mut lent = Lent::new(alloc)?;
     put_all(&mut input, &mut out, &mut room, &mut lent)
 }

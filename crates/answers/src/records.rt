@@ -2,11 +2,10 @@
 // that no reply needs to hold.
 use crate::instead::Instead;
 use crate::payload::Payload;
+use column_words::WORDS_PER_COLUMN;
 
-// The bytes of a record, and the words of a column.
+// The bytes of a record.
 const RECORD: usize = 50;
-
-const COLUMN: usize = 22;
 
 // What the type with this code takes of a value: nothing where it has none, the low 8 bits for DecFloat.
 fn value_taken(code: u8, value: u16) -> u64 {
@@ -44,9 +43,7 @@ fn number_words(record: &mut Payload) -> Result<[u64; 10], Instead> {
 fn fill_record(record: &[u8], words: &mut [u64]) -> Result<(), Instead> {
     let mut record = Payload::new(record);
     let (numbers, texts) = words.split_at_mut_checked(10).ok_or(Instead::Bad)?;
-    for (word, number) in numbers.iter_mut().zip(number_words(&mut record)?) {
-        *word = number;
-    }
+    numbers.copy_from_slice(&number_words(&mut record)?);
     for words in texts.chunks_exact_mut(3) {
         let text = text_words(&mut record)?;
         words.copy_from_slice(&text);
@@ -54,6 +51,7 @@ fn fill_record(record: &[u8], words: &mut [u64]) -> Result<(), Instead> {
     Ok(())
 }
 
+// Bytes and words one by one: what is read and what is written, and nothing keeps both.
 // The records' words at the front of `words`, and the words behind them, where the bytes are those of records.
 pub(crate) fn fill_records<'a>(
     bytes: &[u8],
@@ -62,11 +60,11 @@ pub(crate) fn fill_records<'a>(
     if bytes.len() % RECORD != 0 {
         return Err(Instead::Bad);
     }
-    let end = bytes.len() / RECORD * COLUMN;
+    let end = bytes.len() / RECORD * WORDS_PER_COLUMN;
     let (columns, rest) = words.split_at_mut_checked(end).ok_or(Instead::Bad)?;
     for (record, column) in bytes
         .chunks_exact(RECORD)
-        .zip(columns.chunks_exact_mut(COLUMN))
+        .zip(columns.chunks_exact_mut(WORDS_PER_COLUMN))
     {
         fill_record(record, column)?;
     }

@@ -21,7 +21,7 @@ impl fmt::Display for HexIfAny<'_> {
     }
 }
 
-// `place/length`.
+// `place/length`: compact_table's `Table` and others are two numbers too, of other meanings.
 #[derive(Clone, Copy)]
 pub(crate) struct Span {
     pub place: usize,
@@ -58,7 +58,8 @@ fn written(answer: CountResult, room: &[u8]) -> HexIfAny<'_> {
     HexIfAny(room.get(..answer.count))
 }
 
-// A text's characters. `number` is its column's, for a generated name; `room` is for the text.
+// A text's characters. `number` is its column's, for a generated name; `room` is for the text. Reply and room one by one: of a struct that lends the
+// room on, as a method would, the prover's borrow checker says that it does not cover it.
 pub(crate) fn characters<'a>(
     reply: &[u8],
     number: u16,

@@ -25,8 +25,7 @@ fn main(rt: HostRuntime) -> io::Result<()> {
     let alloc = rt.alloc();
     // Room for a reply, and one byte more, so that a longer one is told.
     let mut room = vec![in alloc; 0u8; 65_537]?;
-    // 4,096 columns of 22 words.
-    let mut words = vec![in alloc; 0u64; 90_112]?;
+    let mut words = vec![in alloc; 0u64; 4096 * WORDS_PER_COLUMN]?;
     let Ok(reply) = input::fill(&mut rt.reader(), &mut room) else {
         // Nothing goes to standard output then: what came is not the reply.
         return eprintln!(rt; "describe: a read of the reply failed");
