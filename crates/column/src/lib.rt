@@ -70,7 +70,7 @@ pub fn is_named(name: &[u8]) -> bool
     !name.is_empty() && !generated::is_generated_string(name)
 }
 
-// Of a name in the reply.
+// The same of a name in the reply: runs of descriptors hold its place.
 #[tactic(auto, using(crate::proofs::Names::named_at))]
 pub fn is_named_at(reply: &[u8], name: StringRead) -> bool
     requires { name.place + name.length ≤ length reply.now }

@@ -174,7 +174,7 @@ pub fn compact_end(ends: Ends, left: usize, reply: &[u8], offset: usize) -> usiz
     }
 }
 
-// A step of a run: the descriptor at a position, with `left` more to come.
+// A step of a run: the descriptor at a position, with `left` more to come. None where fewer than 16 bytes are left, or are its own.
 #[tactic(auto, using(crate::proofs::Names::name_inside, crate::proofs::Runs::step_short, crate::proofs::Runs::step_some))]
 #[inline(always)]
 fn compact_step(ends: Ends, left: usize, reply: &[u8], offset: usize) -> Option<Made>
