@@ -70,13 +70,13 @@ pub fn is_named(name: &[u8]) -> bool
     !name.is_empty() && !generated::is_generated_string(name)
 }
 
-// 1 for such a name, else 0: runs of descriptors count with it, and hold a place in the reply.
+// The same of a name in the reply: runs of descriptors hold its place.
 #[tactic(auto, using(crate::proofs::Names::named_at))]
-pub fn one_if_named(reply: &[u8], name: StringRead) -> usize
+pub fn is_named_at(reply: &[u8], name: StringRead) -> bool
     requires { name.place + name.length ≤ length reply.now }
-    ensures { (result ≡ pick (not (is_generated_text page037 reply.now (name_text page037 reply.now name))) 1 0) × (result ≤ 1) }
+    ensures { result ≡ not (is_generated_text page037 reply.now (name_text page037 reply.now name)) }
 {
-    usize::from(is_named(&reply[name.place..name.place + name.length]))
+    is_named(&reply[name.place..name.place + name.length])
 }
 
 // By its place, here and for names: a text is a place in the reply.

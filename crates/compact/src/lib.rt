@@ -1,18 +1,20 @@
 // Descriptors of the compact reading and of the last reader: 16 bytes of little-endian numbers, and a name somewhere after them.
 #![tactic(auto)]
 
-ghost use Rattle.std.specs.Prelude.{◌≡◌, ◌+◌, ◌<◌, ◌≤◌};
+ghost use Rattle.std.specs.Prelude.{◌≡◌, ◌+◌, ◌<◌, ◌≤◌, IfSome};
 ghost use lib.ListN.{length};
 ghost use Rattle.codepage.specs.Page.{page037};
 ghost use Rattle.field.specs.declared.ByteOrder.TheVariants.{BigEndian, LittleEndian};
 ghost use Rattle.field.specs.Numbers.{number};
 ghost use Rattle.text.specs.Chars.{is_name_char};
 ghost use Rattle.column.specs.Column.{StringsInside};
-ghost use Rattle.compact.specs.Compact.{ccsid_of, name_here, Stops, compact_name, compact_at, compact_end, ffs_here, last_end, end_by, compact_run};
+ghost use Rattle.walks.specs.Steps.{Takes, named_walk};
+ghost use Rattle.compact.specs.Compact.{ccsid_of, name_here, Stops, compact_name, compact_at, compact_end, ffs_here, last_end, end_by, compact_walk, compact_run};
 
 use column::{Described, Run};
 use field::ByteOrder;
 use strings::StringRead;
+use walks::Made;
 
 // Where a descriptor ends: before the next compact one, or past FF FF FF as for the last reader. An enum and no trait, as it is a value in the
 // definitions of the two walks and in who plans them: a type parameter would only turn up again there.
@@ -175,32 +177,37 @@ pub fn compact_end(ends: Ends, left: usize, reply: &[u8], offset: usize) -> usiz
     }
 }
 
+// A step of a run: the descriptor at a position, with `left` more to come. None where fewer than 16 bytes are left, or are its own.
+#[tactic(auto, using(crate::proofs::Names::name_inside, crate::proofs::Runs::step_short, crate::proofs::Runs::step_some))]
+#[inline(always)]
+fn compact_step(ends: Ends, left: usize, reply: &[u8], offset: usize) -> Option<Made>
+    requires { offset ≤ length reply.now }
+    ensures at { Takes (named_walk page037 reply.now (compact_walk page037 ends reply.now)) left offset result }
+    ensures inside { IfSome result (λ made. made.next ≤ length reply.now) }
+{
+    if reply.len() - offset < 16 {
+        return None;
+    }
+    let end = compact_end(ends, left, reply, offset);
+    if end < offset + 16 {
+        return None;
+    }
+    let name = extract_column_name(reply, offset, end);
+    Some(Made {
+        named: column::is_named_at(reply, name),
+        next: end,
+    })
+}
+
 // At most `count` descriptors from a position on: how many there are, and how many have names.
-#[tactic(auto, using(crate::proofs::Names::name_inside, search::proofs::Walks::walking_none))]
 pub fn compact_run(ends: Ends, reply: &[u8], count: usize, offset: usize) -> Run
     requires { offset ≤ length reply.now }
     ensures value { result ≡ compact_run page037 ends reply.now count offset }
     ensures named_le_count { (result.named ≤ result.count) × (result.count ≤ count) }
 {
-    let mut start = offset;
-    let mut named = 0;
-    for index in 0..count {
-        if reply.len() - start < 16 {
-            return Run {
-                count: index,
-                named,
-            };
-        }
-        let end = compact_end(ends, count - (index + 1), reply, start);
-        if end < start + 16 {
-            return Run {
-                count: index,
-                named,
-            };
-        }
-        let name = extract_column_name(reply, start, end);
-        named += column::one_if_named(reply, name);
-        start = end;
-    }
-    Run { count, named }
+    walks::count_steps(
+        count,
+        offset,
+        |left, start| compact_step(ends, left, reply, start),
+    )
 }

@@ -5,7 +5,7 @@
 // each group, though some have the same types: the names of their fields are those of the document.
 #![tactic(auto)]
 
-ghost use Rattle.std.specs.Prelude.{◌≡◌, true, not, ◌+◌, ◌≤◌, ◌<◌, length, MatchResult};
+ghost use Rattle.std.specs.Prelude.{◌≡◌, ℕ, true, not, ◌+◌, ◌≤◌, ◌<◌, length, MatchResult, IfSome};
 ghost use Rattle.codepage.specs.Page.{page037};
 ghost use Rattle.search.specs.Search.{pick};
 ghost use Rattle.column.specs.Column.{name_text, StringsInside};
@@ -14,12 +14,14 @@ ghost use Rattle.descriptor.specs.Nullable.{lenient, nullable_end, group_start};
 ghost use Rattle.descriptor.specs.Descriptor.{udt_end, dx_end, opt_end, descriptor_end, described_at};
 ghost use Rattle.descriptor.specs.Groups.{sqldxgrp_at, sqldoptgrp_at, step_of, step_at, AllEmpty, LabelAt, NamesAt};
 ghost use Rattle.descriptor.specs.Reading.{count_at};
-ghost use Rattle.descriptor.specs.Run.{standard_run};
+ghost use Rattle.descriptor.specs.Run.{standard_walk, standard_run};
+ghost use Rattle.walks.specs.Steps.{Takes, named_walk};
 ghost use Rattle.strings.specs.Strings.{IsRead, strings_end};
 
 use column::{Described, Run};
 use field::ByteOrder;
 use strings::StringRead;
+use walks::Made;
 
 // Where what a nullable group holds starts, behind its flag. As an error what is past the group, if its flag is FF, or is missing at the reply's end.
 #[tactic(auto, unfolding(crate::specs::Nullable::group_start))]
@@ -295,14 +297,31 @@ pub fn count_offset(reply: &[u8]) -> Result<usize, usize>
 // As column's, without its call where the name has no bytes: a run of columns without names takes 0.82 times the instructions.
 #[tactic(auto, using(crate::proofs::Runs::unnamed))]
 #[inline(always)]
-fn one_if_named(reply: &[u8], name: StringRead) -> usize
+fn is_named(reply: &[u8], name: StringRead) -> bool
     requires { name.place + name.length ≤ length reply.now }
-    ensures { (result ≡ pick (not (is_generated_text page037 reply.now (name_text page037 reply.now name))) 1 0) × (result ≤ 1) }
+    ensures { result ≡ not (is_generated_text page037 reply.now (name_text page037 reply.now name)) }
 {
     if name.length == 0 {
-        return 0;
+        return false;
     }
-    column::one_if_named(reply, name)
+    column::is_named_at(reply, name)
+}
+
+// A step of a run.
+#[tactic(auto, using(crate::proofs::Runs::step_none, crate::proofs::Runs::step_end, crate::proofs::Runs::step_named))]
+#[inline(always)]
+fn standard_step(reply: &[u8], order: ByteOrder, offset: usize) -> Option<Made>
+    requires { offset ≤ length reply.now }
+    ensures at { (left : ℕ) → Takes (named_walk page037 reply.now (standard_walk page037 order reply.now)) left offset result }
+    ensures inside { IfSome result (λ made. made.next ≤ length reply.now) }
+{
+    let Ok(step) = descriptor_step(reply, offset, order) else {
+        return None;
+    };
+    Some(Made {
+        named: is_named(reply, step.name),
+        next: step.next,
+    })
 }
 
 // At most `limit` descriptors from `start` on, as many as can be read, by their places alone.
@@ -310,17 +329,9 @@ pub fn standard_run(reply: &[u8], order: ByteOrder, limit: usize, start: usize) 
     requires { start ≤ length reply.now }
     ensures { (result ≡ standard_run page037 order reply.now limit start) × ((result.named ≤ result.count) × (result.count ≤ limit)) }
 {
-    let mut offset = start;
-    let mut named = 0;
-    for count in 0..limit {
-        let Ok(step) = descriptor_step(reply, offset, order) else {
-            return Run { count, named };
-        };
-        named += one_if_named(reply, step.name);
-        offset = step.next;
-    }
-    Run {
-        count: limit,
-        named,
-    }
+    walks::count_steps(
+        limit,
+        start,
+        |_left, offset| standard_step(reply, order, offset),
+    )
 }

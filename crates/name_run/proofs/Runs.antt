@@ -1,24 +1,24 @@
 -- Runs of layouts with names: where there is none, the first longest of them, and that a run's names are as many as it counts.
 use Prim.Native.Nat.{ℕ, ◌+◌, ◌-◌, ◌≤◌, ◌<◌}
 use native.Mathlib.Omega.{arith}
-use mathlib.Core.Path.{◌≡◌, refl, sym, ap, subst}
+use mathlib.Core.Path.{◌≡◌, refl, sym, ap, ◌∙◌}
 use mathlib.Core.List.{List}
 use mathlib.Core.Bool.{Bool, true, false}
 use lib.Dec.{leb}
 use lib.ListN.{length, get_or}
 use borrow.Author.Tests.{le-ltb, leb-false}
 use Rattle.search.specs.Search.{pick}
-use Rattle.search.specs.Walks.{keep, chain, best}
+use Rattle.search.specs.Walks.{keep, chain, best, tested}
 use Rattle.search.proofs.Best.{best_more, best_done, best_all}
-use Rattle.search.proofs.Walks.{chain_le}
+use Rattle.search.proofs.Walks.{chain_le, tested_counts}
 use Rattle.codepage.specs.Page.{Page}
 use Rattle.field.specs.declared.ByteOrder.TheVariants.{BigEndian}
 use Rattle.field.specs.Numbers.{number}
 use Rattle.name_run.specs.declared.NameRun.{NameRun}
 use Rattle.name_run.specs.Run.{name_walk, name_run_from, longer, no_name_run, longest_name_run, names_of_run}
 use Rattle.name_run.specs.declared.ScannedName.{ScannedName}
-use Rattle.name_run.specs.Layout.{scanned_name_at}
-use Rattle.name_run.proofs.Layouts.{named_null, named_outside, names_none, names_more}
+use Rattle.name_run.specs.Layout.{name_in, is_named_layout, layout_end, scanned_name_at}
+use Rattle.name_run.proofs.Layouts.{named_null, named_outside, names_none}
 use Rattle.std.proofs.Common.{Some, None}
 
 -- ---- a start without a run
@@ -46,26 +46,31 @@ pub keep_empty : (x y : NameRun) → y.count ≡ 0 → keep longer x y ≡ x
 unfolding keep
 keep_empty x y e = rw (le-ltb x.count y.count (omega arith)) refl
 
--- ---- a run: i layouts are read, and the others come from p on
+-- ---- the walk from layout to layout
 
-module _ (page : Page) (s : List ℕ) (at i p : ℕ)
-    (w : i + length (chain (name_walk page s) (512 - i) 0 p) ≡ (name_run_from page s at).count) where
-  run_is : i ≡ (name_run_from page s at).count → record { start = at; count = i } ≡ name_run_from page s at
+module _ (page : Page) (s : List ℕ) where
+  pub step_none : (p : ℕ) → None ≡ scanned_name_at page s p → is_named_layout page s p (layout_end s p) ≡ false
+  unfolding scanned_name_at
+  step_none p e = go (is_named_layout page s p (layout_end s p)) refl
+    where
+      go : (b : Bool) → is_named_layout page s p (layout_end s p) ≡ b → is_named_layout page s p (layout_end s p) ≡ false
+      go true f = let z = rw f at e in absurd cc
+      go false f = f
+
+  pub step_some : (p : ℕ) (r : ScannedName) → Some r ≡ scanned_name_at page s p → (r.next ≡ layout_end s p) × (is_named_layout page s p r.next ≡ true)
+  unfolding scanned_name_at
+  step_some p r e = go (is_named_layout page s p (layout_end s p)) refl
+    where
+      go : (b : Bool) → is_named_layout page s p (layout_end s p) ≡ b → (r.next ≡ layout_end s p) × (is_named_layout page s p r.next ≡ true)
+      go true f =
+          let z = rw f at e in
+          let y : r ≡ record { name = name_in page s p; next = layout_end s p } = cc in
+          rw y (refl, f)
+      go false f = let z = rw f at e in absurd cc
+
+  pub run_is : (at n : ℕ) → n ≡ length (chain (tested (λ _. true) (name_walk page s)) 512 0 at) → record { start = at; count = n } ≡ name_run_from page s at
   unfolding name_run_from
-  run_is e = λ k. record { start = at; count = e k }
-
-  pub run_stop : None ≡ scanned_name_at page s p → record { start = at; count = i } ≡ name_run_from page s at
-  run_stop e = run_is (omega (arith, w, ap length (names_none page s (512 - i) p (sym e))))
-
-  pub run_done : 512 ≤ i → i ≤ 512 → record { start = at; count = 512 } ≡ name_run_from page s at
-  run_done h k =
-      let e : i ≡ 512 = omega arith in
-      subst (λ n. record { start = at; count = n } ≡ name_run_from page s at) e (run_is (omega (arith, w, chain_le (name_walk page s) (512 - i) 0 p)))
-
-  pub run_more : (r : ScannedName) → i < 512 → Some r ≡ scanned_name_at page s p
-      → i + 1 + length (chain (name_walk page s) (512 - (i + 1)) 0 r.next) ≡ (name_run_from page s at).count
-  run_more r h e =
-      omega (arith, w, ap length (names_more page s (512 - i) (512 - (i + 1)) p r (omega arith) (sym e)))
+  run_is at n e = λ k. record { start = at; count = (e ∙ (tested_counts (λ _. true) (name_walk page s) 512 0 at).0) k }
 
 -- ---- its names, read again, are as many as it counts
 

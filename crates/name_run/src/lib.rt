@@ -1,16 +1,18 @@
 // Names by runs of standard layouts of any type: only their strings are asked, so that an unknown SQLTYPE hides no name.
 #![tactic(auto)]
 
-ghost use Rattle.std.specs.Prelude.{◌≡◌, false, Some, None, All, IfSome, MatchOption, find, ◌+◌, ◌≤◌, length};
+ghost use Rattle.std.specs.Prelude.{◌≡◌, ℕ, true, false, Some, None, All, IfSome, MatchOption, find, ◌+◌, ◌≤◌, length};
 ghost use Rattle.std.specs.Iterator.{YieldsFirst, item_count};
-ghost use Rattle.search.specs.Walks.{keep};
+ghost use Rattle.search.specs.Walks.{keep, tested};
+ghost use Rattle.walks.specs.Steps.{Takes};
 ghost use Rattle.codepage.specs.Page.{page037};
 ghost use Rattle.name_run.specs.Layout.{Inside, is_name_string, scanned_name_at};
-ghost use Rattle.name_run.specs.Run.{name_run_from, longer, longest_name_run, names_of_run, names_left};
+ghost use Rattle.name_run.specs.Run.{name_walk, name_run_from, longer, longest_name_run, names_of_run, names_left};
 
 use field::ByteOrder;
 use strings::StringRead;
 use text::Text;
+use walks::Made;
 
 // The name in a layout, and what is past the layout. `descriptor::Step` has these fields too: the layout is of a known type there, and its name may
 // be any.
@@ -78,18 +80,29 @@ pub struct NameRun {
     pub count: usize,
 }
 
-#[tactic(auto, using(crate::proofs::Runs::run_stop, crate::proofs::Runs::run_more, crate::proofs::Runs::run_done), unfolding(crate::specs::Run::name_run_from))]
+// A step of a run: each has a name.
+#[tactic(auto, using(crate::proofs::Runs::step_none))]
+#[inline(always)]
+fn name_step(reply: &[u8], offset: usize) -> Option<Made>
+    ensures { (left : ℕ) → Takes (tested (λ _. true) (name_walk page037 reply.now)) left offset result }
+{
+    let Some(scanned) = scan_descriptor_name(reply, offset) else {
+        return None;
+    };
+    Some(Made {
+        named: true,
+        next: scanned.next,
+    })
+}
+
 fn name_run_from(reply: &[u8], start: usize) -> NameRun
     ensures { result ≡ name_run_from page037 reply.now start }
 {
-    let mut offset = start;
-    for count in 0..512 {
-        let Some(scanned) = scan_descriptor_name(reply, offset) else {
-            return NameRun { start, count };
-        };
-        offset = scanned.next;
+    let run = walks::count_steps(512, start, |_left, offset| name_step(reply, offset));
+    NameRun {
+        start,
+        count: run.count,
     }
-    NameRun { start, count: 512 }
 }
 
 // Only a longer run replaces. A line with a promise of its own, called once, and no `Ord` on runs: by counts alone, runs that start elsewhere would

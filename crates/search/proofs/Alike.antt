@@ -2,7 +2,7 @@
 use Prim.Native.Nat.{suc}
 use mathlib.Core.Path.{◌≡◌, refl, ap}
 use mathlib.Core.List.{List, [], ◌∷◌}
-use mathlib.Core.Bool.{Bool, true, false, ◌&&◌, false≢true, and-eq-true_iff}
+use mathlib.Core.Bool.{Bool, true, false, false≢true, and-eq-true_iff}
 use lib.ListN.{length}
 use Rattle.search.specs.Search.{alike}
 

@@ -9,7 +9,7 @@ use mathlib.Core.List.{[], ◌∷◌}
 use mathlib.Core.Bool.{Bool, true, false}
 use lib.ListN.{length}
 use Rattle.search.specs.Search.{pick, count}
-use Rattle.search.specs.Walks.{Walk, chain}
+use Rattle.search.specs.Walks.{Walk, chain, tested}
 
 pub record Walking {A : Type 0} (w : Walk A) (f : A → Bool) (n p₀ i m p : ℕ) : Type 0 where
   pub below : i ≤ n
@@ -81,3 +81,18 @@ module _ {A : Type 0} (w : Walk A) (f : A → Bool) (n p₀ : ℕ) where
     walking_done h =
         let k : n - i ≡ 0 = omega arith in
         over (ap (λ (j : ℕ). chain w j i p) k)
+
+-- it has as many steps, and f holds at as many of them
+pub tested_counts : {A : Type 0} (f : A → Bool) (w : Walk A) (k i p : ℕ)
+    → (length (chain (tested f w) k i p) ≡ length (chain w k i p)) × (count (λ b. b) (chain (tested f w) k i p) ≡ count f (chain w k i p))
+unfolding chain
+tested_counts f w zero i p = (refl, refl)
+tested_counts f w (suc k) i p = go (w.reads p (w.end k p)) refl (tested_counts f w k (suc i) (w.end k p))
+  where
+    go : (b : Bool) → w.reads p (w.end k p) ≡ b
+        → (length (chain (tested f w) k (suc i) (w.end k p)) ≡ length (chain w k (suc i) (w.end k p)))
+        × (count (λ b. b) (chain (tested f w) k (suc i) (w.end k p)) ≡ count f (chain w k (suc i) (w.end k p)))
+        → (length (chain (tested f w) (suc k) i p) ≡ length (chain w (suc k) i p))
+        × (count (λ b. b) (chain (tested f w) (suc k) i p) ≡ count f (chain w (suc k) i p))
+    go true e h = rw e (ap suc h.0, ap (λ n. pick (f (w.view i p (w.end k p))) 1 0 + n) h.1)
+    go false e h = rw e (refl, refl)

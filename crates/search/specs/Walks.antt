@@ -36,3 +36,11 @@ pub record Walk (A : Type 0) : Type 0 where
 unfoldable pub chain : {A : Type 0} → Walk A → ℕ → ℕ → ℕ → List A
 chain w zero i p = []
 chain w (suc k) i p = pick (w.reads p (w.end k p)) (w.view i p (w.end k p) ∷ chain w k (suc i) (w.end k p)) []
+
+-- a walk that sees at each position whether f holds of what stands there
+abbrev pub tested : {A : Type 0} → (A → Bool) → Walk A → Walk Bool
+tested f w = record {
+  end = w.end;
+  reads = w.reads;
+  view = λ i p e. f (w.view i p e);
+}

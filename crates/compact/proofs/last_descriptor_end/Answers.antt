@@ -1,7 +1,7 @@
 -- FF FF FF, or from an FF on to the one after it, or none.
 use Rattle.std.proofs.Common.{rules, refl, sym, arith}
 use Rattle.compact.specs.Compact.{ffs_here}
-use Rattle.compact_table.proofs.Skips.{found_some, found_none, by_ff_found, by_ff_more, by_ff_none, ff_is}
+use Rattle.compact_table.proofs.Skips.{found_some, found_none, by_ff_found, by_ff_none}
 use Rattle.compact.proofs.Laws.{last_found, last_none, no_ffs}
 use Rattle.compact.proofs.last_descriptor_end.Goals as goal
 

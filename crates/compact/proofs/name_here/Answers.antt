@@ -2,8 +2,7 @@
 use Rattle.std.proofs.Common.{rules, not}
 use Rattle.text.specs.Chars.{is_name_char}
 use Rattle.compact.specs.Compact.{stop_at}
-use Rattle.compact.proofs.Laws.{name_size, name_over}
-use Rattle.compact.proofs.Stops.{stops_later, name_known, name_whole, name_broken}
+use Rattle.compact.proofs.Stops.{stops_later, name_whole, name_broken}
 use Rattle.compact.proofs.name_here.Goals as goal
 
 pub returns-then-not-contains-clause-ends : goal.returns-then-not-contains-clause-ends

@@ -1,20 +1,15 @@
--- The loop walks from descriptor to descriptor; each way out has a law of Runs.
-use Rattle.std.proofs.Common.{refl}
+-- Its steps are those of the walk.
+use Rattle.std.proofs.Common.{rules, of_calls}
 use Rattle.codepage.specs.Page.{page037}
-use Rattle.descriptor.proofs.Runs.{run_more, run_stop, run_done}
+use Rattle.walks.specs.Steps.{named_walk}
+use Rattle.walks.proofs.Runs.{run_is}
+use Rattle.descriptor.specs.Run.{standard_walk, standard_run}
 use Rattle.descriptor.proofs.standard_run.Goals as goal
 
-pub returns-in_default : goal.returns-in_default
-returns-in_default c =
-    run_stop page037 _ _ _ _ _ _ _ c.loop-count.invariant.walking _ c.loop-count-test.true c.in_default.ensures.at c.in_default.ensures.inside
-
-pub loop-count-preserved : goal.loop-count-preserved
-loop-count-preserved c = record {
-  within = c.in-Ok.ensures.inside.0;
-  walking =
-      run_more page037 _ _ _ _ _ _ _ c.loop-count.invariant.walking _ _ _ c.loop-count-test.true c.in-Ok.ensures.at
-      c.in-Ok.ensures.inside.0 c.one_if_named-named.ensures.0 refl;
-}
-
 pub returns : goal.returns
-returns c = run_done page037 _ _ _ _ _ _ _ c.loop-count.invariant.walking c.loop-count-test.false
+unfolding standard_run
+returns c =
+    let walk = standard_walk page037 c.args.order c.args.reply.now in (
+      run_is page037 _ walk _ _ _ (c.count_steps.ensures.counts (named_walk page037 c.args.reply.now walk) (λ left offset made h. search (rules, of_calls))),
+      c.count_steps.ensures.few,
+    )
