@@ -10,4 +10,5 @@ pub returns-clause-value : goal.returns-clause-value
 unfolding compact_run
 returns-clause-value c =
     let walk = compact_walk page037 c.args.ends c.args.reply.now in
-    run_is page037 _ walk _ _ _ (c.count_steps.ensures.counts (named_walk page037 c.args.reply.now walk) (λ left offset made h. search (rules, of_calls)))
+    run_is page037 _ walk _ _ _
+    (c.count_steps.ensures.counts (named_walk page037 c.args.reply.now walk) (λ left offset made h. search (rules, of_calls)))

@@ -10,6 +10,7 @@ pub returns : goal.returns
 unfolding standard_run
 returns c =
     let walk = standard_walk page037 c.args.order c.args.reply.now in (
-      run_is page037 _ walk _ _ _ (c.count_steps.ensures.counts (named_walk page037 c.args.reply.now walk) (λ left offset made h. search (rules, of_calls))),
+      run_is page037 _ walk _ _ _
+          (c.count_steps.ensures.counts (named_walk page037 c.args.reply.now walk) (λ left offset made h. search (rules, of_calls))),
       c.count_steps.ensures.few,
     )

@@ -7,4 +7,6 @@ use Rattle.name_run.proofs.Runs.{run_is}
 use Rattle.name_run.proofs.name_run_from.Goals as goal
 
 pub returns : goal.returns
-returns c = run_is page037 _ _ _ (c.count_steps-run.ensures.counts (tested (λ _. true) (name_walk page037 c.args.reply.now)) (λ left offset made h. search (rules, of_calls))).0
+returns c =
+    let walk = tested (λ _. true) (name_walk page037 c.args.reply.now) in
+    run_is page037 _ _ _ (c.count_steps-run.ensures.counts walk (λ left offset made h. search (rules, of_calls))).0
