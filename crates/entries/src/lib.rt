@@ -102,7 +102,7 @@ impl From<Result<Sqldard, Refusal>> for SqldardResult {
     }
 }
 
-// The card for success, written where it is to lie: inlined, its stores were joined with those of a status that was read, and 6 ns slower.
+// The card for success, a quick path: inlined, its stores are joined with another arm's and read back in other widths, 6 ns of a null status.
 #[inline(never)]
 fn success() -> SqlCard
     ensures { result ≡ success_card }
@@ -113,7 +113,7 @@ fn success() -> SqlCard
 impl<'a> From<Result<Option<StatusRead<'a>>, Refusal>> for SqlcardResult {
     ghost from_gives = { λ answer result. (result.refusal ≡ in_numbers (refusal_in answer)) × (result.card ≡ unwrap_or (result_unwrap_or answer None) success_card) };
 
-    // A quick path: each arm makes its card in its place. Of a Result of cards a null status took 17 ns more, and any other too.
+    // A quick path: each arm makes its card where it is answered. From a Result of cards any status took 16 ns more.
     fn from(answer: Result<Option<StatusRead<'a>>, Refusal>) -> Self {
         match answer {
             Ok(Some(status)) => SqlcardResult {

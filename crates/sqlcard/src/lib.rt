@@ -80,7 +80,7 @@ impl SqlCard {
     }
 }
 
-// A status that is not null, of which no card is made yet. A quick path: a Result of one goes in registers, and one of a card, 88 bytes, through memory.
+// A status that is not null, its card not made yet. A quick path: it is answered in registers, and a card, 88 bytes, through memory that is copied.
 #[derive(Drop)]
 pub struct StatusRead<'a> {
     sqlca: Sqlca<'a>,
@@ -133,7 +133,7 @@ fn group_message(sqlca: Sqlca) -> Result<StringRead, usize>
     sqlca.message_at(54)
 }
 
-// The status alone, its card not made yet: an extension counts as far as it is there. None where it is null.
+// The entry status alone, its card not made yet; None where it is null. An extension counts as far as it is there.
 #[tactic(auto, unfolding(crate::specs::Alone::alone_refusal, crate::specs::Alone::alone_card), using(crate::proofs::Alones::alone_next))]
 #[inline(always)]
 pub fn read_sqlcard_data<'a>(reply: &'a [u8]) -> Result<Option<StatusRead<'a>>, Refusal>
@@ -154,14 +154,10 @@ pub fn read_sqlcard_data<'a>(reply: &'a [u8]) -> Result<Option<StatusRead<'a>>, 
         expected,
         actual,
     })?;
-    Ok(Some(StatusRead {
-        sqlca,
-        message,
-    }))
+    Ok(Some(StatusRead { sqlca, message }))
 }
 
 // The entry status alone.
-#[inline(always)]
 pub fn parse_sqlcard_data(reply: &[u8]) -> Result<SqlCard, Refusal>
     ensures refuses { refusal_in result ≡ alone_refusal reply.now }
     ensures gives { IfOk result (λ card. card ≡ alone_card page037 reply.now) }
