@@ -213,13 +213,14 @@ pub fn plan_reply(reply: &[u8]) -> Result<Plan, Refusal>
 fn card_by(reply: &[u8], alone: bool) -> SqlCard
     ensures { result ≡ status_of page037 reply.now alone }
 {
+    let success = SqlCard::success();
     if alone {
         match sqlcard::read_sqlcard_data(reply).unwrap_or(None) {
             Some(status) => status.card(),
-            None => SqlCard::success(),
+            None => success,
         }
     } else {
-        sqlcard::consume_sqlca_group(reply).map_or(SqlCard::success(), |group| group.card)
+        sqlcard::consume_sqlca_group(reply).map_or(success, |group| group.card)
     }
 }
 
