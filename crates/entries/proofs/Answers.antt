@@ -7,7 +7,8 @@ use native.Mathlib.Omega.{arith}
 use lib.Dec.{ltb}
 use lib.ListN.{length}
 use borrow.Author.Tests.{lt-ltb, le-ltb}
-use Rattle.std.proofs.Common.{IfOk, Result, Ok, Err}
+use Rattle.std.proofs.Common.{IfOk, Option, None, Result, Ok, Err}
+use Rattle.std.specs.Prelude.{unwrap_or}
 use Rattle.std.specs.Result.{result_unwrap_or}
 use Rattle.search.specs.Search.{pick}
 use Rattle.outcome.specs.declared.Refusal.{Refusal}
@@ -54,10 +55,11 @@ value_of f (Err r) refusal value none e n g = n (sym (λ i. is_refused (e i)) �
 -- ---- the status record
 
 module _ (page : Page) (s : List ℕ) where
-  pub alone_given : (answer : Result SqlCard Refusal) → refusal_in answer ≡ alone_refusal s → IfOk answer (λ card. card ≡ alone_card page s)
-      → result_unwrap_or answer success_card ≡ alone_card page s
+  pub alone_given : (answer : Result (Option SqlCard) Refusal) → refusal_in answer ≡ alone_refusal s
+      → IfOk answer (λ card. unwrap_or card success_card ≡ alone_card page s) → unwrap_or (result_unwrap_or answer None) success_card ≡ alone_card page s
   unfolding alone_card
-  alone_given answer e g = value_of (λ card. card) answer (alone_refusal s) (alone_card page s) success_card e (λ h. rw h refl) g
+  alone_given answer e g =
+      value_of (λ card. unwrap_or card success_card) answer (alone_refusal s) (alone_card page s) None e (λ h. rw h refl) g
 
   module _ (answer : Result Group Refusal) (e : refusal_in answer ≡ group_refusal s) where
     pub group_given : IfOk answer (λ group. group.card ≡ group_card page s) → (result_unwrap_or answer no_group).card ≡ group_card page s

@@ -13,7 +13,7 @@ pub fn parse_sqlcard_data(reply: &[u8]) -> SqlcardResult
     ensures refuses { result.refusal ≡ in_numbers (alone_refusal reply.now) }
     ensures gives { result.card ≡ alone_card page037 reply.now }
 {
-    SqlcardResult::from(sqlcard::parse_sqlcard_data(reply))
+    SqlcardResult::from(sqlcard::read_sqlcard_data(reply))
 }
 
 // The entry SQLCA group.

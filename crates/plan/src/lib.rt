@@ -218,7 +218,10 @@ fn card_by(reply: &[u8], alone: bool) -> SqlCard
 {
     let success = SqlCard::success();
     if alone {
-        sqlcard::parse_sqlcard_data(reply).unwrap_or(success)
+        match sqlcard::read_sqlcard_data(reply).unwrap_or(None) {
+            Some(status) => status.card(),
+            None => success,
+        }
     } else {
         sqlcard::consume_sqlca_group(reply).map_or(success, |group| group.card)
     }
