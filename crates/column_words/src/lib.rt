@@ -121,7 +121,7 @@ pub fn column_at(words: &ColumnWords) -> ColumnMetadata
     }
 }
 
-// The same, and a blank column where they are none's.
+// The same, and a blank column where the words are no column's.
 #[tactic(auto, unfolding(crate::specs::Place::column_at_place))]
 pub fn column_or_blank(words: &ColumnWords) -> ColumnMetadata
     ensures { result ≡ column_at_place words.now 0 }

@@ -57,8 +57,8 @@ impl fmt::Display for Hex<'_> {
     }
 }
 
-// A code of a status record, with its sign. std promises the same of an `i32`; but nothing that prints one has a promise of what it writes, and so
-// none would be broken by a wrong digit.
+// A code of a status record, with its sign. std promises the same of an `i32`: this type has the promise in the repository, where the programs that
+// print a code have none.
 #[derive(Clone, Copy, Debug)]
 pub struct Sqlcode(pub i32);
 
