@@ -72,7 +72,7 @@ pub(crate) fn put_columns(
     room: &mut [u8],
 ) -> io::Result<()> {
     for words in columns {
-        put_column(out, reply, column_words::column_in(words, 0), room)?;
+        put_column(out, reply, column_words::column_or_blank(words), room)?;
     }
     Ok(())
 }
@@ -80,7 +80,7 @@ pub(crate) fn put_columns(
 // The places of their texts: ` NAME LABEL BASE SCHEMA`.
 pub(crate) fn put_all_places(out: &mut impl Write, columns: &[ColumnWords]) -> io::Result<()> {
     for words in columns {
-        let column = column_words::column_in(words, 0);
+        let column = column_words::column_or_blank(words);
         let name = Place(column.name);
         let label = Place(column.label);
         let base = Place(column.base_table_name);

@@ -53,7 +53,7 @@ pub fn words_of(column: &ColumnMetadata) -> ColumnWords
     ]
 }
 
-// Writes a column's words from `at` on: words stand at a place, which no From has.
+// Writes a column's words from `at` on. No `From`: it writes at a place.
 pub fn put_column_words(column: ColumnMetadata, words: &mut [u64], at: usize)
     requires { at + 22 ≤ length words.old }
     ensures { words.new ≡ take at words.old ++ (words_of column ++ drop (at + 22) words.old) }
@@ -121,6 +121,18 @@ pub fn column_at(words: &ColumnWords) -> ColumnMetadata
     }
 }
 
+// The same, and a blank column where the words are no column's.
+#[tactic(auto, unfolding(crate::specs::Place::column_at_place))]
+pub fn column_or_blank(words: &ColumnWords) -> ColumnMetadata
+    ensures { result ≡ column_at_place words.now 0 }
+{
+    if is_column(words) {
+        column_at(words)
+    } else {
+        column::blank_column()
+    }
+}
+
 // The column at place `i`, if the words have one there.
 pub fn column_get(words: &[u64], i: usize) -> Option<ColumnMetadata>
     ensures { result ≡ column_get words.now i }
@@ -132,7 +144,7 @@ pub fn column_get(words: &[u64], i: usize) -> Option<ColumnMetadata>
     }
 }
 
-// The same, and a blank column where there is none.
+// The same, and a blank column where there is none: a public function that could not fail still can't.
 #[tactic(auto, unfolding(crate::specs::Place::column_at_place, crate::specs::Place::column_get))]
 pub fn column_in(words: &[u64], i: usize) -> ColumnMetadata
     ensures { result ≡ column_at_place words.now i }

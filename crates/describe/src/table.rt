@@ -63,7 +63,7 @@ impl Widths {
             schema: 6,
         };
         columns.iter().fold(heads, |widths, words| {
-            widths.with(column_words::column_in(words, 0))
+            widths.with(column_words::column_or_blank(words))
         })
     }
 }
@@ -141,7 +141,7 @@ pub(crate) fn put_table(
     let widths = Widths::of(columns);
     put_heads(out, widths)?;
     for words in columns {
-        put_row(out, texts, column_words::column_in(words, 0), widths)?;
+        put_row(out, texts, column_words::column_or_blank(words), widths)?;
     }
     Ok(())
 }

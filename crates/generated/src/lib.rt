@@ -1,25 +1,15 @@
 // Generated names: COL and digits, as the reader itself names a column without a name.
 #![tactic(auto)]
 
-ghost use Rattle.std.specs.Prelude.{◌≡◌, ◌<◌};
-ghost use lib.ListN.{length};
+ghost use Rattle.std.specs.Prelude.{◌≡◌};
 ghost use Rattle.search.specs.Search.{each};
 ghost use Rattle.codepage.specs.Page.{page037};
 ghost use Rattle.text.specs.Alphabet.{alphabet_number};
 ghost use Rattle.text.specs.Chars.{chars, is_digit_of};
 ghost use Rattle.text.specs.Text.{trimmed};
-ghost use Rattle.text.specs.Generated.{is_generated, starts_col, decoded};
+ghost use Rattle.text.specs.Generated.{is_generated, decoded};
 
 use text::Alphabet;
-
-fn starts_col(bytes: &[u8], alphabet: Alphabet) -> bool
-    requires { 3 < length bytes.now }
-    ensures { result ≡ starts_col (chars page037 (alphabet_number alphabet) bytes.now) }
-{
-    alphabet.character(bytes[0]) == b'C'
-        && alphabet.character(bytes[1]) == b'O'
-        && alphabet.character(bytes[2]) == b'L'
-}
 
 // One line over `all`, as text's `all_name_chars`: the function that serves any test is std's.
 fn all_digits(bytes: &[u8], alphabet: Alphabet) -> bool
@@ -29,18 +19,22 @@ fn all_digits(bytes: &[u8], alphabet: Alphabet) -> bool
 }
 
 // Whether a text's characters are COL and one or more digits, as the reader itself names a column without a name. Bytes and alphabet
-// stay apart: as one struct the name scan took up to 5 % more instructions (see text's `all_name_chars`).
+// stay apart: see text's `all_name_chars`.
 #[tactic(auto, using(text::proofs::Generated::generated_is))]
 pub fn is_generated(bytes: &[u8], alphabet: Alphabet) -> bool
     ensures { result ≡ is_generated (chars page037 (alphabet_number alphabet) bytes.now) }
 {
-    if bytes.len() <= 3 {
+    let [c, o, l, digits @ ..] = bytes else {
         return false;
-    }
-    starts_col(bytes, alphabet) && all_digits(&bytes[3..], alphabet)
+    };
+    alphabet.character(*c) == b'C'
+        && alphabet.character(*o) == b'O'
+        && alphabet.character(*l) == b'L'
+        && !digits.is_empty()
+        && all_digits(digits, alphabet)
 }
 
-// The same of bytes of page 037, trimmed. Most names end at the first test: blanks at the end are looked for only after a C.
+// The same of bytes of page 037, trimmed: here, as most names end at the first test, and blanks at the end are looked for only after a C.
 #[tactic(auto, using(text::proofs::Bytes::leading_same, text::proofs::Bytes::kept_same, crate::proofs::Quick::leading_inside, crate::proofs::Quick::trimmed_short, crate::proofs::Quick::trimmed_other, crate::proofs::Quick::trimmed_bounds, crate::proofs::Quick::trimmed_text))]
 fn is_generated_trimmed(bytes: &[u8]) -> bool
     ensures { result ≡ is_generated (chars page037 2 (trimmed page037 bytes.now)) }

@@ -31,7 +31,8 @@ pub fn is_identifier(bytes: &[u8]) -> bool
     is_identifier_in(bytes, Alphabet::Ascii)
 }
 
-// Only the blanks at the ends and what is between are looked at.
+// Only the blanks at the ends and what is between are looked at. No `trimmed` in text: it would serve here alone, as `decode_text` needs the
+// place, and generated tests the first byte before it looks for the end.
 #[tactic(auto, using(crate::proofs::Identifiers::end_inside, crate::proofs::Identifiers::trimmed_blank, crate::proofs::Identifiers::trimmed_none, crate::proofs::Identifiers::trimmed_some))]
 fn is_identifier_trimmed(bytes: &[u8], alphabet: Alphabet) -> bool
     ensures { result ≡ is_identifier (trimmed_of is_blank (chars page037 (alphabet_number alphabet) bytes.now)) }

@@ -3,15 +3,16 @@ use mathlib.Core.Bool.{Bool, true, false}
 use mathlib.Core.Path.{◌≡◌, refl, sym, ap, ◌∙◌}
 use mathlib.Core.List.{List, [], ◌∷◌, ◌++◌, append_assoc}
 use Prim.Native.Nat.{ℕ, zero, suc, ◌+◌, ◌-◌, ◌≤◌, min}
+use native.Mathlib.Nat.{le_refl}
 use native.Mathlib.Omega.{arith}
 use lib.Dec.{leb}
 use lib.ListN.{length, take, length-append}
-use lib.Seq.{take-append-add, take-append-le, take_all, length-take-le}
+use lib.Seq.{take-append-add, take-append-le, take_all, take-take, length-take-le}
 use borrow.Author.Tests.{leb-true, leb-false}
 use borrow.Rule.Slice.PartMut.{put_mid}
-use Rattle.std.proofs.lemmas.List.{take_min}
+use Rattle.std.proofs.lemmas.List.{take_min, take-replicate, length-replicate}
 use Rattle.std.proofs.lemmas.Slice.{take-put_mid}
-use Rattle.line.specs.Line.{with_text, gap, padded}
+use Rattle.line.specs.Line.{with_text, blanks, gap, padded}
 
 -- what finds room of a text is copied behind the bytes that are written: m stands there
 pub text_written : (n u k : ℕ) (bytes t m l : List ℕ) → length bytes ≡ n → u ≤ n → k ≡ min (n - u) (length t) → m ≡ take k t → take u bytes ≡ l
@@ -28,6 +29,19 @@ cut_again : (n : ℕ) (x t : List ℕ) → take n (take n x ++ t) ≡ take n (x 
 cut_again zero x t = refl
 cut_again (suc n) [] t = refl
 cut_again (suc n) (y ∷ x) t = ap (λ (l : List ℕ). y ∷ l) (cut_again n x t)
+
+-- what follows a line is cut before or after it is put there
+cut_before : (n m : ℕ) (l t : List ℕ) → n ≤ m → take n (l ++ take m t) ≡ take n (l ++ t)
+cut_before n m [] t h = take-take n m t h
+cut_before zero m (y ∷ l) t h = refl
+cut_before (suc n) m (y ∷ l) t h = ap (λ (x : List ℕ). y ∷ x) (cut_before n m l t (omega arith))
+
+-- of more blanks than a line has room for, so many as it has room for are seen
+pub blanks_enough : (n c k : ℕ) (l : List ℕ) → k ≡ min c n → with_text n l (take k (blanks n)) ≡ with_text n l (blanks c)
+blanks_enough n c k l e =
+    let a : take k (blanks n) ≡ take k (blanks c) = take-replicate k n 0x20 (omega (arith, e)) ∙ sym (take-replicate k c 0x20 (omega (arith, e))) in
+    let b : k ≡ min n (length (blanks c)) = rw length-replicate (omega (arith, e)) in
+    ap (with_text n l) (a ∙ rw b (take_min n (blanks c))) ∙ cut_before n n l (blanks c) (le_refl n)
 
 module _ (n : ℕ) (l s x : List ℕ) (e : x ≡ with_text n l s) where
   -- a text and then another is the two together

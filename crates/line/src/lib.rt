@@ -66,15 +66,12 @@ impl<const N: usize> Line<N> {
         self.append(decimal::digits_of(number).as_bytes());
     }
 
+    #[tactic(auto, using(crate::proofs::Appends::blanks_enough))]
     fn append_blanks(&mut self, count: usize)
         ensures { self.new ≡ with_text N self.old (blanks count) }
     {
-        let start = self.used;
-        let count = (N - start).min(count);
-        let end = start + count;
-        let bytes = &mut self.bytes[..];
-        bytes[start..end].fill(b' ');
-        self.used = end;
+        // More than `N` find no room in any line.
+        self.append(&[b' '; N][..count.min(N)]);
     }
 
     // Ends a cell whose text was written from `start` on: blanks up to the column's width, and two more.

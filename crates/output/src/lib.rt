@@ -1,4 +1,4 @@
-// How programs print what is not printed by Rust itself.
+// How programs print what is not printed by std.
 #![tactic(auto)]
 
 mod type_names;
@@ -57,7 +57,8 @@ impl fmt::Display for Hex<'_> {
     }
 }
 
-// A code of a status record, with its sign.
+// A code of a status record, with its sign. std promises the same of an `i32`: this type has the promise in the repository, where the programs that
+// print a code have none.
 #[derive(Clone, Copy, Debug)]
 pub struct Sqlcode(pub i32);
 

@@ -12,7 +12,7 @@ use Rattle.std.proofs.lemmas.List.{drop-map}
 use Rattle.std.proofs.lemmas.List.Folds.{list_all-map}
 use Rattle.search.specs.Search.{below, each}
 use Rattle.search.proofs.Tests.{agree, agree_same, below_at}
-use Rattle.codepage.specs.Page.{Page, table037, char_in}
+use Rattle.codepage.specs.Page.{Page, page037, table037, char_in}
 use Rattle.text.specs.Chars.{is_digit, char_of, chars, is_digit_of}
 use Rattle.text.specs.Generated.{starts_col, is_generated}
 
@@ -54,6 +54,10 @@ module _ (page : Page) (h : SpellsColAsIn037 page.table) (a : ℕ) (e : a ≡ pa
   letter c b t k m =
       sym (agree_same (eqb (char_in page k) c) (eqb k b) (below_at 256 (λ j. agree (eqb (get_or page.table j 0) c) (eqb j b)) t k m))
       ∙ ap (λ (x : ℕ). eqb x c) (char_of_page page a k e)
+
+-- page 037's digits by their bytes
+pub digit_037 : (b : ℕ) → b < 256 → is_digit_of page037 2 b ≡ (leb 0xF0 b && leb b 0xF9)
+digit_037 b m = sym (digit_page page037 spells_037 2 refl b m)
 
 -- the test on characters, by bytes as the code lends them
 pub generated_is : (page : Page) (a : ℕ) (bs : List ℕ) → is_generated (chars page a bs)

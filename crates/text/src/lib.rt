@@ -10,6 +10,7 @@ ghost use Rattle.text.specs.Chars.{char_of, is_ascii, is_name_char, is_digit_of,
 ghost use Rattle.text.specs.Text.{empty_text, leading, kept, text_of};
 
 // What characters bytes stand for: in ASCII themselves, also above 7F.
+// A `match` at each method: two answers, and the alphabet is known at run time only.
 #[derive(Clone, Copy, Debug, PartialEq, Eq)]
 pub enum Alphabet {
     Ascii,
@@ -38,21 +39,19 @@ impl Alphabet {
         ensures { result ≡ is_blank_of page037 (alphabet_number self) byte }
     {
         match self {
-            Alphabet::Ascii => {
-                matches!(byte, 0x09..=0x0D | 0x20 | 0x85 | 0xA0)
-            }
+            Alphabet::Ascii => matches!(byte, 0x09..=0x0D | 0x20 | 0x85 | 0xA0),
             Alphabet::Page037 => codepage::is_blank_byte(byte),
         }
     }
 
     // By the byte, as `is_blank`: by its character, over many digits, it was measured twice as slow.
-    #[tactic(auto, unfolding(crate::specs::Chars::char_of))]
+    #[tactic(auto, using(crate::proofs::Generated::digit_037), unfolding(crate::specs::Chars::char_of))]
     pub fn is_digit(self, byte: u8) -> bool
         ensures { result ≡ is_digit_of page037 (alphabet_number self) byte }
     {
         match self {
             Alphabet::Ascii => byte.is_ascii_digit(),
-            Alphabet::Page037 => (byte >= 0xF0) & (byte <= 0xF9),
+            Alphabet::Page037 => matches!(byte, 0xF0..=0xF9),
         }
     }
 }
@@ -106,7 +105,7 @@ impl Text {
 // A bit for each character, 64 to a number: whether it is a name character.
 static NAME_CHARS: [u64; 4] = [0x03FF_0018_0000_0000, 0x07FF_FFFE_87FF_FFFF, 0, 0];
 
-// By bits: in a loop over a name, a chain of tests would go now this way, now that.
+// By bits: in a loop over a name, a chain of tests would branch in ways that are hard to predict.
 fn is_name_char(character: u8) -> bool
     ensures { result ≡ is_name_char character }
 {
@@ -137,7 +136,7 @@ pub fn leading_blanks(bytes: &[u8], alphabet: Alphabet) -> usize
     blanks.count()
 }
 
-// `position`, whose proof `using` does not find: by `take_while` and `count` the description took 5 % more instructions in page 037.
+// By `position`, though its proof needs an answer: by `take_while` and `count` the description took 5 % more instructions in page 037.
 pub fn kept_bytes(bytes: &[u8], alphabet: Alphabet) -> usize
     ensures { result ≡ kept (is_blank_of page037 (alphabet_number alphabet)) bytes.now }
 {
@@ -148,8 +147,8 @@ pub fn kept_bytes(bytes: &[u8], alphabet: Alphabet) -> usize
     }
 }
 
-// The text of the `length` bytes from `start` on: by their place, since a text is a place in the reply. One that is not ASCII has a byte above
-// 7F, which trimming keeps: it is never empty.
+// The text of the `length` bytes from `start` on: by their place, also where they are trimmed, since a text is a place in the reply. One that is
+// not ASCII has a byte above 7F, which trimming keeps: it is never empty.
 #[tactic(auto, using(crate::proofs::Bytes::leading_same, crate::proofs::Bytes::kept_same, crate::proofs::Decode::decode_none, crate::proofs::Decode::decode_ascii, crate::proofs::Decode::decode_page, codepage::proofs::Pages::rearranged_037, codepage::proofs::Pages::blanks_037))]
 pub fn decode_text(reply: &[u8], start: usize, length: usize) -> Text
     requires { start + length ≤ lib.ListN.length reply.now }
