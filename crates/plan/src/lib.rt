@@ -226,7 +226,7 @@ fn card_by(reply: &[u8], alone: bool) -> SqlCard
 pub fn decide(reply: &[u8], room: usize) -> Result<Decision<'_>, Refusal>
     ensures { Decides room result (description page037 room reply.now) }
 {
-    if reply.len() > 65536 {
+    if reply.len() > outcome::MOST_BYTES {
         return Err(Refusal::ReplyTooLong);
     }
     let plan = plan_reply(reply)?;

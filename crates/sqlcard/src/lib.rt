@@ -118,7 +118,7 @@ pub fn parse_sqlcard_data(reply: &[u8]) -> Result<SqlCard, Refusal>
     ensures gives { IfOk result (λ card. card ≡ alone_card page037 reply.now) }
 {
     let actual = reply.len();
-    if actual > 65536 {
+    if actual > outcome::MOST_BYTES {
         return Err(Refusal::ReplyTooLong);
     }
     if reply.is_empty() || starts_null(reply) {
@@ -150,7 +150,7 @@ pub fn consume_sqlca_group(reply: &[u8]) -> Result<Group, Refusal>
     ensures takes { IfOk result (λ group. group.length ≡ group_length reply.now) }
 {
     let actual = reply.len();
-    if actual > 65536 {
+    if actual > outcome::MOST_BYTES {
         return Err(Refusal::ReplyTooLong);
     }
     if starts_null(reply) {
