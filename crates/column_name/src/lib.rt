@@ -15,28 +15,18 @@ use outcome::Refusal;
 use text::{Alphabet, Text};
 use types::ColumnMetadata;
 
-// The bytes of a name in the reply: a generated one has none, whatever its place and length.
-#[tactic(auto, unfolding(crate::specs::Part::part_refusal, crate::specs::Part::part_of))]
-fn part_bytes<'a>(reply: &'a [u8], name: Text) -> Result<&'a [u8], Refusal>
+// The bytes of a name in the reply, for callers who have no record: a generated one has none, whatever its place and length.
+#[tactic(auto, unfolding(crate::specs::Part::part_refusal, crate::specs::Part::part_of, outcome::specs::Bytes::bytes_refusal))]
+pub fn given_part(reply: &[u8], name: Text) -> Result<&[u8], Refusal>
     ensures refuses { refusal_in result ≡ part_refusal reply.now name }
     ensures gives { IfOk result (λ part. part.now ≡ part_of reply.now name) }
 {
-    if reply.len() > 65536 {
-        return Err(Refusal::ReplyTooLong);
+    let bytes = outcome::part_of(reply, name.place, name.length)?;
+    match name.alphabet {
+        0 => Ok(&[]),
+        1 | 2 => Ok(bytes),
+        _ => Err(Refusal::OutsideReply),
     }
-    if name.alphabet > 2 {
-        return Err(Refusal::OutsideReply);
-    }
-    let Some(bytes) = reply
-        .get(name.place..)
-        .and_then(|rest| rest.get(..name.length))
-    else {
-        return Err(Refusal::OutsideReply);
-    };
-    if name.alphabet == 0 {
-        return Ok(&reply[..0]);
-    }
-    Ok(bytes)
 }
 
 // The entry name part.
@@ -44,7 +34,7 @@ pub fn name_part<'a>(reply: &'a [u8], column: ColumnMetadata) -> Result<&'a [u8]
     ensures refuses { refusal_in result ≡ part_refusal reply.now column.name }
     ensures gives { IfOk result (λ part. part.now ≡ part_of reply.now column.name) }
 {
-    part_bytes(reply, column.name)
+    given_part(reply, column.name)
 }
 
 // The generated name of a column.
@@ -56,6 +46,7 @@ fn generated_name(number: u16) -> Digits
 }
 
 // Writes the characters of a text over the buffer's front, where there is room for them, and says how many they are.
+// Bytes and alphabet stay apart: see text's `all_name_chars`.
 #[tactic(auto, unfolding(outcome::specs::Room::room_refusal, outcome::specs::Room::room_length, outcome::specs::Room::room_written), using(crate::proofs::Written::chars_length, crate::proofs::Written::chars_page, crate::proofs::Written::chars_other))]
 fn write_text(bytes: &[u8], alphabet: Alphabet, buffer: &mut [u8]) -> Result<usize, Refusal>
     ensures refuses { refusal_in result ≡ room_refusal (chars page037 (alphabet_number alphabet) bytes.now) (length buffer.old) }
@@ -85,7 +76,7 @@ pub fn given_text(
     ensures gives { IfOk result (λ n. n ≡ given_length page037 reply.now number text (length buffer.old)) }
     ensures leaves { buffer.new ≡ given_written page037 reply.now number text buffer.old }
 {
-    let bytes = part_bytes(reply, text)?;
+    let bytes = given_part(reply, text)?;
     match text.alphabet {
         0 => write_text(generated_name(number).as_bytes(), Alphabet::Ascii, buffer),
         alphabet => write_text(bytes, Alphabet::from(alphabet), buffer),

@@ -22,7 +22,8 @@ use Rattle.sqlcard.specs.Alone.{alone_refusal, alone_card}
 use Rattle.sqlcard.specs.Group.{group_refusal, group_card, group_length}
 use Rattle.message_text.specs.Answer.{message_refusal, message_length}
 use Rattle.column_name.specs.Part.{part_refusal}
-use Rattle.column_name.specs.Name.{given_text, given_refusal, given_length, name_refusal, name_length}
+use Rattle.column_name.specs.Name.{given_text, given_refusal, given_length}
+use Rattle.text.specs.declared.Text.{Text}
 use Rattle.outcome.specs.Room.{room_refusal, room_length}
 use Rattle.entries.specs.Refused.{no_group}
 use Rattle.types.specs.declared.ColumnMetadata.{ColumnMetadata}
@@ -78,12 +79,12 @@ module _ (page : Page) (s : List ℕ) where
   message_given p n room answer e g =
       value_of (λ count. count) answer (message_refusal page s p n room) (message_length page s p n room) 0 e (λ h. rw h refl) g
 
-  pub name_given : (c : ColumnMetadata) (room : ℕ) (answer : Result ℕ Refusal) → refusal_in answer ≡ name_refusal page s c room
-      → IfOk answer (λ count. count ≡ name_length page s c room) → result_unwrap_or answer 0 ≡ name_length page s c room
-  unfolding name_refusal name_length given_refusal given_length room_refusal room_length
-  name_given c room answer e g =
-      value_of (λ count. count) answer (name_refusal page s c room) (name_length page s c room) 0 e
-      (none (is_refused (part_refusal s c.name)) (ltb room (length (given_text page s c.number c.name))) (part_refusal s c.name) _) g
+  pub name_given : (number : ℕ) (t : Text) (room : ℕ) (answer : Result ℕ Refusal) → refusal_in answer ≡ given_refusal page s number t room
+      → IfOk answer (λ count. count ≡ given_length page s number t room) → result_unwrap_or answer 0 ≡ given_length page s number t room
+  unfolding given_refusal given_length room_refusal room_length
+  name_given number t room answer e g =
+      value_of (λ count. count) answer (given_refusal page s number t room) (given_length page s number t room) 0 e
+      (none (is_refused (part_refusal s t)) (ltb room (length (given_text page s number t))) (part_refusal s t) _) g
     where
       none : (refused short : Bool) (refusal : List ℕ) (n : ℕ) → is_refused (pick refused refusal (pick short (6 ∷ n ∷ []) (0 ∷ []))) ≡ true
           → 0 ≡ pick refused 0 (pick short 0 n)

@@ -12,23 +12,8 @@ ghost use Rattle.entries.specs.Part.{part_place, part_length};
 
 use crate::{CountResult, PartResult};
 use text::Text;
-use types::ColumnMetadata;
 
-// The functions below take a column, and ask for its number and its name alone. C gives a name as its place, length and alphabet, one by one, so the
-// entries take them so, and the alphabet as a number.
-fn named_column(number: u16, place: usize, length: usize, alphabet: u8) -> ColumnMetadata
-    ensures { result ≡ named_column number place length alphabet }
-{
-    let name = Text {
-        place,
-        length,
-        alphabet,
-    };
-    let mut column = column::blank_column();
-    column.number = number;
-    column.name = name;
-    column
-}
+// C gives a name as its place, length and alphabet, one by one, so the entries take them so, and the alphabet as a number.
 
 // The entry name part: where the part lies in the reply. A part without bytes lies at 0.
 pub fn name_part(reply: &[u8], place: usize, length: usize, alphabet: u8) -> PartResult
@@ -37,7 +22,12 @@ pub fn name_part(reply: &[u8], place: usize, length: usize, alphabet: u8) -> Par
     ensures counts { result.length ≡ part_length reply.now (text_is place length alphabet) }
     ensures gives { take result.length (drop result.place reply.now) ≡ part_of reply.now (text_is place length alphabet) }
 {
-    let part = column_name::name_part(reply, named_column(0, place, length, alphabet));
+    let name = Text {
+        place,
+        length,
+        alphabet,
+    };
+    let part = column_name::given_part(reply, name);
     let refusal = crate::refusal_numbers(&part);
     let bytes = part.unwrap_or(&[]);
     let count = bytes.len();
@@ -49,7 +39,7 @@ pub fn name_part(reply: &[u8], place: usize, length: usize, alphabet: u8) -> Par
 }
 
 // The entry name text.
-#[tactic(auto, using(crate::proofs::Answers::name_given))]
+#[tactic(auto, unfolding(crate::specs::Named::named_column, column_name::specs::Name::name_refusal, column_name::specs::Name::name_length, column_name::specs::Name::name_written), using(crate::proofs::Answers::name_given))]
 pub fn name_text(
     reply: &[u8],
     number: u16,
@@ -62,8 +52,12 @@ pub fn name_text(
     ensures counts { result.count ≡ name_length page037 reply.now (named_column number place length alphabet) (lib.ListN.length buffer.old) }
     ensures leaves { buffer.new ≡ name_written page037 reply.now (named_column number place length alphabet) buffer.old }
 {
-    let column = named_column(number, place, length, alphabet);
-    CountResult::from(column_name::name_text(reply, column, buffer))
+    let name = Text {
+        place,
+        length,
+        alphabet,
+    };
+    CountResult::from(column_name::given_text(reply, number, name, buffer))
 }
 
 // The entry message text. Place and length one by one, as C gives them.

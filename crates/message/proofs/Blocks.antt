@@ -1,10 +1,21 @@
 -- Counting block by block; and a text has characters where its bytes have some that are no blanks.
-use mathlib.Core.Path.{◌≡◌, refl, ap, ◌∙◌}
+use mathlib.Core.Path.{◌≡◌, refl, sym, ap, subst, ◌∙◌}
 use mathlib.Core.Bool.{Bool, true, false, not}
 use mathlib.Core.List.{List, [], ◌∷◌, ◌++◌, map}
 use Prim.Native.Nat.{ℕ, suc, ◌+◌, ◌≤◌, ◌<◌}
 use native.Mathlib.Omega.{arith}
+use borrow.Author.Tests.{lt-ltb, le-ltb, ltb-true, ltb-false}
+use denote.Param.Members.{Mut, Called}
+use denote.Ref.{Bor}
+use lib.Dec.{ltb}
 use lib.ListN.{length, length-append}
+use Rattle.std.specs.declared.slice.Chunks.{Chunks}
+use Rattle.std.specs.declared.option.Option.{Option}
+use Rattle.std.specs.declared.option.Option.TheVariants.{None, Some}
+use Rattle.std.specs.Iterator.{ChecksAny, Yields}
+use Rattle.std.specs.List.{FoldsTo}
+use Rattle.std.specs.Option.{MatchOption}
+use Rattle.std.specs.Slice.Iter.{chunks_rest, chunks_steps}
 use Rattle.search.specs.Search.{pick, count}
 use Rattle.codepage.specs.Blank.{is_blank}
 use Rattle.message.specs.Squeezed.{after, is_gap, added, squeezed}
@@ -33,6 +44,33 @@ module _ (f : ℕ → Bool) where
 
   pub count_none : (a : List ℕ) → length a ≡ 0 → count f a ≡ 0
   count_none a e = omega (arith, count_most a)
+
+  -- ---- a test that is asked of block after block
+
+  -- the calls of the test on the blocks that are left, up to the first that passes, tell whether a byte is counted in what is left
+  pub any_block : {F : Type 0} {g : Mut F (Bor (List ℕ) × Unit {0}) Bool} {u : Chunks ℕ} {k : F} (r : Bool)
+      → ((x : Bor (List ℕ)) (b : Bool) (q : F) → Called g k (x, tt) b q → (q ≡ k) × (b ≡ ltb 0 (count f x.now)))
+      → (s : Chunks ℕ) → ChecksAny chunks_steps g s k r u → r ≡ ltb 0 (count f (chunks_rest s))
+  any_block {F} {g} {u} {k} r test s d = go d.0 s d.1 d.2 d.3.0 d.3.1 d.3.2 d.4 d.5
+    where
+      ends : (o : Option (Bor (List ℕ))) (s : Chunks ℕ) → chunks_steps s o u → MatchOption o (r ≡ false) (λ x. (r ≡ true) × ((h : F) × Called g k (x, tt) true h))
+          → r ≡ ltb 0 (count f (chunks_rest s))
+      ends None s y m = m ∙ sym (le-ltb 0 (count f (chunks_rest s)) (omega (arith, count_none (chunks_rest s) y.1.0)))
+      ends (Some x) s y m =
+          let p = ltb-true 0 (count f x.now) (sym (test x true m.1.0 m.1.1).1) in
+          m.0 ∙ sym (lt-ltb 0 (count f (chunks_rest s)) (omega (arith, p, count_split (chunks_rest s) x.now (chunks_rest u) y.1.0)))
+
+      go : (xs : List (Bor (List ℕ))) (s : Chunks ℕ) (o : Option (Bor (List ℕ))) (j : F) (t : Chunks ℕ) → Yields chunks_steps s xs t → chunks_steps t o u
+          → FoldsTo (λ p x q. Called g p (x, tt) false q) k xs j → MatchOption o (r ≡ false) (λ x. (r ≡ true) × ((h : F) × Called g j (x, tt) true h))
+          → r ≡ ltb 0 (count f (chunks_rest s))
+      go [] s o j t y z c m =
+          subst (λ (w : Chunks ℕ). r ≡ ltb 0 (count f (chunks_rest w))) (sym y)
+          (ends o t z (subst (λ (w : F). MatchOption o (r ≡ false) (λ x. (r ≡ true) × ((h : F) × Called g w (x, tt) true h))) (sym c) m))
+      go (x ∷ xs) s o j t y z c m =
+          let a = test x false c.0 c.1 in
+          let n : count f x.now ≡ 0 = omega (arith, ltb-false 0 (count f x.now) (sym a.1)) in
+          let e : count f (chunks_rest y.0) ≡ count f (chunks_rest s) = omega (arith, n, count_split (chunks_rest s) x.now (chunks_rest y.0) y.1.1.0) in
+          go xs y.0 o j t y.2 z (subst (λ (w : F). FoldsTo (λ p x q. Called g p (x, tt) false q) w xs j) a.0 c.2) m ∙ ap (ltb 0) e
 
 -- ---- characters
 

@@ -1,7 +1,7 @@
 // Messages of a status record: which alphabet they are in, and whether they have a text.
 #![tactic(auto)]
 
-ghost use Rattle.std.specs.Prelude.{Bool, not, ◌≡◌, ◌≤◌, ℕ, length};
+ghost use Rattle.std.specs.Prelude.{Bool, not, ◌≡◌, ◌≤◌, ℕ, length, ltb};
 ghost use Rattle.search.specs.Search.{count};
 ghost use Rattle.codepage.specs.Page.{page037};
 ghost use Rattle.codepage.specs.Blank.{is_blank};
@@ -86,7 +86,7 @@ pub struct Message<'a> {
 }
 
 impl<'a> Message<'a> {
-    // The bound is asked here, behind which the type has it: of a string, or of bytes that an entry has measured.
+    // The bound is asked here, and the type has it from then on: a string has it by its length, an entry tests it.
     pub fn new(bytes: &'a [u8]) -> Message<'a>
         requires { length bytes.now ≤ 65536 }
         ensures { result.bytes ≡ bytes.entry }
@@ -122,21 +122,26 @@ impl<'a> Message<'a> {
         }
     }
 
-    // Whether its text is not empty: stops at the first block with a character that is no blank.
-    #[tactic(auto, using(crate::proofs::Text::has_text_is, crate::proofs::Blocks::count_split, crate::proofs::Blocks::count_none))]
+    // Whether a block has a character that is no blank.
+    fn has_character(self, block: &[u8]) -> bool
+        requires block_len_bound { length block.now ≤ 128 }
+        ensures { result ≡ ltb 0 (count (λ byte. not (is_blank (message_char page037 (is_ascii self.entry.alphabet) byte))) block.now) }
+    {
+        count_in(block, |byte| !self.is_blank(byte)) > 0
+    }
+
+    // Whether its text is not empty: stops at the first block with a character.
     pub fn has_text(self) -> bool
         ensures { result ≡ has_text page037 self.entry.bytes.now }
     {
-        for block in self.bytes.chunks(BLOCK) {
-            if count_in(block, |byte| !self.is_blank(byte)) > 0 {
-                return true;
-            }
-        }
-        false
+        self.bytes
+            .chunks(BLOCK)
+            .any(|block| self.has_character(block))
     }
 }
 
 // Where a character of a text stands: behind none yet, right behind another, or behind blanks that follow one.
+// `Nothing` is one of three states, and not none of something: so no `Option`.
 #[derive(Clone, Copy, Debug, PartialEq, Eq)]
 pub enum Behind {
     Nothing,

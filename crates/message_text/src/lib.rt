@@ -59,6 +59,8 @@ fn put_char(buffer: &mut [u8], at: usize, behind: Behind, character: u8) -> usiz
 }
 
 // Writes the text over the buffer's front, and says how long it is.
+// Another than column_name's function of that name: that one writes a text as it is, this one squeezes its blanks.
+// No iterator over the text, which `text_length` would count: it would hold a character back at each gap, and the count maps no byte.
 #[tactic(auto, unfolding(message::specs::Squeezed::added), using(message::proofs::Squeezed::left_length, message::proofs::Squeezed::left_more, message::proofs::Squeezed::left_none, message::proofs::Squeezed::sets_append, message::proofs::Squeezed::sets_over, message::proofs::Text::text_is))]
 fn write_text(message: Message, buffer: &mut [u8]) -> usize
     requires { length (message_text page037 message.bytes.now) ≤ length buffer.old }
@@ -91,7 +93,7 @@ fn room_needed(message: Message, room: usize) -> usize
 }
 
 // The entry message text: the text of the `length` bytes of the reply from `place` on, written to the buffer's front, and its length.
-#[tactic(auto, unfolding(crate::specs::Answer::message_refusal, crate::specs::Answer::message_length, crate::specs::Answer::message_written))]
+#[tactic(auto, unfolding(crate::specs::Answer::message_refusal, crate::specs::Answer::message_length, crate::specs::Answer::message_written, outcome::specs::Bytes::bytes_refusal))]
 pub fn message_text(
     reply: &[u8],
     place: usize,
@@ -102,12 +104,7 @@ pub fn message_text(
     ensures gives { IfOk result (λ n. n ≡ message_length page037 reply.now place length (lib.ListN.length buffer.old)) }
     ensures leaves { buffer.new ≡ message_written page037 reply.now place length buffer.old }
 {
-    if reply.len() > 65536 {
-        return Err(Refusal::ReplyTooLong);
-    }
-    let Some(bytes) = reply.get(place..).and_then(|rest| rest.get(..length)) else {
-        return Err(Refusal::OutsideReply);
-    };
+    let bytes = outcome::part_of(reply, place, length)?;
     let message = Message::new(bytes);
     let needed = room_needed(message, buffer.len());
     if buffer.len() < needed {

@@ -97,7 +97,7 @@ pub fn decide(reply: &[u8], room: usize) -> Result<Plan<'_>, Refusal>
         (λ plan. IsPlanOf plan (name_scan page037 room reply.now).names × (plan.count ≤ room))
         (λ refusal. (name_scan page037 room reply.now).names ≡ []) }
 {
-    if reply.len() > 65536 {
+    if reply.len() > outcome::MOST_BYTES {
         return Err(Refusal::ReplyTooLong);
     }
     let plan = plan_names(reply);

@@ -1,8 +1,9 @@
 // Why an entry refuses a call, and the numbers that say so to programs in other languages.
 #![tactic(auto)]
 
-ghost use Rattle.std.specs.Prelude.{not, ◌≡◌, eqb};
-ghost use Rattle.outcome.specs.Refusal.{refusal_of, refusal_from, in_numbers};
+ghost use Rattle.std.specs.Prelude.{not, ◌≡◌, eqb, take, drop, IfOk};
+ghost use Rattle.outcome.specs.Bytes.{bytes_refusal};
+ghost use Rattle.outcome.specs.Refusal.{refusal_of, refusal_from, refusal_in, in_numbers};
 
 use std::fmt;
 
@@ -21,6 +22,25 @@ pub enum Refusal {
     OutsideReply,
     // A row without a widest: the number of its first Blob, Clob, DbClob or Xml column.
     LargeObject { number: u16 },
+}
+
+// A longer reply is `ReplyTooLong`.
+pub const MOST_BYTES: usize = 65_536;
+
+// The `length` bytes of a reply from `place` on, for the entries that are given a part of a reply that was read before.
+#[tactic(auto, unfolding(crate::specs::Bytes::bytes_refusal))]
+#[inline(always)]
+pub fn part_of(reply: &[u8], place: usize, length: usize) -> Result<&[u8], Refusal>
+    ensures refuses { refusal_in result ≡ bytes_refusal reply.now place length }
+    ensures gives { IfOk result (λ part. part.now ≡ take length (drop place reply.now)) }
+{
+    if reply.len() > MOST_BYTES {
+        return Err(Refusal::ReplyTooLong);
+    }
+    reply
+        .get(place..)
+        .and_then(|rest| rest.get(..length))
+        .ok_or(Refusal::OutsideReply)
 }
 
 // A refusal's number and its values in document 01's order: `count` of them, the others 0. Number 0 is none. C has no enum with values, so a number

@@ -233,7 +233,7 @@ pub fn decide(reply: &[u8], room: usize) -> Result<Decision<'_>, Refusal>
     ensures of_reply { IfOk result (λ decision. decision.reply ≡ reply.entry) }
     ensures decides { Decides room result (description page037 room reply.now) }
 {
-    if reply.len() > 65536 {
+    if reply.len() > outcome::MOST_BYTES {
         return Err(Refusal::ReplyTooLong);
     }
     let plan = plan_reply(reply)?;

@@ -141,7 +141,7 @@ pub fn read_sqlcard_data<'a>(reply: &'a [u8]) -> Result<Option<StatusRead<'a>>, 
     ensures gives { IfOk result (λ card. unwrap_or card success_card ≡ alone_card page037 reply.now) }
 {
     let actual = reply.len();
-    if actual > 65536 {
+    if actual > outcome::MOST_BYTES {
         return Err(Refusal::ReplyTooLong);
     }
     if reply.is_empty() || starts_null(reply) {
@@ -185,7 +185,7 @@ pub fn consume_sqlca_group(reply: &[u8]) -> Result<Group, Refusal>
     ensures takes { IfOk result (λ group. group.length ≡ group_length reply.now) }
 {
     let actual = reply.len();
-    if actual > 65536 {
+    if actual > outcome::MOST_BYTES {
         return Err(Refusal::ReplyTooLong);
     }
     if starts_null(reply) {
