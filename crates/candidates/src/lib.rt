@@ -71,7 +71,7 @@ fn kept_at(reply: &[u8], last: Option<Text>, offset: usize) -> Option<Text>
 }
 
 // Whether a length of 2 to 128 stands at `offset`. Where not, there is no candidate, and nothing else is read. By the two bytes: this is asked
-// at every byte of a reply. Of one shape with name_run's alone: what is asked at a start is another layout's there.
+// at every byte of a reply. name_run's function of this name has only the shape in common: it asks of another layout.
 #[tactic(auto, unfolding(crate::specs::Candidates::is_candidate, identifier::specs::Identifier::is_identifier), using(crate::proofs::Steps::length_at, std::proofs::Common::tests, std::proofs::lemmas::Grind::common_steps))]
 fn may_start(reply: &[u8], offset: usize) -> bool
     requires { offset + 2 ≤ length reply.now }
@@ -113,7 +113,7 @@ impl<'a> Iterator for Candidates<'a> {
     fn next(&mut self) -> Option<Text> {
         let reply = self.reply;
         let end = reply.len();
-        // No `find_map`: it was tried, and is longer. Its closure needs a requires and an ensures, and the range must be asked where it stands after it.
+        // No `find_map`: it was tried, and is longer. Its closure needs a requires and an ensures, and the range would have to tell its position.
         for offset in self.next..end.saturating_sub(1) {
             if may_start(reply, offset) {
                 if let Some(text) = kept_at(reply, self.last, offset) {

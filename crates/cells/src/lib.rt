@@ -57,7 +57,7 @@ fn append_values<const N: usize>(line: &mut Line<N>, db2_type: Db2Type)
         | Db2Type::Binary(n)
         | Db2Type::VarBinary(n)
         | Db2Type::RowId(n) => append_size(line, u64::from(n)),
-        // No text: said to the line, whose room what it holds does not pass.
+        // No text, but by `append`, which promises that what the line holds fits its room.
         _ => line.append(b""),
     }
 }
@@ -70,6 +70,7 @@ pub fn append_type<const N: usize>(line: &mut Line<N>, letters: &[u8], db2_type:
     append_values(line, db2_type);
 }
 
+// Each cell notes where it starts, writes, and pads: a function over what is written would need a clause for its closure at each.
 #[tactic(auto, using(line::proofs::Appends::text_cell))]
 fn append_type_cell<const N: usize>(
     line: &mut Line<N>,

@@ -56,7 +56,8 @@ pub struct Described {
     pub next: usize,
 }
 
-// How many columns a run of descriptors has, and how many of them have names that are not generated. Two numbers, as others are with other meanings.
+// How many columns a run of descriptors has, and how many of them have names that are not generated. compact_table's
+// `Table` and others are two numbers too, of other meanings.
 #[derive(Clone, Copy, Debug, PartialEq, Eq)]
 pub struct Run {
     pub count: usize,
@@ -214,7 +215,7 @@ pub fn column_of(numbers: &[u64]) -> ColumnMetadata
     }
 }
 
-// What a lent list of columns holds before they are filled in. No Default: it is of no more use than that, and says nothing of a column.
+// What a lent list of columns holds before they are filled in. No `Default`: it only fills a list, and is no column's default.
 #[tactic(auto, unfolding(crate::specs::Column::blank_column))]
 pub fn blank_column() -> ColumnMetadata
     ensures { result ≡ blank_column }

@@ -61,6 +61,7 @@ pub fn put_column_words(column: ColumnMetadata, words: &mut [u64], at: usize)
     column::put_values(&words_of(&column), &mut words[at..]);
 }
 
+// No `TryFrom`: a list is tested once, and its columns are then read by place.
 fn numbers_fit(words: &ColumnWords) -> bool
     ensures { result ≡ numbers_fit words.now 0 }
 {

@@ -39,7 +39,7 @@ impl ColumnList for &[ColumnMetadata] {
     }
 }
 
-// Whether two columns are cut from a row alike, whatever their CCSIDs.
+// Whether two columns are cut from a row alike, whatever their CCSIDs. By hand, as six of the record's thirteen fields count, and a derive takes all.
 fn coarse_column(c: &ColumnMetadata, d: &ColumnMetadata) -> bool
     ensures { result ≡ coarse_column c.now d.now }
 {
@@ -58,7 +58,7 @@ pub fn same_column(c: &ColumnMetadata, d: &ColumnMetadata) -> bool
     coarse_column(c, d) & (c.ccsid == d.ccsid)
 }
 
-// Whether the columns at place `i` of two lists are cut from a row alike. Two lists that are compared, here and below, and no pair: nothing keeps both.
+// Whether the columns at place `i` of two lists are cut from a row alike. Two lists that are compared, here and below: nothing keeps both as a pair.
 fn same_at<L: ColumnList + Copy>(a: L, b: L, i: usize) -> bool
     requires first { i < length (L.columns a) }
     requires second { i < length (L.columns b) }

@@ -54,7 +54,8 @@ fn is_name_char(character: u8) -> bool
 }
 
 // Whether a name's length byte stands at a position of the descriptor that ends at `end`. Name characters stand up to `stop` where it is past
-// the position: they were tested behind an earlier one and are not tested again. It is lent: a struct of it and of the answer would be made for each byte.
+// the position: they were tested behind an earlier one and are not tested again. It is lent: a struct of it and of the answer would be made for
+// each byte.
 #[tactic(auto, using(crate::proofs::Laws::name_size, crate::proofs::Laws::name_over, crate::proofs::Stops::stops_later, crate::proofs::Stops::name_known))]
 fn name_here(reply: &[u8], end: usize, offset: usize, stop: &mut usize) -> bool
     requires in_range { (offset < end) × (end ≤ length reply.now) }

@@ -10,13 +10,14 @@ ghost use Rattle.compact_table.specs.Table.{in_bounds, ff_at, looks_compact, nex
 use column::Sqldagrp;
 use field::ByteOrder;
 
-// Where the first descriptor stands, and how many the table declares. A run of names has two such numbers, but its count is of what was found.
+// Where the first descriptor stands, and how many the table declares. name_run's `NameRun` has two such numbers too, but counts what was found.
 #[derive(Clone, Copy, Debug, PartialEq, Eq)]
 pub struct Table {
     pub start: usize,
     pub count: usize,
 }
 
+// Large objects by the numbers of their base types: which they are, is asked before the type is searched for.
 fn in_bounds(numbers: Sqldagrp) -> bool
     ensures { result ≡ in_bounds numbers.sql_type numbers.precision numbers.scale numbers.raw_length }
 {
@@ -115,6 +116,7 @@ pub fn next_ff(reply: &[u8], offset: usize, end: usize) -> Option<usize>
     first_byte(reply, offset, end, |byte| byte == 0xFF)
 }
 
+// Another than compact's search for FF FF FF: of one shape, but a function over the test would need its clauses again at each.
 // None where the descriptor has no next.
 #[tactic(auto, using(crate::proofs::Laws::next_at, crate::proofs::Laws::next_is, crate::proofs::Skips::found, crate::proofs::Skips::not_found, crate::proofs::Skips::found_some, crate::proofs::Skips::found_none, crate::proofs::Skips::by_ff_found, crate::proofs::Skips::by_ff_more, crate::proofs::Skips::by_ff_none, crate::proofs::Skips::ff_is, crate::proofs::Skips::no_next))]
 pub fn next_compact_descriptor_offset(reply: &[u8], offset: usize) -> Option<usize>

@@ -23,7 +23,7 @@ struct Widths {
     schema: usize,
 }
 
-// How many characters a column's text has, one a byte; `-` stands for none.
+// How many characters a column's text has, one a byte; `-` stands for none. A generated name is counted, and written later: a width is asked before.
 fn text_width(column: ColumnMetadata, text: Text) -> usize {
     if text.alphabet == 0 {
         let digits = decimal::digits_of(u64::from(column.number) + 1);

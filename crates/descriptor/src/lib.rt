@@ -1,6 +1,7 @@
 // Standard descriptors (SQLDAROW): one at a position of a reply, where their count stands, and runs of them. Only places are read here, no text
 // is decoded.
-// Each of its flags may be missing where the reply ends. Where it cannot be read, the error is how many bytes were expected.
+// A descriptor's flags may be missing where the reply ends. Where a part of it cannot be read, the error is how many bytes were expected; no error
+// type has this number, which is the definitions' position past the end.
 // Readers ask for a reply and a position in it: each goes on where another ended, and a type of both would be made for each call. A struct for
 // each group, though some have the same types: the names of their fields are those of the document.
 #![tactic(auto)]
@@ -47,7 +48,7 @@ fn within(reply: &[u8], next: usize) -> Result<usize, usize>
     Ok(next)
 }
 
-// Past SQLUDTGRP: nothing of it is kept. Inlined, as each reader of a descriptor is: 0.96 times the instructions of a name scan.
+// Past SQLUDTGRP: nothing of it is kept. Inlined, as the readers of the other groups are: 0.96 times the instructions of a name scan.
 #[tactic(auto, using(crate::proofs::Flags::start_room, crate::proofs::Flags::end_held, crate::proofs::Flags::end_gone), unfolding(crate::specs::Descriptor::udt_end))]
 #[inline(always)]
 pub fn skip_sqludtgrp(reply: &[u8], offset: usize) -> Result<usize, usize>
@@ -233,8 +234,8 @@ pub struct Step {
     pub next: usize,
 }
 
-// The error is a position past the reply's end, too, where the type is not known. A scan asks at every byte of a reply: room
-// and SQLTYPE are tested before any string is walked over.
+// The error is a position past the reply's end, too, where the type is not known: so in the definition, and so no `Option`. A scan asks at every
+// byte of a reply: room and SQLTYPE are tested before any string is walked over.
 #[tactic(auto, using(crate::proofs::Steps::step_short, crate::proofs::Steps::step_unknown, crate::proofs::Steps::step_cut, std::proofs::lemmas::Result::err_from_is_err_and))]
 pub fn descriptor_step(reply: &[u8], offset: usize, order: ByteOrder) -> Result<Step, usize>
     requires { offset ≤ length reply.now }

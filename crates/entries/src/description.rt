@@ -18,7 +18,7 @@ pub fn parse_sqldard_data(reply: &[u8], columns: &mut [u64]) -> SqldardResult
     SqldardResult::from(sqldard_words::parse_sqldard_data(reply, columns))
 }
 
-// The same with the reply's code point, which must be SQLDARD's.
+// The same with the reply's code point, which must be SQLDARD's: an entry of its own in document 01.
 pub fn parse_sqldard(code_point: u16, reply: &[u8], columns: &mut [u64]) -> SqldardResult
     ensures refuses { result.refusal ≡ in_numbers (with_code_point page037 (length columns.old / 22) code_point reply.now).refusal }
     ensures gives { result.card ≡ (with_code_point page037 (length columns.old / 22) code_point reply.now).card }

@@ -1,5 +1,5 @@
 // The entries for programs in other languages: the functions of the static library. Numbers, slices of numbers and structs with C's layout
-// cross the boundary; no function asks anything of its caller.
+// cross the boundary; no function asks anything of its caller. Each has the name of what it hands on to: these are document 01's entries.
 #![tactic(auto)]
 
 pub mod description;
@@ -18,7 +18,7 @@ use outcome::{Refusal, RefusalNumbers};
 use plan::Sqldard;
 use sqlcard::{Group, SqlCard, StatusRead};
 
-// The answers as C has them, which knows no `Result`: a refusal is numbers, and beside it stands what is given, or what counts as nothing.
+// The answers as C, which has no `Result`, takes them: a refusal is numbers, and beside it stands what is given, or what counts as nothing.
 
 // How many columns were written, 22 words each. Where the refusal's number is not 0, it is 0, and the card is that for success.
 #[repr(C)]

@@ -18,9 +18,10 @@ fn bytes_at<const N: usize>(reply: &[u8], offset: usize) -> [u8; N]
     *reply[offset..offset + N].as_array().unwrap()
 }
 
+// Reply, position and order one by one: callers move the position at each call, and a struct would be made anew for each.
 // A function for each width is plainer than a trait over u16, u32 and u64, which needs two methods for each, and a bound by Fn([u8; N]) gets no
-// proof. One from_le_bytes, over bytes that are turned round in big-endian, makes some 60 instructions of u64_at, which has five so. Each matches on the
-// order here: methods of ByteOrder would be these three matches again.
+// proof. One from_le_bytes, over bytes that are turned round in big-endian, makes some 60 instructions of u64_at, which has five so. Each matches
+// on the order here: methods of ByteOrder would be these three matches again.
 #[tactic(auto, using(crate::proofs::Numbers::big_2, crate::proofs::Numbers::little_2))]
 pub fn u16_at(reply: &[u8], offset: usize, order: ByteOrder) -> u16
     requires { offset + 2 ≤ length reply.now }
@@ -57,7 +58,7 @@ pub fn u64_at(reply: &[u8], offset: usize, order: ByteOrder) -> u64
     }
 }
 
-// The number of 32 bits in two's complement. std's cast_signed, which promises it in std's words: callers go by the document's.
+// The number of 32 bits in two's complement. By std's `cast_signed`, whose promise is in std's words; callers need the document's.
 #[tactic(auto, using(crate::proofs::Numbers::signed_is))]
 pub fn to_signed(bits: u32) -> i32
     ensures { result ≡ signed bits }

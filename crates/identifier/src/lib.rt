@@ -12,6 +12,7 @@ ghost use Rattle.identifier.specs.Identifier.{is_identifier, is_identifier_at};
 
 use text::Alphabet;
 
+// Bytes and alphabet stay apart: see text's `all_name_chars`.
 // The length is tested first: a long string is left before its characters are looked at.
 #[tactic(auto, using(crate::proofs::Identifiers::identifier_is))]
 fn is_identifier_in(bytes: &[u8], alphabet: Alphabet) -> bool
@@ -48,7 +49,8 @@ fn is_identifier_trimmed(bytes: &[u8], alphabet: Alphabet) -> bool
     is_identifier_in(&bytes[first..end], alphabet)
 }
 
-// What follows the blocks of spaces in front: in ASCII, trimming drops them anyhow. The compiler compares many bytes of a block at once.
+// What follows the blocks of spaces in front: in ASCII, trimming drops them anyhow. By blocks and no `trim_ascii_start`, as the
+// compiler compares many bytes of a block at once.
 #[tactic(auto, using(crate::proofs::Spaces::spaces_less))]
 fn after_spaces(bytes: &[u8]) -> &[u8]
     ensures { trimmed_of is_blank (chars page037 1 result.now) ≡ trimmed_of is_blank (chars page037 1 bytes.now) }
@@ -60,8 +62,8 @@ fn after_spaces(bytes: &[u8]) -> &[u8]
     left
 }
 
-// Whether the text of a string may be a name, by its bytes. It is tested in both alphabets, and only where they differ are all bytes asked which
-// of them it is.
+// Whether the text of a string may be a name, by its bytes. It is tested in both alphabets, and only where the two answers differ is it asked whether
+// all bytes are ASCII.
 #[tactic(auto, using(crate::proofs::Identifiers::at_first, crate::proofs::Identifiers::at_second, crate::proofs::Identifiers::at_both))]
 pub fn is_identifier_string(bytes: &[u8]) -> bool
     ensures { result ≡ is_identifier_at page037 bytes.now 0 (length bytes.now) }

@@ -1,6 +1,6 @@
 // A line that is put together text by text, with room for `N` bytes. What finds no room is cut off, so no caller has to know beforehand that
-// its text fits. An array with what is used of it, as a `Vec` or a `String` is on the heap; and no Display: `write!` promises what it prints of a
-// `String` alone.
+// its text fits. An array with what is used of it, as a `Vec` or a `String` is on the heap; and no Display: of a `String`
+// alone does `write!` promise what it prints.
 #![tactic(auto)]
 
 ghost use Rattle.std.specs.Prelude.{◌≡◌, ◌-◌, [], length};

@@ -110,7 +110,7 @@ pub struct Counts<'a> {
     pub before_first: usize,
 }
 
-// Both rules in one pass.
+// Both rules in one pass. A `while let`: what is asked of a text is asked together with the view that it stands in, so the view is no iterator.
 #[tactic(auto, using(crate::proofs::Lists::in_view_none, crate::proofs::Lists::in_view_some, crate::proofs::Lists::listed_none, crate::proofs::Lists::listed_yes, crate::proofs::Lists::listed_no, crate::proofs::Lists::first_in_view, crate::proofs::Lists::listed_by_few), unfolding(crate::specs::Listing::listed_by))]
 pub fn count_names(reply: &[u8]) -> Counts<'_>
     ensures returning { result.returning ≡ length (listed_by reply.now Returning) }

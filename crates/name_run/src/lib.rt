@@ -115,7 +115,8 @@ fn longer_of(best: NameRun, run: NameRun) -> NameRun
 }
 
 // Whether a layout with a name may start here: its option flag is not FF, and its first string lies in the reply. Where not, there is no run, and
-// nothing else is read. Of one shape with `candidates`' alone: what is asked at a start is another layout's there.
+// nothing else is read. `candidates`' function of this name has only the shape in common: it asks of
+// another layout.
 #[tactic(auto, using(crate::proofs::Runs::run_null, crate::proofs::Runs::run_outside))]
 fn may_start(reply: &[u8], start: usize) -> bool
     requires { start + 21 ≤ length reply.now }

@@ -14,6 +14,7 @@ use name_run::RunNames;
 use outcome::Refusal;
 use text::Text;
 
+// An enum, and no closure: which source it is, is known only at run time, and a plan keeps it.
 // Where the names are found: among the candidates, by a rule, or in a run of layouts.
 #[derive(Clone, Copy, Debug, PartialEq, Eq)]
 pub enum Source<'a> {
@@ -36,8 +37,8 @@ impl<'a> Iterator for Source<'a> {
     }
 }
 
-// So many names are to be taken from their source. The next one behind them isn't looked for. The count is a field: a method of that name is not
-// called where the iterator's own `count` takes the plan by value, and that one goes through all names.
+// So many names are to be taken from their source. The next one behind them isn't looked for. The count is a field, and no method:
+// `plan.count()` would be the iterator's, which goes through all names.
 // No `source.take(count)` by who writes them: it was tried, and is longer. Each of the two proves by itself there what `names_of_plan` says here
 // once.
 #[derive(Clone, Copy, Debug, PartialEq, Eq)]
@@ -107,7 +108,7 @@ pub fn decide(reply: &[u8], room: usize) -> Result<Plan<'_>, Refusal>
     Ok(plan)
 }
 
-// The entry name scan: how many names were written. Nothing is written where it refuses. Into words it is `name_words`', which writes a block of them
+// The entry name scan: how many names were written. Nothing is written where it refuses. `name_words` writes words, a block of them
 // for each name.
 pub fn scan_column_names(reply: &[u8], names: &mut [Text]) -> Result<usize, Refusal>
     ensures refuses { refusal_in result ≡ (name_scan page037 (length names.old) reply.now).refusal }

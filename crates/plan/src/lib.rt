@@ -25,7 +25,7 @@ pub use decision::Decision;
 
 const SQLDARD: u16 = 0x2411;
 
-// What an entry answers once the columns are written: the status record, and how many they are. No `sqlcard::Group`, whose number is a place.
+// What an entry answers once the columns are written: the status record, and how many they are. No `sqlcard::Group`, whose number is a length.
 #[derive(Clone, Copy, Debug, PartialEq, Eq)]
 pub struct Sqldard {
     pub card: SqlCard,
@@ -99,7 +99,7 @@ impl Reply<'_> {
         })
     }
 
-    // The only reading that may be refused: it is asked where the four before gave no column. It has none itself where the count is missing.
+    // The only reading that may be refused: it is asked where the four before gave no column. It has no column where the count is missing.
     #[tactic(auto, using(crate::proofs::Plans::last_empty, crate::proofs::Plans::last_early, crate::proofs::Plans::last_none, crate::proofs::Plans::last_is))]
     fn last_plan(self) -> Result<Plan, Refusal>
         ensures { result ≡ last_plan page037 self.entry.bytes.now }
@@ -185,7 +185,7 @@ fn scan_plan(reply: &[u8]) -> Option<Plan>
 }
 
 // The first reading with a name that is not generated, else the first that has columns, else the last reader's. In one loop: a `find` for each would
-// read a reply twice. Its limit on the reply is asked here, where a plan begins, and nowhere behind.
+// read a reply twice. The bound on the reply's length is asked here, where a plan begins, and nowhere behind.
 #[tactic(auto, using(crate::proofs::Choices::undecided_start, crate::proofs::Choices::last_wins, crate::proofs::Choices::result_counted))]
 pub fn plan_reply(reply: &[u8]) -> Result<Plan, Refusal>
     requires { length reply.now ≤ 65536 }
@@ -212,6 +212,7 @@ pub fn plan_reply(reply: &[u8]) -> Result<Plan, Refusal>
 }
 
 // Compact and scan read the status alone on the whole reply, the others take the group's. A status that is refused is that for success.
+// By the plan's flag, a Bool in the definition `Reading` too.
 #[tactic(auto, using(crate::proofs::Statuses::alone_status))]
 fn card_by(reply: &[u8], alone: bool) -> SqlCard
     ensures { result ≡ status_of page037 reply.now alone }

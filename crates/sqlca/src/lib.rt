@@ -31,7 +31,7 @@ fn all_printable(bytes: &[u8]) -> bool
     bytes.iter().all(|byte| message::is_printable(*byte))
 }
 
-// The characters of state or proc, untrimmed.
+// The characters of state or proc, untrimmed. Of a slice with a clause, and of no array: a part of the reply is a slice, whose callers would unwrap it.
 #[tactic(auto, unfolding(crate::specs::Code::fixed_chars), using(search::proofs::Over::over_whole))]
 fn fixed_chars<const N: usize>(bytes: &[u8]) -> [u8; N]
     requires { length bytes.now ≡ N }
@@ -54,7 +54,7 @@ pub struct Extension {
     pub sqlwarn: [u8; 11],
 }
 
-// A reply that starts with a SQLCA that is not null. Its extension is there as far as the reply goes.
+// A reply with the 19 bytes of a SQLCA before its extension, which is there as far as the reply goes.
 #[derive(Clone, Copy, Debug, PartialEq, Eq)]
 pub struct Sqlca<'a> {
     pub reply: &'a [u8],
@@ -173,6 +173,7 @@ impl<'a> Sqlca<'a> {
         })
     }
 
+    // By its place: the message is answered as a place in the reply.
     fn string_has_text(self, string: StringRead) -> bool
         requires inside { string.place + string.length ≤ length self.reply.now }
         requires short { string.length ≤ 65535 }

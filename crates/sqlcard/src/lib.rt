@@ -16,10 +16,11 @@ use sqlca::{Extension, Sqlca};
 use std::marker::Model;
 use strings::StringRead;
 
-// A message is its raw string's place and length in the reply, 0 and 0 where there is none: C reads these fields, which have no Option.
+// A message is its raw string's place and length in the reply, 0 and 0 where there is none: C reads these fields, and has no `Option`.
 #[repr(C)]
 #[derive(Clone, Copy, Debug, PartialEq, Eq)]
 pub struct SqlCard {
+    // A flag of its own, since C has no `Option`: the other fields are those of success then.
     pub is_null: bool,
     pub sqlcode: i32,
     pub sqlstate: [u8; 5],
@@ -169,7 +170,7 @@ pub fn parse_sqlcard_data(reply: &[u8]) -> Result<SqlCard, Refusal>
     }
 }
 
-// A status record, and how many bytes of the reply its group takes. By name: a pair would say neither.
+// A status record, and how many bytes of the reply its group takes. A struct, and no pair, which would name neither.
 #[derive(Clone, Copy, Debug, PartialEq, Eq)]
 pub struct Group {
     pub card: SqlCard,

@@ -36,7 +36,7 @@ fn searched_base(base: u16, ccsid: u16) -> u16
     }
 }
 
-// How a type that is not known is described: as VarChar, and no base type is 0.
+// How a type that is not known is described: as VarChar. A row like any other, of which nobody asks the base; no base type is 0.
 const UNKNOWN: TypeRow = TypeRow {
     base: 0,
     kind: Kind::VarChar,
@@ -158,7 +158,7 @@ pub fn type_code(db2_type: Db2Type) -> u8
     }
 }
 
-// What the type says besides: its length, its digits, or precision and scale in two bytes. One number of each, as a column's words have it.
+// What the type says besides: its length, its digits, or precision and scale in two bytes. One number for each type, as a column's words have it.
 pub fn type_value(db2_type: Db2Type) -> u64
     ensures { result ≡ value_of db2_type }
 {
@@ -176,9 +176,9 @@ pub fn type_value(db2_type: Db2Type) -> u64
     }
 }
 
-// The type with this code, and what the value says of it. Codes that are none stand for Xml, since every code has an answer here: who may hold another
-// asks `is_type` first, as column_words::column_get, which answers an Option. An arm for each type, as above: it is the same table read the other way, and
-// a search of a list of types would make them all first.
+// The type with this code, and what the value says of it. Codes that are none stand for Xml, since every code has an answer here: who may hold
+// another asks `is_type` first, as column_words::column_get, which answers an Option. An arm for each type, as above: it is the same table read
+// the other way, and a search of a list of types would make them all first.
 #[tactic(auto, unfolding(crate::specs::Codes::type_with))]
 pub fn type_with(code: u64, value: u16) -> Db2Type
     ensures { result ≡ type_with code value }

@@ -37,7 +37,7 @@ pub fn parse_sqldard_data(reply: &[u8], columns: &mut [ColumnMetadata]) -> Resul
     Ok(fill_columns(decision, columns))
 }
 
-// The same with the reply's code point, which must be SQLDARD's: an entry of its own, two lines over what the other stands on.
+// The same with the reply's code point, which must be SQLDARD's: an entry of its own in document 01.
 pub fn parse_sqldard(
     code_point: u16,
     reply: &[u8],

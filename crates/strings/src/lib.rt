@@ -15,7 +15,8 @@ pub struct StringRead {
     pub next: usize,
 }
 
-// A walker holds a reply and a position in it. Its methods are thin: each takes it apart and calls one function on the slice and the number.
+// A walker holds a reply and a position in it, as document 01 asks; plan's `Reply` has other meanings. Its one method takes it apart and calls a
+// function of slice and number. The readers below take both one by one: each goes on where another ended.
 #[derive(Clone, Copy, Debug, PartialEq, Eq)]
 pub struct Walker<'a> {
     pub reply: &'a [u8],
@@ -37,7 +38,7 @@ impl<'a> Walker<'a> {
     }
 }
 
-// None, where a group is not there: such a string stands in replies too, so it is no Option.
+// None, where a group is not there: such a string stands in replies too, so it is no Option; and no `Default`, as what is past it is given.
 pub fn no_string(next: usize) -> StringRead
     ensures { result ≡ no_string next }
 {
@@ -79,7 +80,8 @@ pub fn read_string(reply: &[u8], offset: usize) -> Result<StringRead, usize>
     Walker::new(reply, offset).string()
 }
 
-// Past `count` strings. Inlined with the pair, as their callers' groups ask: 0.94 times the instructions of descriptors with an extension.
+// Past `count` strings. Inlined, as `read_pair`: descriptors with an extension take 0.94 times the instructions. A `for`, which says no more than
+// `try_fold` would.
 #[tactic(auto, using(crate::proofs::Strings::strings_stay, crate::proofs::Strings::strings_more, crate::proofs::Strings::strings_early, crate::proofs::Strings::strings_done, crate::proofs::Strings::string_next))]
 #[inline(always)]
 pub fn skip_strings(reply: &[u8], offset: usize, count: usize) -> Result<usize, usize>

@@ -101,7 +101,7 @@ impl ColumnMetadata {
     pub const DRDA_TYPE_XML: u8 = 0xDC;
 }
 
-// Which Db2Type a row of the table stands for, without its data.
+// Which Db2Type a row of the table stands for. A second enum, since a row has no data, and a descriptor's numbers give it.
 #[derive(Clone, Copy, Debug, PartialEq, Eq)]
 pub enum Kind {
     SmallInt,
