@@ -21,11 +21,11 @@ pub fn given_part(reply: &[u8], name: Text) -> Result<&[u8], Refusal>
     ensures refuses { refusal_in result ≡ part_refusal reply.now name }
     ensures gives { IfOk result (λ part. part.now ≡ part_of reply.now name) }
 {
-    let bytes = outcome::part_of(reply, name.place, name.length)?;
-    match name.alphabet {
-        0 => Ok(&[]),
-        1 | 2 => Ok(bytes),
-        _ => Err(Refusal::OutsideReply),
+    // No `?`, behind which name part took 51 instructions for 32.
+    match outcome::part_of(reply, name.place, name.length) {
+        Ok(_) if name.alphabet == 0 => Ok(&[]),
+        Ok(_) if name.alphabet > 2 => Err(Refusal::OutsideReply),
+        part => part,
     }
 }
 
