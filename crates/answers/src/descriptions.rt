@@ -9,7 +9,8 @@ use column_words::WORDS_PER_COLUMN;
 use entries::SqldardResult;
 use std::io::Write;
 
-// `OK n=COUNT`, then the status and the columns, or the places of their texts.
+// `OK n=COUNT`, then the status and the columns, or the places of their texts. How to print and the reply, one by one: the first is the case's
+// letter, the second its payload.
 fn put_described(
     out: &mut impl Write,
     print: Print,

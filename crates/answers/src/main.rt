@@ -22,7 +22,8 @@ use lists::{Records, Replies};
 use std::io;
 use std::io::{BufReader, BufWriter, Read, Write};
 
-// Answers a case: an entry is a function and an arm. No table of functions: they take other arguments, and `out` of any type.
+// Answers a case: an entry is a function and an arm. No table of functions: they take other arguments, and `out` of any type. Writer, payload and what
+// is lent are three things that nothing keeps together.
 fn put_answer(out: &mut impl Write, case: Case, lent: &mut Lent) -> Result<(), Instead> {
     let payload = case.payload;
     match case.entry {

@@ -19,7 +19,7 @@ fn text_of(words: &[u64; 3]) -> Option<Text> {
     })
 }
 
-// N: the names. n: where they stand in the reply.
+// N: the names. n: where they stand in the reply. Which of the two, is the case's letter, and the reply its payload.
 pub(crate) fn put_names(
     out: &mut impl Write,
     print: Print,

@@ -1,6 +1,6 @@
 // The cells of a column in a table that hold its numbers, written to a line. What they hold is promised, with the column's record, so that no
-// number can stand under another's head. Functions over a line, and no methods of it: the type is `line`'s, and a trait would say each signature
-// and promise twice.
+// number can stand under another's head. By `append`, and not by `Display`: see `line`. Functions over a line, and no methods of it: the type is
+// `line`'s, and a trait would say each signature and promise twice.
 #![tactic(auto)]
 
 ghost use Rattle.std.specs.Prelude.{◌++◌, ◌≡◌, [], ◌∷◌};

@@ -40,7 +40,8 @@ pub fn read_sqldagrp(reply: &[u8], offset: usize, order: ByteOrder) -> Sqldagrp
     }
 }
 
-// What a descriptor says: its numbers as they stand in the reply, where its strings lie (length 0 where there is none), and what is past it.
+// What a descriptor says: its numbers as they stand in the reply, where its strings lie, and what is past it. Length 0
+// where there is no string, and no `Option`: such a string stands in replies too.
 #[derive(Clone, Copy, Debug, PartialEq, Eq)]
 pub struct Described {
     pub sql_type: u16,
@@ -128,7 +129,8 @@ pub fn put_values(values: &[u64], numbers: &mut [u64])
     requires { length values.now ≤ length numbers.old }
     ensures { numbers.new ≡ values.now ++ drop (length values.now) numbers.old }
 {
-    // One by one, which the compiler turns into plain stores where the length is known; copy_from_slice is a call, and tests for overlap.
+    // One by one, which the compiler turns into plain stores where the length is known; copy_from_slice is a call, and tests for overlap. Another loop
+    // than codepage's `write_chars`, which maps each byte.
     for (i, value) in values.iter().enumerate() {
         numbers[i] = *value;
     }

@@ -24,7 +24,8 @@ use field::ByteOrder;
 use strings::StringRead;
 use walks::Made;
 
-// Where what a nullable group holds starts, behind its flag. As an error what is past the group, if its flag is FF, or is missing at the reply's end.
+// Where what a nullable group holds starts, behind its flag. As an error what is past the group, if its flag is FF, or is missing at the reply's end:
+// so the definition tells the two apart.
 #[tactic(auto, unfolding(crate::specs::Nullable::group_start))]
 #[inline(always)]
 fn group_start(reply: &[u8], offset: usize) -> Result<usize, usize>

@@ -86,6 +86,7 @@ impl From<Result<Sqldard, Refusal>> for SqldardResult {
         (λ given. result ≡ record { refusal = in_numbers accepted; card = given.card; count = given.count })
         (λ refusal. result ≡ record { refusal = in_numbers (refusal_of refusal); card = success_card; count = 0 }) };
 
+    // A `match`, as below, where it is said why.
     fn from(answer: Result<Sqldard, Refusal>) -> Self {
         match answer {
             Ok(given) => SqldardResult {

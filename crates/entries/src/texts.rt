@@ -28,6 +28,7 @@ pub fn name_part(reply: &[u8], place: usize, length: usize, alphabet: u8) -> Par
         alphabet,
     };
     let part = column_name::given_part(reply, name);
+    // No `From`: where the part lies is told by the name's place, which the `Result` does not have.
     let refusal = crate::refusal_numbers(&part);
     let bytes = part.unwrap_or(&[]);
     let count = bytes.len();

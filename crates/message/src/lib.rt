@@ -122,7 +122,8 @@ impl<'a> Message<'a> {
         }
     }
 
-    // Whether a block has a character that is no blank.
+    // Whether a block has a character that is no blank. Its length is asked here and of both counts: a type for what `chunks` gives would be made anew
+    // for each block.
     fn has_character(self, block: &[u8]) -> bool
         requires block_len_bound { length block.now ≤ 128 }
         ensures { result ≡ ltb 0 (count (λ byte. not (is_blank (message_char page037 (is_ascii self.entry.alphabet) byte))) block.now) }

@@ -74,6 +74,7 @@ pub fn scan_descriptor_name(reply: &[u8], offset: usize) -> Option<ScannedName>
 }
 
 // Where a run of layouts with names starts, and how many they are. A run of none is one like any other: nobody asks whether there is a run.
+// Column's `Run` and others are two numbers too, with other meanings.
 #[derive(Clone, Copy, Debug, PartialEq, Eq)]
 pub struct NameRun {
     pub start: usize,

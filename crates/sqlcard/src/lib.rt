@@ -36,6 +36,7 @@ pub struct SqlCard {
 }
 
 impl SqlCard {
+    // No `Default`, which would not say that it is the status for success.
     pub fn success() -> Self
         ensures { result ≡ success_card }
     {

@@ -91,6 +91,7 @@ pub struct Text {
 }
 
 impl Text {
+    // No `Default`, which would not say that it is the text of no bytes.
     pub fn empty() -> Self
         ensures { result ≡ empty_text }
     {
