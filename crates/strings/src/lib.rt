@@ -15,8 +15,8 @@ pub struct StringRead {
     pub next: usize,
 }
 
-// A walker holds a reply and a position in it, as document 01 asks; plan's `Reply` has other meanings. Its one method takes it apart and calls a
-// function of slice and number. The readers below take both one by one: each goes on where another ended.
+// A walker holds a reply and a position in it, as document 01 asks. Its one method takes it apart and calls a function of slice and number. The
+// readers below take both one by one: each goes on where another ended.
 #[derive(Clone, Copy, Debug, PartialEq, Eq)]
 pub struct Walker<'a> {
     pub reply: &'a [u8],
