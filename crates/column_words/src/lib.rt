@@ -1,7 +1,8 @@
 // A column's record in 22 words of 64 bits, for programs that cannot lend a list of records.
 #![tactic(auto)]
 
-ghost use Rattle.std.specs.Prelude.{◌≡◌, true, ◌++◌, ◌+◌, ◌*◌, ◌<◌, ◌≤◌, length, take, drop};
+ghost use Rattle.std.specs.Prelude.{◌≡◌, true, ◌≤◌, length};
+ghost use Rattle.search.specs.Search.{over};
 ghost use Rattle.column_words.specs.Words.{words_of};
 ghost use Rattle.column_words.specs.Place.{column_get, column_at_place};
 ghost use Rattle.column_words.specs.Columns.{numbers_fit, alphabets_fit, is_column, column_in, are_columns};
@@ -53,12 +54,12 @@ pub fn words_of(column: &ColumnMetadata) -> ColumnWords
     ]
 }
 
-// Writes a column's words from `at` on. No `From`: it writes at a place.
-pub fn put_column_words(column: ColumnMetadata, words: &mut [u64], at: usize)
-    requires { at + 22 ≤ length words.old }
-    ensures { words.new ≡ take at words.old ++ (words_of column ++ drop (at + 22) words.old) }
+// Writes a column's words at the front. No `From`: it writes over what is lent.
+pub fn put_column_words(column: ColumnMetadata, words: &mut [u64])
+    requires { 22 ≤ length words.old }
+    ensures { words.new ≡ over (words_of column) words.old }
 {
-    column::put_values(&words_of(&column), &mut words[at..]);
+    column::put_values(&words_of(&column), words);
 }
 
 // No `TryFrom`: a list is tested once, and its columns are then read by place.

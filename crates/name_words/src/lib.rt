@@ -1,7 +1,7 @@
 // The name scan for programs that cannot lend a list of texts: each text in 3 words of 64 bits.
 #![tactic(auto)]
 
-ghost use Rattle.std.specs.Prelude.{[], ◌++◌, ◌≡◌, ◌+◌, ◌*◌, ◌/◌, ◌≤◌, MatchResult, length, take, drop};
+ghost use Rattle.std.specs.Prelude.{[], ◌≡◌, ◌*◌, ◌/◌, ◌≤◌, MatchResult, length};
 ghost use Rattle.search.specs.Search.{over};
 ghost use Rattle.codepage.specs.Page.{page037};
 ghost use Rattle.outcome.specs.Refusal.{refusal_in};
@@ -13,26 +13,24 @@ use names::Plan;
 use outcome::Refusal;
 use text::Text;
 
-// Writes a text's words from `at` on. No `From`: `Text` and `[u64; 3]` are other crates' types.
-fn put_text_words(text: Text, words: &mut [u64], at: usize)
-    requires { at + 3 ≤ length words.old }
-    ensures { words.new ≡ take at words.old ++ (words_of_text text ++ drop (at + 3) words.old) }
+// Writes a text's words at the front. No `From`: `Text` and `[u64; 3]` are other crates' types.
+fn put_text_words(text: Text, words: &mut [u64])
+    requires { 3 ≤ length words.old }
+    ensures { words.new ≡ over (words_of_text text) words.old }
 {
-    words[at..at + 3].copy_from_slice(&[
+    words[..3].copy_from_slice(&[
         text.place as u64,
         text.length as u64,
         u64::from(text.alphabet),
     ]);
 }
 
-// Writes the words of a plan's names. By places, and no `zip` with `as_chunks_mut`: an invariant cannot name the words that are lent out then.
+// Writes the words of a plan's names.
 fn fill_words(plan: Plan<'_>, words: &mut [u64])
     requires { length (names_of_plan plan) * 3 ≤ length words.old }
     ensures { words.new ≡ over (text_words (names_of_plan plan.entry)) words.old }
 {
-    for (i, text) in plan.enumerate() {
-        put_text_words(text, words, i * 3);
-    }
+    filling::fill_blocks(plan, 3, words, put_text_words);
 }
 
 // The entry name scan, with room for a text in each 3 words: how many names were written. Nothing is written where it refuses.

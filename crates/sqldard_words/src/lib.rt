@@ -13,16 +13,19 @@ use column_words::WORDS_PER_COLUMN;
 use outcome::Refusal;
 use plan::{Decision, Sqldard};
 
-// Writes a decision's columns as words. By places, and no `zip` with `as_chunks_mut`: an invariant cannot name the words that are lent out then.
+// Writes a decision's columns as words.
 fn fill_words(decision: Decision<'_>, words: &mut [u64]) -> Sqldard
     requires { length (columns_decided decision) * 22 ≤ length words.old }
     ensures gives { result.card ≡ decision.entry.card }
     ensures counts { result.count ≡ length (columns_decided decision.entry) }
     ensures fills { words.new ≡ over (all_words (columns_decided decision.entry)) words.old }
 {
-    for (i, column) in decision.columns().enumerate() {
-        column_words::put_column_words(column, words, i * WORDS_PER_COLUMN);
-    }
+    filling::fill_blocks(
+        decision.columns(),
+        WORDS_PER_COLUMN,
+        words,
+        column_words::put_column_words,
+    );
     Sqldard {
         card: decision.card,
         count: decision.count(),

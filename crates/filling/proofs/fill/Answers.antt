@@ -1,6 +1,7 @@
 -- One more item is stored, and the iterator has one less to give.
-use Rattle.std.proofs.Common.{arith}
+use Rattle.std.proofs.Common.{◌∷◌, [], refl, arith}
 use Rattle.filling.proofs.Filling.{filling_next}
+use Rattle.search.proofs.Writing.{writing_next}
 use Rattle.filling.proofs.fill.Goals as goal
 
 pub loop-i-preserved : goal.loop-i-preserved
@@ -14,5 +15,6 @@ loop-i-preserved g c =
       fits = omega (arith, inv.fits, on.2, t.1, t.2);
       filling =
           rw (t.1, t.2)
-          (filling_next g.I.Iterator.next_gives c.in-Some.item _ (omega (arith, inv.fits, on.2, inv.filling.writing.as_long)) t.0 inv.filling);
+          (filling_next g.I.Iterator.next_gives (λ all. all) c.in-Some.item _ (c.in-Some.item ∷ []) _ 1 (λ xs. refl) refl
+          (λ w. writing_next c.in-Some.item (omega (arith, inv.fits, on.2, inv.filling.writing.as_long))) t.0 inv.filling);
     }

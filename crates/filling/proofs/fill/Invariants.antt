@@ -14,5 +14,5 @@ invariant-loop-i g l =
       can : g.I.Iterator.can_next source;
       ends : IsFinite left;
       fits : i + size left ≤ length l.fn.list;
-      filling : Filling g.I.Iterator.next_gives l.fn.items source l.fn.list l.list i;
+      filling : Filling g.I.Iterator.next_gives (λ all. all) l.fn.items source l.fn.list l.list i;
     }

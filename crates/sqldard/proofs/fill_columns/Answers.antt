@@ -4,4 +4,4 @@ use Rattle.planned.specs.Columns.{columns_left}
 use Rattle.sqldard.proofs.fill_columns.Goals as goal
 
 pub returns-clause-fills : goal.returns-clause-fills
-returns-clause-fills c = filled_left columns_left _ _ _ _ c.fill.ensures c.columns.ensures
+returns-clause-fills c = filled_left columns_left (λ all. all) _ _ _ _ c.fill.ensures c.columns.ensures
