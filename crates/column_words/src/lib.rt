@@ -123,7 +123,7 @@ pub fn column_at(words: &ColumnWords) -> ColumnMetadata
     }
 }
 
-// The same, and a blank column where the words are no column's.
+// The same, and a blank column where the words are no column's, as `column_in`: programs print what they were given, and have nothing to print for none.
 #[tactic(auto, unfolding(crate::specs::Place::column_at_place))]
 pub fn column_or_blank(words: &ColumnWords) -> ColumnMetadata
     ensures { result ≡ column_at_place words.now 0 }

@@ -39,7 +39,8 @@ impl ColumnList for &[ColumnMetadata] {
     }
 }
 
-// Whether two columns are cut from a row alike, whatever their CCSIDs. By hand, as six of the record's thirteen fields count, and a derive takes all.
+// Whether two columns are cut from a row alike, whatever their CCSIDs. By hand, as five of the record's
+// thirteen fields count here, and six below; a derive takes all.
 fn coarse_column(c: &ColumnMetadata, d: &ColumnMetadata) -> bool
     ensures { result ≡ coarse_column c.now d.now }
 {

@@ -1,7 +1,7 @@
 // Standard descriptors (SQLDAROW): one at a position of a reply, where their count stands, and runs of them. Only places are read here, no text
 // is decoded.
-// A descriptor's flags may be missing where the reply ends. Where a part of it cannot be read, the error is how many bytes were expected; no error
-// type has this number, which is the definitions' position past the end.
+// A descriptor's flags may be missing where the reply ends. Where a part of it cannot be read, the error is how many bytes were expected: a
+// number, as in strings.
 // Readers ask for a reply and a position in it: each goes on where another ended, and a type of both would be made for each call. A struct for
 // each group, though some have the same types: the names of their fields are those of the document.
 #![tactic(auto)]

@@ -34,7 +34,7 @@ fn fill_words(plan: Plan<'_>, words: &mut [u64])
 }
 
 // The entry name scan, with room for a text in each 3 words: how many names were written. Nothing is written where it refuses.
-// `names` writes records: the two differ in what they write, by places.
+// `names` writes records, by another filler.
 #[tactic(auto, using(crate::proofs::Words::no_words))]
 pub fn scan_column_names(reply: &[u8], words: &mut [u64]) -> Result<usize, Refusal>
     ensures refuses { refusal_in result ≡ (name_scan page037 (length words.old / 3) reply.now).refusal }

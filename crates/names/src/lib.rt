@@ -109,7 +109,7 @@ pub fn decide(reply: &[u8], room: usize) -> Result<Plan<'_>, Refusal>
 }
 
 // The entry name scan: how many names were written. Nothing is written where it refuses. `name_words` writes words, a block of them
-// for each name.
+// for each name, by another filler.
 pub fn scan_column_names(reply: &[u8], names: &mut [Text]) -> Result<usize, Refusal>
     ensures refuses { refusal_in result ≡ (name_scan page037 (length names.old) reply.now).refusal }
     ensures counts { MatchResult result

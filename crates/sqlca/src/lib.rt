@@ -182,7 +182,7 @@ impl<'a> Sqlca<'a> {
         Message::new(&self.reply[string.place..string.place + string.length]).has_text()
     }
 
-    // The message of the three strings at `offset`; `next` is past them.
+    // The message of the three strings at `offset`; `next` is past them. The error is a number, as in strings.
     #[tactic(auto, unfolding(crate::specs::Message::message_at, crate::specs::Message::first_text, strings::specs::Strings::strings_end), using(strings::proofs::Strings::string_inside, strings::proofs::Strings::string_next, strings::proofs::Strings::string_stays))]
     pub fn message_at(self, offset: usize) -> Result<StringRead, usize>
         ensures { IsRead self.entry.reply.now (strings_end 3 self.entry.reply.now offset) (λ message. message ≡ message_at page037 self.entry.reply.now offset) result }

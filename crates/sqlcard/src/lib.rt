@@ -109,7 +109,7 @@ fn starts_null(reply: &[u8]) -> bool
     matches!(reply, [0xFF, ..])
 }
 
-// The message of a status that is read alone; `next` is past the status.
+// The message of a status that is read alone; `next` is past the status. The error is a number here and below, as in strings.
 #[tactic(auto, unfolding(crate::specs::Alone::alone_message), using(sqlca::proofs::Messages::message_next))]
 fn alone_message(sqlca: Sqlca) -> Result<StringRead, usize>
     ensures { IsRead sqlca.entry.reply.now (alone_message page037 sqlca.entry.reply.now).next (λ message. message ≡ alone_message page037 sqlca.entry.reply.now) result }

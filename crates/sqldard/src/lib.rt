@@ -12,7 +12,7 @@ use outcome::Refusal;
 use plan::{Decision, Sqldard};
 use types::ColumnMetadata;
 
-// Writes a decision's columns, and answers their status and count.
+// Writes a decision's columns, and answers their status and count. sqldard_words writes blocks of words, by another filler.
 fn fill_columns(decision: Decision<'_>, columns: &mut [ColumnMetadata]) -> Sqldard
     requires { length (columns_decided decision) ≤ length columns.old }
     ensures gives { result.card ≡ decision.entry.card }

@@ -13,7 +13,7 @@ use column_words::WORDS_PER_COLUMN;
 use outcome::Refusal;
 use plan::{Decision, Sqldard};
 
-// Writes a decision's columns as words.
+// Writes a decision's columns as words. sqldard writes records, by another filler.
 fn fill_words(decision: Decision<'_>, words: &mut [u64]) -> Sqldard
     requires { length (columns_decided decision) * 22 ≤ length words.old }
     ensures gives { result.card ≡ decision.entry.card }

@@ -1,5 +1,5 @@
 // Strings at a position of a reply. They have a 16-bit big-endian length, whatever the byte order of numbers.
-// Where the reply ends early, the error is how many bytes were expected.
+// Where the reply ends early, the error is how many bytes were expected: a number, as the definitions have it, since a struct would hold nothing else.
 #![tactic(auto)]
 
 ghost use Rattle.std.specs.Prelude.{◌≡◌, ◌≤◌, IfOk};

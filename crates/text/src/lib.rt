@@ -82,7 +82,7 @@ impl From<Alphabet> for u8 {
 }
 
 // Place and length of what trimming leaves; alphabet 0 is a generated name, 1 ASCII, 2 page 037. A number and no `Alphabet`: the words of a
-// column may hold any byte there, and the entries name text and same cut take them as they come.
+// column may hold any byte there, which name text refuses above 2 and same cut takes.
 #[derive(Clone, Copy, Debug, PartialEq, Eq)]
 pub struct Text {
     pub place: usize,
