@@ -135,7 +135,7 @@ fn group_message(sqlca: Sqlca) -> Result<StringRead, usize>
     sqlca.message_at(54)
 }
 
-// The entry status alone, its card not made yet; None where it is null. An extension counts as far as it is there.
+// The entry status alone, its card not made yet; None for success, where the status is null or the reply empty. An extension counts as far as it is there.
 #[tactic(auto, unfolding(crate::specs::Alone::alone_refusal, crate::specs::Alone::alone_card), using(crate::proofs::Alones::alone_next))]
 #[inline(always)]
 pub fn read_sqlcard_data<'a>(reply: &'a [u8]) -> Result<Option<StatusRead<'a>>, Refusal>
