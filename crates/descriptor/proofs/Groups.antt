@@ -6,19 +6,23 @@ use native.Mathlib.Omega.{arith}
 use lib.ListN.{length}
 use Rattle.std.specs.Prelude.{Ok, Err}
 use Rattle.strings.specs.declared.StringRead.{StringRead}
-use Rattle.strings.specs.Strings.{strings_end, no_string, chosen, pair_at}
-use Rattle.strings.proofs.Strings.{strings_cut, pair_next, pair_inside, chosen_inside}
+use Rattle.strings.specs.Strings.{string_end, strings_end, no_string, chosen, pair_at}
+use Rattle.strings.proofs.Strings.{strings_cut, strings_stay, string_stays, pair_next, pair_unread, pair_inside, chosen_inside}
 use Rattle.descriptor.specs.declared.Sqldxgrp.{Sqldxgrp}
 use Rattle.descriptor.specs.declared.Names.{Names}
 use Rattle.descriptor.specs.Nullable.{lenient, nullable_end, in_nullable, group_start}
 use Rattle.descriptor.specs.Descriptor.{udt_end, dx_end, dx_start, opt_end, dx_pair, opt_name, opt_label, opt_pair}
-use Rattle.descriptor.specs.Groups.{NamesAt, sqldxgrp_at, sqldoptgrp_at}
+use Rattle.descriptor.specs.Groups.{NamesAt, names_unread, sqldxgrp_at, sqldoptgrp_at}
 use Rattle.descriptor.proofs.NameStrings.{names_end}
 use Rattle.descriptor.proofs.Flags.{nullable_end_missing, end_held, end_gone, in_held, in_gone, in_nullable_all, gone_room}
 
 -- past a pair that was read
 past_pair : (s : List ℕ) (p : ℕ) (r : StringRead) → r ≡ pair_at s p → r.next ≡ strings_end 2 s p
 past_pair s p r e = ap (λ (x : StringRead). x.next) e ∙ pair_next s p
+
+-- past the reply's end no pair is read
+pair_past : (s : List ℕ) (e : ℕ) → length s < e → pair_at s e ≡ no_string e
+pair_past s e h = let k : string_end s e ≡ e = string_stays s e h in sym (pair_unread s e (rw k h)) ∙ ap no_string k
 
 module _ (s : List ℕ) (p q : ℕ) where
   -- ---- SQLDXGRP
@@ -42,8 +46,24 @@ module _ (s : List ℕ) (p q : ℕ) where
   unfolding dx_pair
   dx_pair_held k h = in_held s p q (no_string 0) (λ s p. pair_at s (strings_end k s (p + 8))) h
 
+  -- where the first k strings cannot be read, the pairs behind them cannot
+  pair_behind : (k n x : ℕ) → k ≤ n → length s < x → x ≡ strings_end k s (q + 8) → pair_at s (strings_end n s (q + 8)) ≡ no_string x
+  pair_behind k n x h l e =
+      let f : strings_end n s (q + 8) ≡ x = sym (strings_cut k n s (q + 8) h (rw (← e) l)) ∙ sym e in
+      ap (pair_at s) f ∙ pair_past s x l
+
+  pub dx_unread : (x : ℕ) (u : Sqldxgrp) → Ok q ≡ group_start s p → x ≡ strings_end 3 s (q + 8) → length s < strings_end 3 s (q + 8)
+      → u ≡ names_unread x → (u ≡ sqldxgrp_at s p) × (length s < nullable_end lenient dx_end s p)
+  dx_unread x u h e l' f =
+      let l : length s < x = omega (arith, e, l') in
+      let t : (k : ℕ) → 3 ≤ k → no_string x ≡ dx_pair k s p = λ k i. sym (dx_pair_held k h ∙ pair_behind 3 k x i l e) in
+      let n : x ≡ nullable_end lenient dx_end s p = e ∙ dx_cut h l' in (
+        f ∙ (λ i. record { base_table_name = t 3 (omega arith) i; schema_name = t 5 (omega arith) i; name = t 7 (omega arith) i; next = n i }),
+        omega (arith, n, l),
+      )
+
   module _ (h : Ok q ≡ group_start s p) (a : ℕ) (e : a ≡ strings_end 3 s (q + 8)) where
-    pub base_cut : length s < strings_end 2 s a → strings_end 2 s a ≡ nullable_end lenient dx_end s p
+    base_cut : length s < strings_end 2 s a → strings_end 2 s a ≡ nullable_end lenient dx_end s p
     unfolding strings_end
     base_cut l = let k : strings_end 2 s a ≡ strings_end 5 s (q + 8) = ap (strings_end 2 s) e in k ∙ dx_stays 5 (omega arith) h (rw (← k) l)
 
@@ -52,7 +72,23 @@ module _ (s : List ℕ) (p q : ℕ) where
       unfolding strings_end
       base_end = past_pair s a b x ∙ ap (strings_end 2 s) e
 
-      pub schema_cut : length s < strings_end 2 s b.next → strings_end 2 s b.next ≡ nullable_end lenient dx_end s p
+      base_is : b ≡ dx_pair 3 s p
+      base_is = x ∙ ap (pair_at s) e ∙ sym (dx_pair_held 3 h)
+
+      -- the base's pair is the last that is looked at
+      pub base_read : (u : Sqldxgrp) → u ≡ names_unread b.next → length s < strings_end 2 s a
+          → (record { base_table_name = b; schema_name = u.schema_name; name = u.name; next = u.next } ≡ sqldxgrp_at s p)
+          × (length s < nullable_end lenient dx_end s p)
+      base_read u f l' =
+          let l : length s < b.next = omega (arith, past_pair s a b x, l') in
+          let t : (k : ℕ) → 5 ≤ k → no_string b.next ≡ dx_pair k s p = λ k i. sym (dx_pair_held k h ∙ pair_behind 5 k b.next i l base_end) in
+          let n : b.next ≡ nullable_end lenient dx_end s p = base_end ∙ dx_stays 5 (omega arith) h (rw (← base_end) l) in (
+            (λ i. record { base_table_name = b; schema_name = (f i).schema_name; name = (f i).name; next = (f i).next })
+            ∙ (λ i. record { base_table_name = base_is i; schema_name = t 5 (omega arith) i; name = t 7 (omega arith) i; next = n i }),
+            omega (arith, n, l),
+          )
+
+      schema_cut : length s < strings_end 2 s b.next → strings_end 2 s b.next ≡ nullable_end lenient dx_end s p
       unfolding strings_end
       schema_cut l = let k : strings_end 2 s b.next ≡ strings_end 7 s (q + 8) = ap (strings_end 2 s) base_end in k ∙ dx_stays 7 (omega arith) h (rw (← k) l)
 
@@ -61,20 +97,41 @@ module _ (s : List ℕ) (p q : ℕ) where
         unfolding strings_end
         schema_end = past_pair s b.next c y ∙ ap (strings_end 2 s) base_end
 
-        pub name_cut : strings_end 2 s c.next ≡ nullable_end lenient dx_end s p
+        schema_is : c ≡ dx_pair 5 s p
+        schema_is = y ∙ ap (pair_at s) base_end ∙ sym (dx_pair_held 5 h)
+
+        -- the schema's pair is
+        pub schema_read : (u : Sqldxgrp) → u ≡ names_unread c.next → length s < strings_end 2 s b.next
+            → (record { base_table_name = b; schema_name = c; name = u.name; next = u.next } ≡ sqldxgrp_at s p)
+            × (length s < nullable_end lenient dx_end s p)
+        schema_read u f l' =
+            let l : length s < c.next = omega (arith, past_pair s b.next c y, l') in
+            let t : no_string c.next ≡ dx_pair 7 s p = sym (dx_pair_held 7 h ∙ pair_behind 7 7 c.next (omega arith) l schema_end) in
+            let n : c.next ≡ nullable_end lenient dx_end s p = schema_end ∙ dx_stays 7 (omega arith) h (rw (← schema_end) l) in (
+              (λ i. record { base_table_name = b; schema_name = c; name = (f i).name; next = (f i).next })
+              ∙ (λ i. record { base_table_name = base_is i; schema_name = schema_is i; name = t i; next = n i }),
+              omega (arith, n, l),
+            )
+
+        name_cut : strings_end 2 s c.next ≡ nullable_end lenient dx_end s p
         unfolding strings_end dx_end
         name_cut = ap (strings_end 2 s) schema_end ∙ sym (end_held s p q dx_end h)
 
-        pub dx_held : (n : StringRead) → n ≡ pair_at s c.next → strings_end 2 s c.next ≤ length s
+        dx_held : (n : StringRead) → n ≡ pair_at s c.next → record { base_table_name = b; schema_name = c; name = n; next = n.next } ≡ sqldxgrp_at s p
+        dx_held n z =
+            let v : n ≡ dx_pair 7 s p = z ∙ ap (pair_at s) schema_end ∙ sym (dx_pair_held 7 h) in
+            let f : n.next ≡ nullable_end lenient dx_end s p = past_pair s c.next n z ∙ name_cut in
+            λ i. record { base_table_name = base_is i; schema_name = schema_is i; name = v i; next = f i }
+
+        -- all pairs are read
+        pub dx_read : (n : StringRead) → n ≡ pair_at s c.next → strings_end 2 s c.next ≤ length s
             → (record { base_table_name = b; schema_name = c; name = n; next = n.next } ≡ sqldxgrp_at s p) × (nullable_end lenient dx_end s p ≤ length s)
-        dx_held n z l =
-            let z' = past_pair s c.next n z in
-            let f = name_cut in
-            let u : c ≡ pair_at s (strings_end 5 s (q + 8)) = y ∙ ap (pair_at s) base_end in
-            let v : n ≡ pair_at s (strings_end 7 s (q + 8)) = z ∙ ap (pair_at s) schema_end in (
-              cc (dx_pair_held 3 h, dx_pair_held 5 h, dx_pair_held 7 h),
-              omega (arith, f),
-            )
+        dx_read n z l = (dx_held n z, omega (arith, name_cut, l))
+
+        -- the name's is cut off
+        pub name_read : (n : StringRead) → n ≡ pair_at s c.next → length s < strings_end 2 s c.next
+            → (record { base_table_name = b; schema_name = c; name = n; next = n.next } ≡ sqldxgrp_at s p) × (length s < nullable_end lenient dx_end s p)
+        name_read n z l = (dx_held n z, omega (arith, name_cut, l))
 
   -- ---- SQLDOPTGRP
 

@@ -38,6 +38,15 @@ sqldxgrp_at s p = record {
   next = nullable_end lenient dx_end s p;
 }
 
+-- the names of a SQLDXGRP that ends before the first of them (01, Numbers of refusal: 2, the expected length)
+abbrev pub names_unread : ℕ → Sqldxgrp
+names_unread expected = record {
+  base_table_name = no_string expected;
+  schema_name = no_string expected;
+  name = no_string expected;
+  next = expected;
+}
+
 -- the SQLDOPTGRP whose flag is due at p (DRDA V1: SQLDOPTGRP; 01, Layouts: option flag)
 abbrev pub sqldoptgrp_at : List ℕ → ℕ → Sqldoptgrp
 sqldoptgrp_at s p = record {

@@ -13,11 +13,11 @@ ghost use Rattle.column.specs.Column.{name_text, StringsInside};
 ghost use Rattle.text.specs.Generated.{is_generated_text};
 ghost use Rattle.descriptor.specs.Nullable.{lenient, nullable_end, group_start};
 ghost use Rattle.descriptor.specs.Descriptor.{udt_end, dx_end, opt_end, descriptor_end, described_at};
-ghost use Rattle.descriptor.specs.Groups.{sqldxgrp_at, sqldoptgrp_at, step_of, step_at, AllEmpty, LabelAt, NamesAt};
+ghost use Rattle.descriptor.specs.Groups.{names_unread, sqldxgrp_at, sqldoptgrp_at, step_of, step_at, AllEmpty, LabelAt, NamesAt};
 ghost use Rattle.descriptor.specs.Reading.{count_at};
 ghost use Rattle.descriptor.specs.Run.{standard_walk, standard_run};
 ghost use Rattle.walks.specs.Steps.{Takes, named_walk};
-ghost use Rattle.strings.specs.Strings.{IsRead, strings_end};
+ghost use Rattle.strings.specs.Strings.{IsRead, IsReadOrCut, strings_end};
 
 use column::{Described, Run};
 use field::ByteOrder;
@@ -70,33 +70,78 @@ pub struct Sqldxgrp {
     pub next: usize,
 }
 
-#[tactic(auto, using(crate::proofs::Flags::start_room, crate::proofs::Groups::dx_cut, crate::proofs::Groups::base_cut, crate::proofs::Groups::schema_cut, crate::proofs::Groups::name_cut, crate::proofs::Groups::dx_gone, crate::proofs::Flags::end_gone))]
+// None of its names, where the reply ends early before the first.
 #[inline(always)]
-pub fn read_sqldxgrp(reply: &[u8], offset: usize) -> Result<Sqldxgrp, usize>
-    ensures { IsRead reply.now (nullable_end lenient dx_end reply.now offset) (λ extension. extension ≡ sqldxgrp_at reply.now offset) result }
+fn unread(expected: usize) -> Sqldxgrp
+    ensures { result ≡ names_unread expected }
+{
+    let none = strings::no_string(expected);
+    Sqldxgrp {
+        base_table_name: none,
+        schema_name: none,
+        name: none,
+        next: expected,
+    }
+}
+
+// As an error the names that were read before the reply ended, and in `next` how many bytes were expected.
+#[tactic(auto, using(crate::proofs::Flags::start_room, crate::proofs::Flags::end_gone, crate::proofs::Groups::dx_gone))]
+#[inline(always)]
+pub fn read_sqldxgrp(reply: &[u8], offset: usize) -> Result<Sqldxgrp, Sqldxgrp>
+    ensures { IsReadOrCut reply.now (nullable_end lenient dx_end reply.now offset) (sqldxgrp_at reply.now offset) result }
 {
     match group_start(reply, offset) {
         Ok(start) => {
-            let names = strings::skip_strings(reply, start + 8, 3)?;
-            let base_table_name = strings::read_pair(reply, names)?;
-            let schema_name = strings::read_pair(reply, base_table_name.next)?;
-            let name = strings::read_pair(reply, schema_name.next)?;
-            Ok(Sqldxgrp {
-                base_table_name,
-                schema_name,
-                name,
-                next: name.next,
-            })
+            let names = match strings::skip_strings(reply, start + 8, 3) {
+                Ok(names) => names,
+                Err(expected) => return Err(unread(expected)),
+            };
+            let base_table_name = match strings::read_pair(reply, names) {
+                Ok(base_table_name) => base_table_name,
+                Err(base_table_name) => {
+                    return Err(Sqldxgrp {
+                        base_table_name,
+                        ..unread(base_table_name.next)
+                    });
+                }
+            };
+            let schema_name = match strings::read_pair(reply, base_table_name.next) {
+                Ok(schema_name) => schema_name,
+                Err(schema_name) => {
+                    return Err(Sqldxgrp {
+                        base_table_name,
+                        schema_name,
+                        ..unread(schema_name.next)
+                    });
+                }
+            };
+            match strings::read_pair(reply, schema_name.next) {
+                Ok(name) => Ok(Sqldxgrp {
+                    base_table_name,
+                    schema_name,
+                    name,
+                    next: name.next,
+                }),
+                Err(name) => Err(Sqldxgrp {
+                    base_table_name,
+                    schema_name,
+                    name,
+                    next: name.next,
+                }),
+            }
         }
-        Err(end) => {
-            let next = within(reply, end)?;
+        Err(next) => {
             let none = strings::no_string(0);
-            Ok(Sqldxgrp {
+            let group = Sqldxgrp {
                 base_table_name: none,
                 schema_name: none,
                 name: none,
                 next,
-            })
+            };
+            if reply.len() < next {
+                return Err(group);
+            }
+            Ok(group)
         }
     }
 }
@@ -205,7 +250,8 @@ fn read_sqldoptgrp(reply: &[u8], offset: usize) -> Result<Sqldoptgrp, usize>
     match group_start(reply, offset) {
         Ok(start) => {
             let names = read_names(reply, start + 2)?;
-            let extension = read_sqldxgrp(reply, skip_sqludtgrp(reply, names.next)?)?;
+            let extension =
+                read_sqldxgrp(reply, skip_sqludtgrp(reply, names.next)?).map_err(|cut| cut.next)?;
             // The extension's name counts last.
             Ok(Sqldoptgrp {
                 name: strings::choose(names.name, extension.name),

@@ -1,7 +1,7 @@
 -- What later crates may know of a message's text.
 use mathlib.Core.Path.{◌≡◌, refl, ap}
 use mathlib.Core.Bool.{Bool, true, false}
-use mathlib.Core.List.{List, map}
+use mathlib.Core.List.{List, [], map}
 use Prim.Native.Nat.{ℕ, ◌≤◌}
 use native.Mathlib.Omega.{arith}
 use lib.Dec.{ltb}
@@ -14,6 +14,11 @@ use Rattle.message.specs.Squeezed.{squeezed}
 use Rattle.message.specs.declared.Behind.TheVariants.{Nothing}
 use Rattle.message.proofs.Squeezed.{squeezed_short}
 use Rattle.message.proofs.Blocks.{is_character, squeezed_none, squeezed_some}
+
+-- no bytes have no text
+pub has_text_empty : (page : Page) → has_text page [] ≡ false
+unfolding has_text message_text
+has_text_empty page = refl
 
 -- a text is not longer than its bytes, in either alphabet
 pub text_in_short : (page : Page) (ascii : Bool) (bs : List ℕ) → length (text_in page ascii bs) ≤ length bs

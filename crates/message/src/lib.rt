@@ -20,7 +20,7 @@ pub fn is_printable(byte: u8) -> bool
     matches!(byte, 0x20..=0x7E)
 }
 
-fn is_separator(byte: u8) -> bool
+pub fn is_separator(byte: u8) -> bool
     ensures { result ≡ is_separator byte }
 {
     matches!(byte, 0x00 | 0xFF)
@@ -62,7 +62,7 @@ fn count_block(block: &[u8]) -> Counted
 }
 
 #[tactic(auto, unfolding(crate::specs::Message::is_ascii_message), using(crate::proofs::Blocks::count_split, crate::proofs::Blocks::count_most, crate::proofs::Blocks::count_none))]
-fn is_ascii_message(bytes: &[u8]) -> bool
+pub fn is_ascii_message(bytes: &[u8]) -> bool
     requires { length bytes.now ≤ 65536 }
     ensures { result ≡ is_ascii_message bytes.now }
 {

@@ -9,7 +9,7 @@ ghost use Rattle.message.specs.Message.{is_printable, has_text};
 ghost use Rattle.sqlca.specs.Code.{is_near, code_bits, code_order, code_of, state_bytes, proc_bytes, numbers_order, fixed_chars};
 ghost use Rattle.sqlca.specs.Extension.{is_extended, numbers_from, rows_of, warnings_of, extension_in};
 ghost use Rattle.sqlca.specs.Message.{bytes_of, message_at};
-ghost use Rattle.strings.specs.Strings.{IsRead, strings_end};
+ghost use Rattle.strings.specs.Strings.{IsRead, IsReadOrCut, strings_end};
 
 use field::ByteOrder;
 use message::Message;
@@ -31,19 +31,73 @@ fn all_printable(bytes: &[u8]) -> bool
     bytes.iter().all(|byte| message::is_printable(*byte))
 }
 
-// The characters of state or proc, untrimmed. Of a slice with a clause, and of no array: a part of the reply is a slice, whose callers would unwrap it.
+// The characters of state or proc, untrimmed.
 #[tactic(auto, unfolding(crate::specs::Code::fixed_chars), using(search::proofs::Over::over_whole))]
-fn fixed_chars<const N: usize>(bytes: &[u8]) -> [u8; N]
+#[inline(always)]
+pub fn fixed_chars(bytes: &[u8], characters: &mut [u8])
+    requires { length bytes.now ≡ length characters.old }
+    ensures { characters.new ≡ fixed_chars page037 bytes.now }
+{
+    if all_printable(bytes) {
+        characters.copy_from_slice(bytes);
+    } else {
+        codepage::write_chars(bytes, characters);
+    }
+}
+
+// The same as an array. Of a slice with a clause, and of no array: a part of the reply is a slice, whose callers would unwrap it.
+fn fixed_array<const N: usize>(bytes: &[u8]) -> [u8; N]
     requires { length bytes.now ≡ N }
     ensures { result ≡ fixed_chars page037 bytes.now }
 {
     let mut characters = [0; N];
-    if all_printable(bytes) {
-        characters.copy_from_slice(bytes);
-    } else {
-        codepage::write_chars(bytes, &mut characters);
-    }
+    fixed_chars(bytes, &mut characters);
     characters
+}
+
+// By its place: the message is answered as a place in the reply.
+fn string_has_text(reply: &[u8], string: StringRead) -> bool
+    requires inside { string.place + string.length ≤ length reply.now }
+    requires short { string.length ≤ 65535 }
+    ensures { result ≡ has_text page037 (bytes_of reply.now string) }
+{
+    Message::new(&reply[string.place..string.place + string.length]).has_text()
+}
+
+// The message of the three strings at `offset`; `next` is past them. As an error m, where it is a text and s is cut off, else none, and in `next`
+// how many bytes were expected.
+#[tactic(auto, unfolding(crate::specs::Message::message_at, crate::specs::Message::first_text, strings::specs::Strings::strings_end), using(strings::proofs::Strings::string_inside, strings::proofs::Strings::string_next, strings::proofs::Strings::string_stays, strings::proofs::Strings::string_unread, crate::proofs::Messages::rdb_cut, crate::proofs::Messages::m_cut, crate::proofs::Messages::s_cut))]
+pub fn message_at(reply: &[u8], offset: usize) -> Result<StringRead, StringRead>
+    ensures { IsReadOrCut reply.now (strings_end 3 reply.now offset) (message_at page037 reply.now offset) result }
+{
+    let rdb = match strings::read_string(reply, offset) {
+        Ok(rdb) => rdb,
+        Err(expected) => return Err(strings::no_string(expected)),
+    };
+    let m = match strings::read_string(reply, rdb.next) {
+        Ok(m) => m,
+        Err(expected) => return Err(strings::no_string(expected)),
+    };
+    match strings::read_string(reply, m.next) {
+        Ok(s) => {
+            if string_has_text(reply, m) {
+                return Ok(StringRead { next: s.next, ..m });
+            }
+            if string_has_text(reply, s) {
+                return Ok(s);
+            }
+            Ok(strings::no_string(s.next))
+        }
+        Err(expected) => {
+            if string_has_text(reply, m) {
+                return Err(StringRead {
+                    next: expected,
+                    ..m
+                });
+            }
+            Err(strings::no_string(expected))
+        }
+    }
 }
 
 // The numbers, rows updated and warnings of an extension.
@@ -101,13 +155,13 @@ impl<'a> Sqlca<'a> {
     pub fn sqlstate(self) -> [u8; 5]
         ensures { result ≡ fixed_chars page037 (state_bytes self.entry.reply.now) }
     {
-        fixed_chars(&self.reply[5..10])
+        fixed_array(&self.reply[5..10])
     }
 
     pub fn sqlerrproc(self) -> [u8; 8]
         ensures { result ≡ fixed_chars page037 (proc_bytes self.entry.reply.now) }
     {
-        fixed_chars(&self.reply[10..18])
+        fixed_array(&self.reply[10..18])
     }
 
     #[tactic(auto, unfolding(crate::specs::Code::numbers_order))]
@@ -173,29 +227,11 @@ impl<'a> Sqlca<'a> {
         })
     }
 
-    // By its place: the message is answered as a place in the reply.
-    fn string_has_text(self, string: StringRead) -> bool
-        requires inside { string.place + string.length ≤ length self.reply.now }
-        requires short { string.length ≤ 65535 }
-        ensures { result ≡ has_text page037 (bytes_of self.entry.reply.now string) }
-    {
-        Message::new(&self.reply[string.place..string.place + string.length]).has_text()
-    }
-
     // The message of the three strings at `offset`; `next` is past them. The error is a number, as in strings.
-    #[tactic(auto, unfolding(crate::specs::Message::message_at, crate::specs::Message::first_text, strings::specs::Strings::strings_end), using(strings::proofs::Strings::string_inside, strings::proofs::Strings::string_next, strings::proofs::Strings::string_stays))]
+    #[tactic(auto, using(crate::proofs::Messages::message_next))]
     pub fn message_at(self, offset: usize) -> Result<StringRead, usize>
         ensures { IsRead self.entry.reply.now (strings_end 3 self.entry.reply.now offset) (λ message. message ≡ message_at page037 self.entry.reply.now offset) result }
     {
-        let rdb = strings::read_string(self.reply, offset)?;
-        let m = strings::read_string(self.reply, rdb.next)?;
-        let s = strings::read_string(self.reply, m.next)?;
-        if self.string_has_text(m) {
-            return Ok(StringRead { next: s.next, ..m });
-        }
-        if self.string_has_text(s) {
-            return Ok(s);
-        }
-        Ok(strings::no_string(s.next))
+        message_at(self.reply, offset).map_err(|cut| cut.next)
     }
 }

@@ -6,7 +6,7 @@ use mathlib.Core.List.{List}
 use mathlib.Core.Bool.{Bool, true, false}
 use lib.Dec.{ltb, leb, eqb}
 use lib.ListN.{length}
-use borrow.Author.Tests.{lt-ltb, le-ltb, le-leb, eq-eqb, ne_eqb, ltb-true, ltb-false, leb-true}
+use borrow.Author.Tests.{lt-ltb, lt-leb, le-ltb, le-leb, eq-eqb, ne_eqb, ltb-true, ltb-false, leb-true}
 use Rattle.search.specs.Search.{pick}
 use Rattle.field.specs.declared.ByteOrder.TheVariants.{BigEndian}
 use Rattle.strings.specs.declared.StringRead.{StringRead}
@@ -15,7 +15,7 @@ use Rattle.std.proofs.Common.{rules}
 use Rattle.std.specs.Prelude.{Result, Ok, Err, IsOk}
 use Rattle.std.specs.Result.{result_ok}
 use Rattle.std.proofs.Common.{Some}
-use Rattle.strings.specs.Strings.{IsRead, string_end, strings_end, no_string, string_at, chosen, pair_at}
+use Rattle.strings.specs.Strings.{IsRead, IsReadOrCut, string_end, strings_end, no_string, string_at, chosen, pair_at}
 
 -- ---- what is read
 
@@ -32,9 +32,20 @@ module _ {A : Type 0} (s : List ℕ) (end : ℕ) (Is : A → Type 0) where
   pub read_is : (r : Result A ℕ) → IsRead s end Is r → (x : A) → r ≡ Ok x → Is x
   read_is r h x e = (subst (IsRead s end Is) e h).0
 
+-- also by its `ok()`, where what is cut off is told too
+pub some_whole : {A : Type 0} (s : List ℕ) (end : ℕ) (w : A) (r : Result A A) → IsReadOrCut s end w r → (x : A) → result_ok r ≡ Some x
+    → (x ≡ w) × (end ≤ length s)
+some_whole s end w (Ok y) h x e = let k : y ≡ x = cc in subst (λ z. (z ≡ w) × (end ≤ length s)) k h
+some_whole s end w (Err y) h x e = absurd cc
+
 -- ---- one string
 
 module _ (s : List ℕ) (p : ℕ) where
+  -- it cannot be read
+  pub string_unread : length s < string_end s p → no_string (string_end s p) ≡ string_at s p
+  unfolding string_at
+  string_unread h = rw (lt-leb (string_end s p) (length s) h) refl
+
   module _ (l : p ≤ length s) (h : 2 ≤ length s - p) (n : ℕ) (e : n ≡ number BigEndian 2 s p) where
     pub end_known : string_end s p ≡ p + 2 + n
     unfolding string_end
@@ -154,6 +165,15 @@ module _ (s : List ℕ) (p : ℕ) where
   pair_is a b e f =
       let n : a.next ≡ string_end s p = ap (λ (x : StringRead). x.next) e ∙ string_next s p in
       ap (λ (x : StringRead). chosen x b) e ∙ ap (chosen (string_at s p)) (f ∙ ap (string_at s) n)
+
+  -- the first cannot be read, nor can the second
+  pub pair_unread : length s < string_end s p → no_string (string_end s p) ≡ pair_at s p
+  pair_unread h =
+      let e : string_end s (string_end s p) ≡ string_end s p = string_stays s (string_end s p) h in
+      let t : no_string (string_end s p) ≡ string_at s (string_end s p) =
+          ap no_string (sym e) ∙ string_unread s (string_end s p) (rw e h) in
+      chosen_second (no_string (string_end s p)) (no_string (string_end s p)) refl
+      ∙ pair_is (no_string (string_end s p)) (no_string (string_end s p)) (string_unread s p h) t
 
   pub pair_early : length s < string_end s p → string_end s p ≡ strings_end 2 s p
   pair_early h = strings_early 2 0 s p (omega arith) h

@@ -70,6 +70,11 @@ same_plus a b c p q h = omega arith
 
 -- ---- where windows come from
 
+-- a window is one in either direction
+pub window_back : (s : List ℕ) (a : ℕ) (s' : List ℕ) (b n : ℕ) → Window s a s' b n → Window s' b s a n
+window_back s a s' b n w =
+    record { bytes = λ p q h k. sym (w.bytes q p (omega arith) (omega arith)); inside = w.inside'; inside' = w.inside }
+
 -- two replies that start alike
 pub window_front : (s t : List ℕ) (n : ℕ) → take n s ≡ take n t → n ≤ length s → n ≤ length t → Window s 0 t 0 n
 window_front s t n e h k =
@@ -87,6 +92,9 @@ window_self s n h = window_front s s n refl h h
 
 pub window_take : (s : List ℕ) (n : ℕ) → n ≤ length s → Window s 0 (take n s) 0 n
 window_take s n h = window_front s (take n s) n (sym (take-take n n s (le_refl n))) h (omega (arith, length-take-le n s h))
+
+pub window_taken : (s : List ℕ) (n : ℕ) → n ≤ length s → Window (take n s) 0 s 0 n
+window_taken s n h = window_back s 0 (take n s) 0 n (window_take s n h)
 
 -- ---- moved strings
 

@@ -20,6 +20,10 @@ strings_end (suc n) s p = strings_end n s (string_end s p)
 abbrev pub IsRead : {A : Type 0} → List ℕ → ℕ → (A → Type 0) → Result A ℕ → Type 0
 IsRead s end Is result = MatchResult result (λ x. Is x × (end ≤ length s)) (λ expected. (expected ≡ end) × (length s < end))
 
+-- the same of what is told where the reply ends early too: then it is what there is of it (01, Numbers of refusal: 2)
+abbrev pub IsReadOrCut : {A : Type 0} → List ℕ → ℕ → A → Result A A → Type 0
+IsReadOrCut s end x result = MatchResult result (λ read. (read ≡ x) × (end ≤ length s)) (λ cut. (cut ≡ x) × (length s < end))
+
 -- a string that the reply ends in: no bytes; next is the length that was expected (01, Numbers of refusal: 2)
 abbrev pub no_string : ℕ → StringRead
 no_string next = record { place = 0; length = 0; next = next }

@@ -1,9 +1,10 @@
 // Strings at a position of a reply. They have a 16-bit big-endian length, whatever the byte order of numbers.
-// Where the reply ends early, the error is how many bytes were expected: a number, as the definitions have it, since a struct would hold nothing else.
+// Where the reply ends early, the error is how many bytes were expected: a number, as the definitions have it. Of a pair it is what there is of the
+// pair, whose `next` is that number.
 #![tactic(auto)]
 
 ghost use Rattle.std.specs.Prelude.{◌≡◌, ◌≤◌, IfOk};
-ghost use Rattle.strings.specs.Strings.{IsRead, IsStringAt, no_string, strings_end, chosen, pair_at};
+ghost use Rattle.strings.specs.Strings.{IsRead, IsReadOrCut, IsStringAt, no_string, strings_end, chosen, pair_at};
 
 use field::ByteOrder;
 
@@ -109,13 +110,19 @@ pub fn choose(m: StringRead, s: StringRead) -> StringRead
     }
 }
 
-// The pair of strings at a position.
-#[tactic(auto, using(crate::proofs::Strings::pair_is, crate::proofs::Strings::pair_early, crate::proofs::Strings::pair_last))]
+// The pair of strings at a position; as an error the first of them where it has bytes and the second is cut off, else none, and in `next` how many
+// bytes were expected.
+#[tactic(auto, using(crate::proofs::Strings::pair_is, crate::proofs::Strings::pair_early, crate::proofs::Strings::pair_last, crate::proofs::Strings::pair_unread, crate::proofs::Strings::string_unread))]
 #[inline(always)]
-pub fn read_pair(reply: &[u8], offset: usize) -> Result<StringRead, usize>
-    ensures { IsRead reply.now (strings_end 2 reply.now offset) (λ pair. pair ≡ pair_at reply.now offset) result }
+pub fn read_pair(reply: &[u8], offset: usize) -> Result<StringRead, StringRead>
+    ensures { IsReadOrCut reply.now (strings_end 2 reply.now offset) (pair_at reply.now offset) result }
 {
-    let m = read_string(reply, offset)?;
-    let s = read_string(reply, m.next)?;
-    Ok(choose(m, s))
+    let m = match read_string(reply, offset) {
+        Ok(m) => m,
+        Err(expected) => return Err(no_string(expected)),
+    };
+    match read_string(reply, m.next) {
+        Ok(s) => Ok(choose(m, s)),
+        Err(expected) => Err(choose(m, no_string(expected))),
+    }
 }
