@@ -84,7 +84,7 @@ module _ (s : List ℕ) (p q : ℕ) where
           let t : (k : ℕ) → 5 ≤ k → no_string b.next ≡ dx_pair k s p = λ k i. sym (dx_pair_held k h ∙ pair_behind 5 k b.next i l base_end) in
           let n : b.next ≡ nullable_end lenient dx_end s p = base_end ∙ dx_stays 5 (omega arith) h (rw (← base_end) l) in (
             (λ i. record { base_table_name = b; schema_name = (f i).schema_name; name = (f i).name; next = (f i).next })
-            ∙ (λ i. record { base_table_name = base_is i; schema_name = t 5 (omega arith) i; name = t 7 (omega arith) i; next = n i }),
+                ∙ (λ i. record { base_table_name = base_is i; schema_name = t 5 (omega arith) i; name = t 7 (omega arith) i; next = n i }),
             omega (arith, n, l),
           )
 
@@ -109,7 +109,7 @@ module _ (s : List ℕ) (p q : ℕ) where
             let t : no_string c.next ≡ dx_pair 7 s p = sym (dx_pair_held 7 h ∙ pair_behind 7 7 c.next (omega arith) l schema_end) in
             let n : c.next ≡ nullable_end lenient dx_end s p = schema_end ∙ dx_stays 7 (omega arith) h (rw (← schema_end) l) in (
               (λ i. record { base_table_name = b; schema_name = c; name = (f i).name; next = (f i).next })
-              ∙ (λ i. record { base_table_name = base_is i; schema_name = schema_is i; name = t i; next = n i }),
+                  ∙ (λ i. record { base_table_name = base_is i; schema_name = schema_is i; name = t i; next = n i }),
               omega (arith, n, l),
             )
 

@@ -138,10 +138,10 @@ pub fn read_sqldxgrp(reply: &[u8], offset: usize) -> Result<Sqldxgrp, Sqldxgrp>
                 name: none,
                 next,
             };
-            if reply.len() < next {
-                return Err(group);
+            match within(reply, next) {
+                Ok(_) => Ok(group),
+                Err(_) => Err(group),
             }
-            Ok(group)
         }
     }
 }
@@ -250,8 +250,9 @@ fn read_sqldoptgrp(reply: &[u8], offset: usize) -> Result<Sqldoptgrp, usize>
     match group_start(reply, offset) {
         Ok(start) => {
             let names = read_names(reply, start + 2)?;
-            let extension =
-                read_sqldxgrp(reply, skip_sqludtgrp(reply, names.next)?).map_err(|cut| cut.next)?;
+            let extension = read_sqldxgrp(reply, skip_sqludtgrp(reply, names.next)?).map_err(
+                |cut| cut.next,
+            )?;
             // The extension's name counts last.
             Ok(Sqldoptgrp {
                 name: strings::choose(names.name, extension.name),

@@ -59,13 +59,15 @@ fn counted(bytes: &[u8]) -> Option<(&[u8], &[u8])>
     rest.split_at_checked(usize::from(*count))
 }
 
+// What a case shows is written as it stands there.
 fn put_cases(out: &mut impl Write, cases: &[u8]) -> io::Result<()> {
     let mut cases = cases;
     while let Some((shows, rest)) = counted(cases) {
         let Some((reply, rest)) = counted(rest) else {
             break;
         };
-        write!(out, "{}: ", Characters(shows))?;
+        out.write_all(shows)?;
+        write!(out, ": ")?;
         put_reply(out, reply)?;
         writeln!(out)?;
         cases = rest;

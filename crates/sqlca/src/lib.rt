@@ -7,7 +7,7 @@ ghost use Rattle.codepage.specs.Page.{page037};
 ghost use Rattle.field.specs.Numbers.{number, signed};
 ghost use Rattle.message.specs.Message.{is_printable, has_text};
 ghost use Rattle.sqlca.specs.Code.{is_near, code_bits, code_order, code_of, state_bytes, proc_bytes, numbers_order, fixed_chars};
-ghost use Rattle.sqlca.specs.Extension.{is_extended, numbers_from, rows_of, warnings_of, extension_in};
+ghost use Rattle.sqlca.specs.Extension.{is_extended, numbers_from, rows_of, warnings_of, extension_in, extension_of};
 ghost use Rattle.sqlca.specs.Message.{bytes_of, message_at};
 ghost use Rattle.strings.specs.Strings.{IsRead, IsReadOrCut, strings_end};
 
@@ -225,6 +225,15 @@ impl<'a> Sqlca<'a> {
             rows_updated: u32::try_from(sqlerrd[2]).unwrap_or(0),
             sqlwarn: self.sqlwarn(),
         })
+    }
+
+    // The same, all 0 where it counts as absent.
+    #[tactic(auto, unfolding(crate::specs::Extension::extension_of))]
+    #[inline(always)]
+    pub fn read_extension(self) -> Extension
+        ensures { result ≡ extension_of self.entry.reply.now }
+    {
+        self.extension().unwrap_or_default()
     }
 
     // The message of the three strings at `offset`; `next` is past them. The error is a number, as in strings.

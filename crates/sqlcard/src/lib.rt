@@ -55,7 +55,7 @@ impl SqlCard {
         }
     }
 
-    #[tactic(auto, unfolding(crate::specs::Card::card_with, sqlca::specs::Extension::extension_of))]
+    #[tactic(auto, unfolding(crate::specs::Card::card_with))]
     fn with_message(sqlca: Sqlca, message: StringRead) -> Self
         ensures { result ≡ card_with page037 sqlca.entry.reply.now message }
     {
@@ -65,7 +65,7 @@ impl SqlCard {
             sqlerrd,
             rows_updated,
             sqlwarn,
-        } = sqlca.extension().unwrap_or_default();
+        } = sqlca.read_extension();
         SqlCard {
             is_null: false,
             sqlcode: sqlca.sqlcode(),

@@ -171,7 +171,7 @@ module _ (s : List ℕ) (p : ℕ) where
   pair_unread h =
       let e : string_end s (string_end s p) ≡ string_end s p = string_stays s (string_end s p) h in
       let t : no_string (string_end s p) ≡ string_at s (string_end s p) =
-          ap no_string (sym e) ∙ string_unread s (string_end s p) (rw e h) in
+      ap no_string (sym e) ∙ string_unread s (string_end s p) (rw e h) in
       chosen_second (no_string (string_end s p)) (no_string (string_end s p)) refl
       ∙ pair_is (no_string (string_end s p)) (no_string (string_end s p)) (string_unread s p h) t
 
