@@ -4,6 +4,7 @@ use Rattle.std.proofs.lemmas.Bool.{lt-leb}
 use borrow.Author.Tests.{lt-ltb, le-ltb, ltb-true, ltb-false, leb-true, leb-false}
 use Rattle.search.specs.Search.{pick, front}
 use Rattle.search.specs.Walks.{first_of, first}
+use Rattle.search.proofs.Index.{first_more, first_found, first_done}
 use Rattle.field.specs.declared.ByteOrder.TheVariants.{BigEndian}
 use Rattle.field.specs.Numbers.{number}
 use Rattle.text.specs.declared.Text.{Text}
@@ -107,6 +108,49 @@ module _ (s : List ℕ) where
             ≡ shown (next_candidate s last p).text (candidates_from s (next_candidate s last p).text (next_candidate s last p).next)
         go true e = rw e refl
         go false e = rw e refl
+
+  -- it is the same from one position on as from the next, where none is kept
+  module _ (last : Option Text) (p : ℕ) where
+    skip_at : is_kept s last p ≡ false → next_candidate s last p ≡ next_candidate s last (p + 1)
+    unfolding next_candidate
+    skip_at e = go (ltb p (length s)) refl
+      where
+        go : (b : Bool) → ltb p (length s) ≡ b → next_candidate s last p ≡ next_candidate s last (p + 1)
+        go true f = rw (first_more (is_kept s last) (length s) p (next_at s last p) refl (ltb-true p (length s) f) e) refl
+        go false f =
+            let h = ltb-false p (length s) f in
+            let a : p ≡ next_at s last p = first_done (is_kept s last) (length s) p (next_at s last p) refl h in
+            let b : p + 1 ≡ next_at s last (p + 1) = first_done (is_kept s last) (length s) (p + 1) (next_at s last (p + 1)) refl (omega arith) in
+            rw (← a, ← b, le-ltb p (length s) h, le-ltb (p + 1) (length s) (omega arith)) refl
+
+    pub next_none_at : is_candidate s p ≡ false → next_candidate s last p ≡ next_candidate s last (p + 1)
+    unfolding is_kept
+    next_none_at e = skip_at (rw e refl)
+
+    pub next_none_kept : kept_at s last p ≡ None → next_candidate s last p ≡ next_candidate s last (p + 1)
+    unfolding kept_at
+    next_none_kept e = go (is_kept s last p) refl
+      where
+        go : (b : Bool) → is_kept s last p ≡ b → next_candidate s last p ≡ next_candidate s last (p + 1)
+        go true f = let k = rw f at e in absurd cc
+        go false f = skip_at f
+
+    pub next_one_kept : (t : Text) → p < length s → kept_at s last p ≡ Some t → next_candidate s last p ≡ record { text = Some t; next = p + 1 }
+    unfolding kept_at next_candidate
+    next_one_kept t h e = go (is_kept s last p) refl
+      where
+        go : (b : Bool) → is_kept s last p ≡ b → next_candidate s last p ≡ record { text = Some t; next = p + 1 }
+        go true f =
+            let k = rw f at e in
+            let g : string_text_at s p ≡ t = cc in
+            rw (← first_found (is_kept s last) (length s) p (next_at s last p) refl h f, lt-ltb p (length s) h, g, add-one p) refl
+        go false f = let k = rw f at e in absurd cc
+
+    pub next_none_left : length s ≤ p + 1 → next_candidate s last p ≡ record { text = None; next = length s }
+    unfolding is_candidate next_candidate
+    next_none_left h =
+        let a : p + 1 ≡ next_at s last (p + 1) = first_done (is_kept s last) (length s) (p + 1) (next_at s last (p + 1)) refl h in
+        next_none_at (rw (lt-leb (p + 2) (length s) (omega arith)) refl) ∙ rw (← a, le-ltb (p + 1) (length s) h) refl
 
 -- a call of `next` takes the first of those that are left
 pub left_next : (c d : Candidates) (r : Option Text) → YieldsCandidate c r d → left c ≡ shown r (left d)

@@ -28,9 +28,11 @@ next_candidate s last p =
 abbrev pub left : Candidates → List Text
 left c = candidates_from c.reply.now c.last c.next
 
--- a call gives the first of those that were left, and goes on in the same reply (01, Forms that must change: one candidate at a time)
+-- a call gives the first of those that were left, which is the next one, and goes on behind it, in the same reply (01, Forms that must change: one
+-- candidate at a time)
 abbrev pub YieldsCandidate : Candidates → Option Text → Candidates → Type 0
-YieldsCandidate c r d = YieldsFirst left c r d × (d.reply.now ≡ c.reply.now)
+YieldsCandidate c r d = YieldsFirst left c r d
+    × ((d.reply.now ≡ c.reply.now) × (next_candidate c.reply.now c.last c.next ≡ record { text = r; next = d.next }))
 
 -- a text in front of others; where there is none, nothing comes after it (01, Name scan)
 abbrev pub shown : Option Text → List Text → List Text
