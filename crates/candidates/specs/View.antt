@@ -1,18 +1,38 @@
 -- Candidates one at a time, with five in view (01, Forms that must change: Candidate Vec).
-use Rattle.std.specs.Prelude.{◌≡◌, Option, Some, None, List, [], ◌∷◌, ℕ, ◌+◌, ◌≤◌, length, get_or}
+use Rattle.std.specs.Prelude.{◌≡◌, Option, Some, None, List, [], ◌∷◌, ℕ, suc, ◌+◌, ◌≤◌, ltb, length, get_or}
 use Rattle.std.specs.Iterator.{YieldsFirst}
+use Rattle.search.specs.Search.{pick}
+use Rattle.search.specs.Walks.{first}
 use Rattle.text.specs.declared.Text.{Text}
 use Rattle.candidates.specs.declared.Candidates.{Candidates}
 use Rattle.candidates.specs.declared.View.{View}
-use Rattle.candidates.specs.Candidates.{candidates_from}
+use Rattle.candidates.specs.Candidates.{string_text_at, is_kept, candidates_from}
+
+-- where the next candidate's length stands, from p on; the reply's length where there is none (01, Name scan)
+abbrev pub next_at : List ℕ → Option Text → ℕ → ℕ
+next_at s last p = first (is_kept s last) p (length s)
+
+-- a candidate, if there is one, and the position from which to look for the next one (01, Forms that must change: one candidate at a time)
+pub record Candidate : Type 0 where
+  pub text : Option Text
+  pub next : ℕ
+
+-- the next candidate from p on, behind the last one kept, and where to go on (01, Name scan)
+unfoldable pub next_candidate : List ℕ → Option Text → ℕ → Candidate
+next_candidate s last p =
+    pick (ltb (next_at s last p) (length s))
+    (record { text = Some (string_text_at s (next_at s last p)); next = suc (next_at s last p) })
+    (record { text = None; next = length s })
 
 -- the candidates that are still to come (01, Name scan)
 abbrev pub left : Candidates → List Text
 left c = candidates_from c.reply.now c.last c.next
 
--- a call gives the first of those that were left, and goes on in the same reply (01, Forms that must change: one candidate at a time)
+-- a call gives the first of those that were left, which is the next one, and goes on behind it, in the same reply (01, Forms that must change: one
+-- candidate at a time)
 abbrev pub YieldsCandidate : Candidates → Option Text → Candidates → Type 0
-YieldsCandidate c r d = YieldsFirst left c r d × (d.reply.now ≡ c.reply.now)
+YieldsCandidate c r d = YieldsFirst left c r d
+    × ((d.reply.now ≡ c.reply.now) × (next_candidate c.reply.now c.last c.next ≡ record { text = r; next = d.next }))
 
 -- a text in front of others; where there is none, nothing comes after it (01, Name scan)
 abbrev pub shown : Option Text → List Text → List Text

@@ -1,11 +1,11 @@
 // Candidates for names: strings of the reply by their 16-bit length, whatever they stand in. They are found one at a time, with five in view.
 #![tactic(auto)]
 
-ghost use Rattle.std.specs.Prelude.{false, ◌≡◌, ◌+◌, ◌≤◌, length};
+ghost use Rattle.std.specs.Prelude.{ℕ, None, false, ◌≡◌, ◌+◌, ◌≤◌, ◌<◌, length, get_or};
+ghost use Rattle.std.specs.Option.{ForSome};
 ghost use Rattle.std.specs.Iterator.{item_count};
 ghost use Rattle.text.specs.Text.{bytes_of};
 ghost use Rattle.candidates.specs.Candidates.{same_text, repeats, is_candidate, is_near_repeat, kept_at, candidates};
-ghost use Rattle.candidates.specs.View.{left, YieldsCandidate, text_at, reply_of, behind, in_view};
 
 use field::ByteOrder;
 use text::{Alphabet, Text};
@@ -86,9 +86,12 @@ pub struct Candidates<'a> {
     reply: &'a [u8],
     last: Option<Text>,
     next: usize,
+    ghost in_reply: { next ≤ length reply.now },
 }
 
 impl<'a> Candidates<'a> {
+    ghost use Rattle.candidates.specs.View.{left};
+
     #[tactic(auto, unfolding(crate::specs::Candidates::candidates))]
     pub fn of(reply: &'a [u8]) -> Self
         ensures left { left result ≡ candidates reply.now }
@@ -103,13 +106,15 @@ impl<'a> Candidates<'a> {
 }
 
 impl<'a> Iterator for Candidates<'a> {
+    ghost use Rattle.candidates.specs.View.{left, YieldsCandidate};
+
     type Item = Text;
 
     ghost next_gives = { YieldsCandidate };
 
     ghost remaining = { item_count left };
 
-    #[tactic(auto, using(crate::proofs::Steps::none_at, crate::proofs::Steps::none_kept, crate::proofs::Steps::one_kept, crate::proofs::Steps::none_left))]
+    #[tactic(auto, using(crate::proofs::Steps::none_at, crate::proofs::Steps::none_kept, crate::proofs::Steps::one_kept, crate::proofs::Steps::none_left, crate::proofs::Steps::next_none_at, crate::proofs::Steps::next_none_kept, crate::proofs::Steps::next_none_left))]
     fn next(&mut self) -> Option<Text> {
         let reply = self.reply;
         let end = reply.len();
@@ -128,15 +133,18 @@ impl<'a> Iterator for Candidates<'a> {
     }
 }
 
-// Five candidates that follow each other, and those after them. Where there is none, there is none after it.
+// Five candidates that follow each other, and those after them. Where there is none, there is none after it. All lie in the reply.
 // What works on them is inlined, here and in `listing`: called, the search for 1323 names takes 1.11 times the instructions.
 #[derive(Clone, Copy, Debug, PartialEq, Eq)]
 pub struct View<'a> {
     pub texts: [Option<Text>; 5],
     rest: Candidates<'a>,
+    pub ghost within: { (k : ℕ) → ForSome (get_or texts k None) (λ text. text.place + text.length ≤ length rest.reply.now) },
 }
 
 impl<'a> View<'a> {
+    ghost use Rattle.candidates.specs.View.{next_candidate, text_at, reply_of, behind, in_view};
+
     // The view of a reply's first candidates.
     #[tactic(auto, using(crate::proofs::Steps::left_next), unfolding(crate::specs::View::in_view, crate::specs::View::behind))]
     pub fn of(reply: &'a [u8]) -> Self
@@ -175,6 +183,8 @@ impl<'a> View<'a> {
     #[inline(always)]
     pub fn shift(&mut self)
         ensures in_view { in_view self.new ≡ behind self.old }
+        ensures moves { (k : ℕ) → k < 4 → text_at self.new k ≡ text_at self.old (k + 1) }
+        ensures finds { next_candidate (reply_of self.old) self.old.rest.last self.old.rest.next ≡ record { text = text_at self.new 4; next = self.new.rest.next } }
         ensures same_reply { reply_of self.new ≡ reply_of self.old }
     {
         // Looked for first: the others need not wait in memory until it is found.

@@ -5,10 +5,10 @@ use Rattle.search.specs.Search.{pick, front}
 use Rattle.text.specs.declared.Text.{Text}
 use Rattle.candidates.specs.declared.View.{View}
 use Rattle.candidates.specs.Candidates.{string_text_at, is_kept, candidates_in, candidates_from, candidates}
-use Rattle.candidates.specs.View.{shown, text_at, behind, in_view}
+use Rattle.candidates.specs.View.{shown, text_at, reply_of, behind, in_view}
 use Rattle.listing.specs.declared.Rule.{Rule}
 use Rattle.listing.specs.declared.Listing.{Listing}
-use Rattle.listing.specs.Listing.{is_listed, after, unlisted, listed, listed_by}
+use Rattle.listing.specs.Listing.{is_listed, after, unlisted, listed, listed_by, InsideListing}
 
 -- ---- how many there are at most
 
@@ -44,6 +44,10 @@ listed_by_few s rule =
 
 -- ---- one candidate
 
+-- n are listed before the view v, and with those from there on they are all
+abbrev pub Counting : List ℕ → Rule → View → Listing → ℕ → Type 0
+Counting s rule v z n = n + length (listed s rule z (in_view v)) ≡ length (listed_by s rule)
+
 -- none is in view, or the first heads those behind it
 pub in_view_none : (v : View) → text_at v 0 ≡ None → in_view v ≡ []
 unfolding in_view
@@ -73,6 +77,21 @@ module _ (s : List ℕ) (rule : Rule) (z : Listing) where
   pub listed_no : (x : Text) (l : List Text) → is_listed s rule z x l ≡ false → listed s rule z (x ∷ l) ≡ listed s rule (after z x false) l
   unfolding listed
   listed_no x l e = rw e refl
+
+-- what a rule knows behind the first candidate in view lies in the reply
+pub inside_after : (v : View) (r : List ℕ) (z z' : Listing) (x : Text) (b : Bool)
+    → InsideListing (reply_of v) z → text_at v 0 ≡ Some x → z' ≡ after z x b → r ≡ reply_of v → InsideListing r z'
+unfolding after
+inside_after v r z z' x b h e f g = rw (g, f) (go b)
+  where
+    go : (b : Bool) → InsideListing (reply_of v) (after z x b)
+    go true = record { first = h.first; last = λ t k. v.within 0 t (e ∙ k) }
+    go false = record { first = h.first; last = h.last }
+
+-- n are listed before the view v, and where none is in view these are all
+pub counting_done : (s : List ℕ) (rule : Rule) (v : View) (z : Listing) (n : ℕ) → Counting s rule v z n → text_at v 0 ≡ None → n ≡ length (listed_by s rule)
+unfolding listed
+counting_done s rule v z n c e = omega (arith, c, ap (λ (l : List Text). length (listed s rule z l)) (in_view_none v e))
 
 -- n are listed before the view v, m in all: behind its first candidate x, which is listed if b says so, k more are
 pub counting_more : (s r : List ℕ) (rule : Rule) (z z' : Listing) (v : View) (x : Text) (l : List Text) (b : Bool) (n k m : ℕ)

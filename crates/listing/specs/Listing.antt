@@ -1,10 +1,12 @@
 -- Which candidates are names: two rules, each over the candidates in order (01, Name scan).
-use Rattle.std.specs.Prelude.{Bool, not, ◌&&◌, ◌||◌, Option, Some, None, List, [], ◌∷◌, ℕ, ◌-◌, eqb, leb, length, get_or, slice_get}
+use Rattle.std.specs.Prelude.{◌≡◌, Bool, not, ◌&&◌, ◌||◌, Option, Some, None, List, [], ◌∷◌, ℕ, ◌-◌, eqb, leb, length, get_or, slice_get}
+use Rattle.std.specs.Option.{ForSome}
+use Rattle.std.specs.Iterator.{YieldsFirst}
 use Rattle.search.specs.Search.{pick, front}
 use Rattle.text.specs.declared.Text.{Text}
 use Rattle.text.specs.Text.{empty_text}
 use Rattle.candidates.specs.Candidates.{same_text, repeats, candidates}
-use Rattle.candidates.specs.View.{reply_of, in_view}
+use Rattle.candidates.specs.View.{TextInside, reply_of, in_view}
 use Rattle.listing.specs.declared.Rule.{Rule}
 use Rattle.listing.specs.declared.Rule.TheVariants.{Returning, BeforeFirst}
 use Rattle.listing.specs.declared.Listing.{Listing}
@@ -46,6 +48,19 @@ unlisted first = record { first = first; skip = 0; last = None }
 unfoldable pub listed_by : List ℕ → Rule → List Text
 listed_by s rule = listed s rule (unlisted (slice_get (candidates s) 0)) (candidates s)
 
+-- what a rule knows lies in the reply (01, Answers: place, length)
+pub record InsideListing (s : List ℕ) (z : Listing) : Type 0 where
+  pub first : ForSome z.first (TextInside s)
+  pub last : ForSome z.last (TextInside s)
+
+-- what holds of a list of names: all that its rule knows lies in the reply (01, Answers: place, length)
+abbrev pub WithinListed : Listed → Type 0
+WithinListed n = InsideListing (reply_of n.view) n.listing
+
 -- the names that are still to come (01, Name scan)
 abbrev pub to_come : Listed → List Text
 to_come n = listed (reply_of n.view) n.rule n.listing (in_view n.view)
+
+-- a call gives the first of those that were to come, and goes on in the same reply, as far inside it as before (01, Name scan)
+abbrev pub YieldsListed : Listed → Option Text → Listed → Type 0
+YieldsListed n r m = YieldsFirst to_come n r m × ((reply_of m.view ≡ reply_of n.view) × (WithinListed n → WithinListed m))

@@ -2,11 +2,11 @@
 #![tactic(auto)]
 
 ghost use Rattle.std.specs.Prelude.{◌≡◌, length};
-ghost use Rattle.std.specs.Iterator.{YieldsFirst, item_count};
+ghost use Rattle.std.specs.Iterator.{item_count};
 ghost use Rattle.candidates.specs.Candidates.{candidates};
 ghost use Rattle.candidates.specs.View.{text_at, reply_of, behind, in_view};
 ghost use Rattle.listing.specs.declared.Rule.TheVariants.{Returning, BeforeFirst};
-ghost use Rattle.listing.specs.Listing.{returns, is_before, is_listed, after, unlisted, listed_by, to_come};
+ghost use Rattle.listing.specs.Listing.{returns, is_before, is_listed, after, unlisted, listed, listed_by, InsideListing, to_come, YieldsListed};
 
 use candidates::View;
 use text::Text;
@@ -111,7 +111,7 @@ pub struct Counts<'a> {
 }
 
 // Both rules in one pass. A `while let`: what is asked of a text is asked together with the view that it stands in, so the view is no iterator.
-#[tactic(auto, using(crate::proofs::Lists::in_view_none, crate::proofs::Lists::in_view_some, crate::proofs::Lists::listed_none, crate::proofs::Lists::listed_yes, crate::proofs::Lists::listed_no, crate::proofs::Lists::first_in_view, crate::proofs::Lists::listed_by_few), unfolding(crate::specs::Listing::listed_by))]
+#[tactic(auto, using(crate::proofs::Lists::in_view_some, crate::proofs::Lists::listed_yes, crate::proofs::Lists::listed_no, crate::proofs::Lists::first_in_view, crate::proofs::Lists::listed_by_few), unfolding(crate::specs::Listing::listed_by))]
 pub fn count_names(reply: &[u8]) -> Counts<'_>
     ensures returning { result.returning ≡ length (listed_by reply.now Returning) }
     ensures before_first { result.before_first ≡ length (listed_by reply.now BeforeFirst) }
@@ -148,7 +148,9 @@ impl<'a> Listed<'a> {
     // Those of a reply, from the view of its first candidates on.
     #[tactic(auto, using(crate::proofs::Lists::first_in_view), unfolding(crate::specs::Listing::listed_by))]
     pub fn by(rule: Rule, view: View<'a>) -> Self
-        ensures { in_view view.entry ≡ candidates (reply_of view.entry) → to_come result ≡ listed_by (reply_of view.entry) rule }
+        ensures from_view { to_come result ≡ listed (reply_of view.entry) rule (unlisted (text_at view.entry 0)) (in_view view.entry) }
+        ensures all { in_view view.entry ≡ candidates (reply_of view.entry) → to_come result ≡ listed_by (reply_of view.entry) rule }
+        ensures within { InsideListing (reply_of view.entry) result.listing }
     {
         Listed {
             rule,
@@ -161,11 +163,11 @@ impl<'a> Listed<'a> {
 impl<'a> Iterator for Listed<'a> {
     type Item = Text;
 
-    ghost next_gives = { YieldsFirst to_come };
+    ghost next_gives = { YieldsListed };
 
     ghost remaining = { item_count to_come };
 
-    #[tactic(auto, using(crate::proofs::Lists::in_view_none, crate::proofs::Lists::in_view_some, crate::proofs::Lists::listed_none, crate::proofs::Lists::listed_yes, crate::proofs::Lists::listed_no))]
+    #[tactic(auto, using(crate::proofs::Lists::in_view_none, crate::proofs::Lists::in_view_some, crate::proofs::Lists::listed_none, crate::proofs::Lists::listed_yes, crate::proofs::Lists::listed_no, crate::proofs::Lists::inside_after))]
     fn next(&mut self) -> Option<Text> {
         while let Some(text) = self.view.first() {
             let is_listed = self.listing.step(self.rule, text, &self.view);

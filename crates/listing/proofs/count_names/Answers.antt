@@ -1,6 +1,6 @@
--- One candidate more is counted by each rule where it is listed; the view goes one on.
+-- One candidate more is counted by each rule where it is listed; the view goes one on. Where none is in view, all are counted.
 use Rattle.std.proofs.Common.{rules, sym}
-use Rattle.listing.proofs.Lists.{counting_more}
+use Rattle.listing.proofs.Lists.{counting_more, counting_done}
 use Rattle.listing.proofs.count_names.Goals as goal
 
 pub loop-text-preserved : goal.loop-text-preserved
@@ -18,3 +18,9 @@ loop-text-preserved c =
           c.from-before_first.ensures
           c.shift.ensures.in_view;
     }
+
+pub returns-clause-returning : goal.returns-clause-returning
+returns-clause-returning c = counting_done _ _ c.loop-text.view _ _ c.loop-text.invariant.returning (search rules)
+
+pub returns-clause-before_first : goal.returns-clause-before_first
+returns-clause-before_first c = counting_done _ _ c.loop-text.view _ _ c.loop-text.invariant.before_first (search rules)
