@@ -21,6 +21,15 @@ use Rattle.column.specs.Moved.{move_text, move_column}
 
 -- ---- texts
 
+-- a text that is moved keeps its length
+pub move_length : (a b : ℕ) (t : Text) → (move_text a b t).length ≡ t.length
+unfolding move_text
+move_length a b t = go (eqb t.length 0)
+  where
+    go : (u : Bool) → (pick u t (text_is (t.place - a + b) t.length t.alphabet)).length ≡ t.length
+    go true = refl
+    go false = refl
+
 pub move_text_none : (t : Text) → move_text 0 0 t ≡ t
 unfolding move_text
 move_text_none t = go (eqb t.length 0)

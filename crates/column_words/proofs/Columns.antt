@@ -1,12 +1,15 @@
 -- What words of columns say.
 use mathlib.Core.Bool.{true, and-eq-true_iff}
-use mathlib.Core.Path.{◌≡◌, refl, ap}
+use mathlib.Core.Path.{◌≡◌, refl, sym, ap, ◌∙◌}
 use mathlib.Core.List.{List}
-use Prim.Native.Nat.{ℕ, zero, suc, ◌+◌, ◌/◌, ◌<◌}
+use Prim.Native.Nat.{ℕ, zero, suc, ◌+◌, ◌*◌, ◌/◌, ◌%◌, ◌<◌}
+use native.Mathlib.Omega.{arith}
+use lib.Dec.{eqb}
 use lib.ListN.{length, get_or}
 use borrow.Author.Tests.{ltb-true}
+use Rattle.types.specs.declared.ColumnMetadata.{ColumnMetadata}
 use Rattle.sqlda.specs.Codes.{is_type}
-use Rattle.column_words.specs.Columns.{numbers_fit, alphabets_fit, is_column, columns_from, columns_in}
+use Rattle.column_words.specs.Columns.{numbers_fit, alphabets_fit, column_in, is_column, columns_from, are_from, columns_in, are_columns}
 
 -- the fields of a record that words from `at` on fit
 pub record FitsAt (w : List ℕ) (at : ℕ) : Type 0 where
@@ -56,7 +59,7 @@ fits_at w at e =
       schema = ltb-true _ _ base.1;
     }
 
--- ---- how many columns words have
+-- ---- the columns of words, by their places
 
 module _ (w : List ℕ) where
   from_length : (k at : ℕ) → length (columns_from w k at) ≡ k
@@ -64,6 +67,36 @@ module _ (w : List ℕ) where
   from_length zero at = refl
   from_length (suc k) at = ap suc (from_length k (at + 22))
 
+  from_at : (k at i : ℕ) (d : ColumnMetadata) → i < k → get_or (columns_from w k at) i d ≡ column_in w (at + i * 22)
+  unfolding columns_from
+  from_at zero at i d h = absurd (omega arith)
+  from_at (suc k) at zero d h = let e : at ≡ at + 0 * 22 = omega arith in ap (column_in w) e
+  from_at (suc k) at (suc i) d h =
+      let e : at + 22 + i * 22 ≡ at + suc i * 22 = omega arith in
+      from_at k (at + 22) i d (omega arith) ∙ ap (column_in w) e
+
+  fits_from : (k at i : ℕ) → are_from w k at ≡ true → i < k → is_column w (at + i * 22) ≡ true
+  unfolding are_from
+  fits_from zero at i t h = absurd (omega arith)
+  fits_from (suc k) at zero t h =
+      let e : at ≡ at + 0 * 22 = omega arith in
+      ap (is_column w) (sym e) ∙ ((and-eq-true_iff (is_column w at) (are_from w k (at + 22))).0 t).0
+  fits_from (suc k) at (suc i) t h =
+      let e : at + suc i * 22 ≡ at + 22 + i * 22 = omega arith in
+      ap (is_column w) e ∙ fits_from k (at + 22) i ((and-eq-true_iff (is_column w at) (are_from w k (at + 22))).0 t).1 (omega arith)
+
   pub columns_length : length (columns_in w) ≡ length w / 22
   unfolding columns_in
   columns_length = from_length (length w / 22) 0
+
+  -- column i is the one whose words start at 22 times i
+  pub columns_at : (i : ℕ) (d : ColumnMetadata) → i < length w / 22 → get_or (columns_in w) i d ≡ column_in w (i * 22)
+  unfolding columns_in
+  columns_at i d h = let e : 0 + i * 22 ≡ i * 22 = omega arith in from_at (length w / 22) 0 i d h ∙ ap (column_in w) e
+
+  -- and they fit, where all do
+  pub columns_fit : are_columns w ≡ true → (i : ℕ) → i < length w / 22 → is_column w (i * 22) ≡ true
+  unfolding are_columns
+  columns_fit t i h =
+      let e : i * 22 ≡ 0 + i * 22 = omega arith in
+      ap (is_column w) e ∙ fits_from (length w / 22) 0 i ((and-eq-true_iff (eqb (length w % 22) 0) (are_from w (length w / 22) 0)).0 t).1 h

@@ -151,5 +151,5 @@ pub fn column_get(words: &[u64], i: usize) -> Option<ColumnMetadata>
 pub fn column_in(words: &[u64], i: usize) -> ColumnMetadata
     ensures { result ≡ column_at_place words.now i }
 {
-    column_get(words, i).unwrap_or(column::blank_column())
+    column_get(words, i).unwrap_or_else(column::blank_column)
 }

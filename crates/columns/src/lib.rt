@@ -75,9 +75,9 @@ pub fn same_columns<L: ColumnList + Copy>(a: L, b: L) -> bool
     a.count() == b.count() && (0..a.count()).all(|i| same_at(a, b, i))
 }
 
-// The entry same cut.
+// What the entry same cut answers, of lists that are held in either way.
 #[tactic(auto, unfolding(crate::specs::Cut::cut_refusal, crate::specs::Cut::cut_answer))]
-pub fn same_cut<L: ColumnList + Copy>(a: L, b: L) -> Result<bool, Refusal>
+pub fn same_cut_of<L: ColumnList + Copy>(a: L, b: L) -> Result<bool, Refusal>
     ensures refuses { refusal_in result ≡ cut_refusal (L.columns a) (L.columns b) }
     ensures gives { IfOk result (λ same. same ≡ cut_answer (L.columns a) (L.columns b)) }
 {
@@ -87,9 +87,17 @@ pub fn same_cut<L: ColumnList + Copy>(a: L, b: L) -> Result<bool, Refusal>
     Ok(same_columns(a, b))
 }
 
-// The entry widest row.
+// The entry same cut, of records.
+pub fn same_cut(a: &[ColumnMetadata], b: &[ColumnMetadata]) -> Result<bool, Refusal>
+    ensures refuses { refusal_in result ≡ cut_refusal a.now b.now }
+    ensures gives { IfOk result (λ same. same ≡ cut_answer a.now b.now) }
+{
+    same_cut_of(a, b)
+}
+
+// What the entry widest row answers, of a list that is held in either way.
 #[tactic(auto, unfolding(crate::specs::Row::row_refusal))]
-pub fn widest_row<L: ColumnList + Copy>(columns: L) -> Result<usize, Refusal>
+pub fn widest_row_of<L: ColumnList + Copy>(columns: L) -> Result<usize, Refusal>
     ensures refuses { refusal_in result ≡ row_refusal (L.columns columns) }
     ensures gives { IfOk result (λ width. width ≡ row_answer (L.columns columns)) }
 {
@@ -108,4 +116,12 @@ pub fn widest_row<L: ColumnList + Copy>(columns: L) -> Result<usize, Refusal>
         width += widths::column_width(&column);
     }
     Ok(width)
+}
+
+// The entry widest row, of records.
+pub fn widest_row(columns: &[ColumnMetadata]) -> Result<usize, Refusal>
+    ensures refuses { refusal_in result ≡ row_refusal columns.now }
+    ensures gives { IfOk result (λ width. width ≡ row_answer columns.now) }
+{
+    widest_row_of(columns)
 }

@@ -1,7 +1,7 @@
 -- The table by its cases: for each way out of a function one law.
 use Prim.Native.Nat.{ℕ, ◌+◌, ◌-◌, ◌≤◌, ◌<◌}
 use native.Mathlib.Omega.{arith}
-use mathlib.Core.Path.{◌≡◌, refl, sym, ap}
+use mathlib.Core.Path.{◌≡◌, refl, sym, ap, ◌∙◌}
 use mathlib.Core.List.{List}
 use mathlib.Core.Bool.{Bool, true, false, ◌||◌, false≢true, and-false, and-eq-true_iff}
 use lib.ListN.{length}
@@ -105,6 +105,10 @@ module _ (s : List ℕ) (q : ℕ) (e : q ≡ table_at s) where
   unfolding table_of
   table_none h = rw (← e, le-ltb q (length s - 17) h) refl
 
-  pub table_is : (t : Table) → q < length s - 17 → Stands s q t → t ≡ table_of s
+  pub table_is : (n : ℕ) → q < length s - 17 → n ≡ number LittleEndian 2 s q → record { start = q + 2; count = n } ≡ table_of s
   unfolding table_of
-  table_is t h f = rw (← e, lt-ltb q (length s - 17) h) f.table
+  table_is n h f = rw (← e, lt-ltb q (length s - 17) h, f) refl
+
+  -- the same of what is found there
+  pub stands_is : (t : Table) → q < length s - 17 → Stands s q t → t ≡ table_of s
+  stands_is t h f = f.table ∙ table_is (number LittleEndian 2 s q) h refl

@@ -179,7 +179,7 @@ fn table_here(reply: &[u8], offset: usize, more: &mut bool) -> Option<Table>
 }
 
 // The first table of the reply.
-#[tactic(auto, unfolding(crate::specs::Table::table_at), using(crate::proofs::Laws::ended_first, crate::proofs::Laws::ended_later, crate::proofs::Laws::table_none, crate::proofs::Laws::table_is, crate::proofs::Laws::table_stands, crate::proofs::Laws::table_missing, search::proofs::Index::first_more, search::proofs::Index::first_found, search::proofs::Index::first_done))]
+#[tactic(auto, unfolding(crate::specs::Table::table_at), using(crate::proofs::Laws::ended_first, crate::proofs::Laws::ended_later, crate::proofs::Laws::table_none, crate::proofs::Laws::stands_is, crate::proofs::Laws::table_stands, crate::proofs::Laws::table_missing, search::proofs::Index::first_more, search::proofs::Index::first_found, search::proofs::Index::first_done))]
 pub fn find_compact_descriptor_table(reply: &[u8]) -> Option<Table>
     ensures value { unwrap_or result no_table ≡ table_of reply.now }
     ensures bounds { IfSome result (λ table. (table.start ≤ length reply.now) × ((1 ≤ table.count) × (table.count ≤ 512))) }

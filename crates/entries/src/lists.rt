@@ -24,7 +24,7 @@ pub fn same_cut(first: &[u64], second: &[u64]) -> CutResult
         return CutResult::from(Err(Refusal::ReplyTooLong));
     }
     match (WordColumns::new(first), WordColumns::new(second)) {
-        (Some(first), Some(second)) => CutResult::from(columns::same_cut(&first, &second)),
+        (Some(first), Some(second)) => CutResult::from(columns::same_cut_of(&first, &second)),
         _ => CutResult {
             refusal: RefusalNumbers::alone(NO_COLUMNS),
             same: false,
@@ -41,7 +41,7 @@ pub fn widest_row(columns: &[u64]) -> CountResult
         return CountResult::from(Err(Refusal::ReplyTooLong));
     }
     match WordColumns::new(columns) {
-        Some(columns) => CountResult::from(columns::widest_row(&columns)),
+        Some(columns) => CountResult::from(columns::widest_row_of(&columns)),
         None => CountResult {
             refusal: RefusalNumbers::alone(NO_COLUMNS),
             count: 0,

@@ -21,7 +21,7 @@ pub struct SqldaType {
 pub fn is_known_sql_type(sql_type: u16) -> bool
     ensures { result ≡ is_known sql_type }
 {
-    (384..=2437).contains(&sql_type) && types::find_type(sql_type - sql_type % 2).is_some()
+    (384..=2437).contains(&sql_type) && types::known_type(sql_type - sql_type % 2).is_some()
 }
 
 // The base type to look up: CCSID 0 says that the characters are bytes, so the character types are the binary ones.
@@ -36,13 +36,6 @@ fn searched_base(base: u16, ccsid: u16) -> u16
     }
 }
 
-// How a type that is not known is described: as VarChar. A row like any other, of which nobody asks the base; no base type is 0.
-const UNKNOWN: TypeRow = TypeRow {
-    base: 0,
-    kind: Kind::VarChar,
-    code: ColumnMetadata::DRDA_TYPE_VARCHAR,
-};
-
 // The row that describes the column: 480 below raw length 8 is Real, which has no row of its own.
 #[tactic(auto, unfolding(crate::specs::Types::row_for))]
 fn row_for(sql_type: u16, raw: u64, ccsid: u16) -> TypeRow
@@ -56,7 +49,7 @@ fn row_for(sql_type: u16, raw: u64, ccsid: u16) -> TypeRow
             code: ColumnMetadata::DRDA_TYPE_FLOAT4,
         };
     }
-    types::find_type(searched_base(base, ccsid)).unwrap_or(UNKNOWN)
+    types::find_type(searched_base(base, ccsid))
 }
 
 // A length has 16 bits: a longer raw one counts as 65,535.

@@ -135,12 +135,26 @@ pub struct TypeRow {
     pub code: u8,
 }
 
+// How a type that is not known is described: as VarChar, with base type 0, which no type has.
+const UNKNOWN: TypeRow = TypeRow {
+    base: 0,
+    kind: Kind::VarChar,
+    code: ColumnMetadata::DRDA_TYPE_VARCHAR,
+};
+
 // The row of a base type, none where the type is not known.
-pub fn find_type(base: u16) -> Option<TypeRow>
+pub fn known_type(base: u16) -> Option<TypeRow>
     ensures { MatchOption result (lookup base ≡ unknown_row) (λ row. (row ≡ lookup base) × (0 < row.base)) }
 {
     match TYPES.binary_search_by_key(&base, |row| row.base) {
         Ok(at) => Some(TYPES[at]),
         Err(_) => None,
     }
+}
+
+// The row of a base type, in every case: that of an unknown type has base type 0 and is VarChar's.
+pub fn find_type(base: u16) -> TypeRow
+    ensures { result ≡ lookup base }
+{
+    known_type(base).unwrap_or(UNKNOWN)
 }

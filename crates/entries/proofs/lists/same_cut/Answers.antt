@@ -25,7 +25,7 @@ returns-in-Some-Some-clause-refuses c =
     let first = c.in-Some-Some.ensures in
     let second = c.in-Some-Some.ensures' in
     let out = cut_read c.args.first.now c.args.second.now c.if-first-second.false first.0 second.0 in
-    c.from-in-Some-Some.ensures.0 ∙ ap in_numbers (c.same_cut.ensures.refuses ∙ rw (first.1, second.1) refl ∙ out.0)
+    c.from-in-Some-Some.ensures.0 ∙ ap in_numbers (c.same_cut_of.ensures.refuses ∙ rw (first.1, second.1) refl ∙ out.0)
 
 pub returns-in-Some-Some-clause-gives : goal.returns-in-Some-Some-clause-gives
 returns-in-Some-Some-clause-gives c =
@@ -35,7 +35,7 @@ returns-in-Some-Some-clause-gives c =
     let a = c.in-Some-Some.first in
     let b = c.in-Some-Some.second in
     c.from-in-Some-Some.ensures.1
-    ∙ value_of (λ v. v) c.same_cut.result (cut_refusal a b) (cut_answer a b) false c.same_cut.ensures.refuses (cut_none a b) c.same_cut.ensures.gives
+    ∙ value_of (λ v. v) c.same_cut_of.result (cut_refusal a b) (cut_answer a b) false c.same_cut_of.ensures.refuses (cut_none a b) c.same_cut_of.ensures.gives
     ∙ rw (first.1, second.1) refl ∙ out.1
 
 pub returns-in_default-clause-refuses : goal.returns-in_default-clause-refuses

@@ -15,7 +15,7 @@ pub returns-in-Some-clause-refuses : goal.returns-in-Some-clause-refuses
 returns-in-Some-clause-refuses c =
     let read = c.in-Some.ensures in
     let out = row_read c.args.columns.now (omega arith) read.0 in
-    c.from-in-Some.ensures.0 ∙ ap in_numbers (c.widest_row.ensures.refuses ∙ ap row_refusal read.1 ∙ out.0)
+    c.from-in-Some.ensures.0 ∙ ap in_numbers (c.widest_row_of.ensures.refuses ∙ ap row_refusal read.1 ∙ out.0)
 
 pub returns-in-Some-clause-gives : goal.returns-in-Some-clause-gives
 returns-in-Some-clause-gives c =
@@ -23,7 +23,7 @@ returns-in-Some-clause-gives c =
     let read = c.in-Some.ensures in
     let out = row_read w (omega arith) read.0 in
     c.from-in-Some.ensures.1
-    ∙ value_of (λ v. v) c.widest_row.result (row_refusal (c.in-Some.columns)) (row_answer c.in-Some.columns) 0 c.widest_row.ensures.refuses (row_none_of c.in-Some.columns) c.widest_row.ensures.gives
+    ∙ value_of (λ v. v) c.widest_row_of.result (row_refusal (c.in-Some.columns)) (row_answer c.in-Some.columns) 0 c.widest_row_of.ensures.refuses (row_none_of c.in-Some.columns) c.widest_row_of.ensures.gives
     ∙ ap row_answer read.1 ∙ out.1
 
 pub returns-in-None-clause-refuses : goal.returns-in-None-clause-refuses

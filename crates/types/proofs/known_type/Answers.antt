@@ -4,7 +4,7 @@ use Rattle.std.proofs.lemmas.List.Sorted.{answers_always}
 use Rattle.types.specs.Rows.{type_rows}
 use Rattle.types.specs.declared.TypeRow.{TypeRow}
 use Rattle.types.proofs.Rows.{row_found, row_missing}
-use Rattle.types.proofs.find_type.Goals as goal
+use Rattle.types.proofs.known_type.Goals as goal
 
 pub returns-in-Ok : goal.returns-in-Ok
 unfolding type_rows

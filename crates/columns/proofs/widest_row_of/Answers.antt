@@ -5,7 +5,7 @@ use Rattle.types.specs.declared.ColumnMetadata.{ColumnMetadata}
 use Rattle.widths.specs.Width.{is_large, column_width}
 use Rattle.columns.specs.Blank.{no_column}
 use Rattle.columns.proofs.Summing.{summing_more, row_large, row_done_refusal, row_done_answer}
-use Rattle.columns.proofs.widest_row.Goals as goal
+use Rattle.columns.proofs.widest_row_of.Goals as goal
 
 pub returns-then-is_large_column-clause-refuses : goal.returns-then-is_large_column-clause-refuses
 returns-then-is_large_column-clause-refuses g c =
