@@ -31,7 +31,9 @@ fn is_name_string(reply: &[u8], string: StringRead) -> bool
     identifier::is_identifier_string(&reply[string.place..string.place + string.length])
 }
 
-// Each is tested, in their order.
+// Each is tested, in their order. Called, so that no other answer than its own goes through memory: where the next layout starts has to be known
+// at once, or a run of layouts takes half as long again.
+#[inline(never)]
 fn first_name(reply: &[u8], strings: &[StringRead]) -> Option<StringRead>
     requires { All (Inside reply.now) strings.now }
     ensures { result ≡ find (is_name_string page037 reply.now) strings.now }
@@ -42,8 +44,8 @@ fn first_name(reply: &[u8], strings: &[StringRead]) -> Option<StringRead>
         .find(|string| is_name_string(reply, *string))
 }
 
-// The answer of a layout that can be read, by its strings. They are lent to a function of its own: its call stands behind so many ways out that the
-// compiler takes it for a rare one, and inlines nothing there.
+// The answer of a layout that can be read, by its strings.
+#[inline(always)]
 fn scanned_name(reply: &[u8], strings: &[StringRead], next: usize) -> Option<ScannedName>
     requires { All (Inside reply.now) strings.now }
     ensures { MatchOption result (find (is_name_string page037 reply.now) strings.now ≡ None) (λ scanned. (find (is_name_string page037 reply.now) strings.now ≡ Some scanned.name) × (scanned.next ≡ next)) }
