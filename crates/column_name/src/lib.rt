@@ -1,7 +1,8 @@
 // The name of a column: its own bytes, which are a part of the reply, and its text, which is written to a lent buffer.
 #![tactic(auto)]
 
-ghost use Rattle.std.specs.Prelude.{◌≡◌, ◌≤◌, length, drop, IfOk};
+ghost use Rattle.std.specs.Prelude.{◌≡◌, [], ◌≤◌, length, drop, IfOk};
+ghost use Rattle.std.specs.Result.{OnErr};
 ghost use Rattle.codepage.specs.Page.{page037};
 ghost use Rattle.outcome.specs.Refusal.{refusal_in};
 ghost use Rattle.outcome.specs.Room.{room_refusal, room_length, room_written};
@@ -20,6 +21,7 @@ use types::ColumnMetadata;
 pub fn given_part(reply: &[u8], name: Text) -> Result<&[u8], Refusal>
     ensures refuses { refusal_in result ≡ part_refusal reply.now name }
     ensures gives { IfOk result (λ part. part.now ≡ part_of reply.now name) }
+    ensures refused { OnErr result (part_of reply.now name ≡ []) }
 {
     // No `?`, behind which name part took 51 instructions for 32.
     match outcome::part_of(reply, name.place, name.length) {
@@ -33,6 +35,7 @@ pub fn given_part(reply: &[u8], name: Text) -> Result<&[u8], Refusal>
 pub fn name_part<'a>(reply: &'a [u8], column: ColumnMetadata) -> Result<&'a [u8], Refusal>
     ensures refuses { refusal_in result ≡ part_refusal reply.now column.name }
     ensures gives { IfOk result (λ part. part.now ≡ part_of reply.now column.name) }
+    ensures refused { OnErr result (part_of reply.now column.name ≡ []) }
 {
     given_part(reply, column.name)
 }
@@ -51,6 +54,7 @@ fn generated_name(number: u16) -> Digits
 fn write_text(bytes: &[u8], alphabet: Alphabet, buffer: &mut [u8]) -> Result<usize, Refusal>
     ensures refuses { refusal_in result ≡ room_refusal (chars page037 (alphabet_number alphabet) bytes.now) (length buffer.old) }
     ensures gives { IfOk result (λ n. n ≡ room_length (chars page037 (alphabet_number alphabet) bytes.now) (length buffer.old)) }
+    ensures refused { OnErr result (room_length (chars page037 (alphabet_number alphabet) bytes.now) (length buffer.old) ≡ 0) }
     ensures leaves { buffer.new ≡ room_written (chars page037 (alphabet_number alphabet) bytes.now) buffer.old }
 {
     let needed = bytes.len();
@@ -74,6 +78,7 @@ pub fn given_text(
 ) -> Result<usize, Refusal>
     ensures refuses { refusal_in result ≡ given_refusal page037 reply.now number text (length buffer.old) }
     ensures gives { IfOk result (λ n. n ≡ given_length page037 reply.now number text (length buffer.old)) }
+    ensures refused { OnErr result (given_length page037 reply.now number text (length buffer.old) ≡ 0) }
     ensures leaves { buffer.new ≡ given_written page037 reply.now number text buffer.old }
 {
     let bytes = given_part(reply, text)?;
@@ -88,6 +93,7 @@ pub fn given_text(
 pub fn name_text(reply: &[u8], column: ColumnMetadata, buffer: &mut [u8]) -> Result<usize, Refusal>
     ensures refuses { refusal_in result ≡ name_refusal page037 reply.now column (length buffer.old) }
     ensures gives { IfOk result (λ n. n ≡ name_length page037 reply.now column (length buffer.old)) }
+    ensures refused { OnErr result (name_length page037 reply.now column (length buffer.old) ≡ 0) }
     ensures leaves { buffer.new ≡ name_written page037 reply.now column buffer.old }
 {
     given_text(reply, column.number, column.name, buffer)

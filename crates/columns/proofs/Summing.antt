@@ -75,3 +75,8 @@ module _ (l : List ColumnMetadata) where
   pub row_refused : ltb most_columns (length l) ≡ true → 5 ∷ [] ≡ row_refusal l
   unfolding row_refusal
   row_refused e = rw e refl
+
+  -- where the list is refused with r, it has no widest row
+  pub row_none : (r : List ℕ) → r ≡ row_refusal l → is_refused r ≡ true → row_answer l ≡ 0
+  unfolding row_answer
+  row_none r e h = rw (← e, h) refl

@@ -1,7 +1,8 @@
 // Lists of columns: whether two make the same cut, and how wide a row can be.
 #![tactic(auto)]
 
-ghost use Rattle.std.specs.Prelude.{◌≡◌, ℕ, ◌<◌, List, length, slice_index_or, IfOk};
+ghost use Rattle.std.specs.Prelude.{◌≡◌, false, ℕ, ◌<◌, List, length, slice_index_or, IfOk};
+ghost use Rattle.std.specs.Result.{OnErr};
 ghost use Rattle.outcome.specs.Refusal.{refusal_in};
 ghost use Rattle.types.specs.declared.ColumnMetadata.{ColumnMetadata};
 ghost use Rattle.columns.specs.Blank.{no_column};
@@ -80,6 +81,7 @@ pub fn same_columns<L: ColumnList + Copy>(a: L, b: L) -> bool
 pub fn same_cut_of<L: ColumnList + Copy>(a: L, b: L) -> Result<bool, Refusal>
     ensures refuses { refusal_in result ≡ cut_refusal (L.columns a) (L.columns b) }
     ensures gives { IfOk result (λ same. same ≡ cut_answer (L.columns a) (L.columns b)) }
+    ensures refused { OnErr result (cut_answer (L.columns a) (L.columns b) ≡ false) }
 {
     if MOST_COLUMNS < a.count() || MOST_COLUMNS < b.count() {
         return Err(Refusal::ReplyTooLong);
@@ -91,6 +93,7 @@ pub fn same_cut_of<L: ColumnList + Copy>(a: L, b: L) -> Result<bool, Refusal>
 pub fn same_cut(a: &[ColumnMetadata], b: &[ColumnMetadata]) -> Result<bool, Refusal>
     ensures refuses { refusal_in result ≡ cut_refusal a.now b.now }
     ensures gives { IfOk result (λ same. same ≡ cut_answer a.now b.now) }
+    ensures refused { OnErr result (cut_answer a.now b.now ≡ false) }
 {
     same_cut_of(a, b)
 }
@@ -100,6 +103,7 @@ pub fn same_cut(a: &[ColumnMetadata], b: &[ColumnMetadata]) -> Result<bool, Refu
 pub fn widest_row_of<L: ColumnList + Copy>(columns: L) -> Result<usize, Refusal>
     ensures refuses { refusal_in result ≡ row_refusal (L.columns columns) }
     ensures gives { IfOk result (λ width. width ≡ row_answer (L.columns columns)) }
+    ensures refused { OnErr result (row_answer (L.columns columns) ≡ 0) }
 {
     if MOST_COLUMNS < columns.count() {
         return Err(Refusal::ReplyTooLong);
@@ -122,6 +126,7 @@ pub fn widest_row_of<L: ColumnList + Copy>(columns: L) -> Result<usize, Refusal>
 pub fn widest_row(columns: &[ColumnMetadata]) -> Result<usize, Refusal>
     ensures refuses { refusal_in result ≡ row_refusal columns.now }
     ensures gives { IfOk result (λ width. width ≡ row_answer columns.now) }
+    ensures refused { OnErr result (row_answer columns.now ≡ 0) }
 {
     widest_row_of(columns)
 }

@@ -2,6 +2,7 @@
 #![tactic(auto)]
 
 ghost use Rattle.std.specs.Prelude.{false, ◌≡◌, ◌+◌, ◌<◌, ◌≤◌, IfOk};
+ghost use Rattle.std.specs.Result.{OnErr};
 ghost use lib.ListN.{length};
 ghost use Rattle.std.proofs.lemmas.List.Edits.{sets};
 ghost use Rattle.search.specs.Search.{pick, over};
@@ -103,6 +104,7 @@ pub fn message_text(
 ) -> Result<usize, Refusal>
     ensures refuses { refusal_in result ≡ message_refusal page037 reply.now place length (lib.ListN.length buffer.old) }
     ensures gives { IfOk result (λ n. n ≡ message_length page037 reply.now place length (lib.ListN.length buffer.old)) }
+    ensures refused { OnErr result (message_length page037 reply.now place length (lib.ListN.length buffer.old) ≡ 0) }
     ensures leaves { buffer.new ≡ message_written page037 reply.now place length buffer.old }
 {
     let bytes = outcome::part_of(reply, place, length)?;

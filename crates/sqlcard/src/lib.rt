@@ -2,6 +2,7 @@
 #![tactic(auto)]
 
 ghost use Rattle.std.specs.Prelude.{◌≡◌, ◌<◌, ◌≤◌, length, IfOk, unwrap_or};
+ghost use Rattle.std.specs.Result.{OnErr};
 ghost use Rattle.codepage.specs.Page.{page037};
 ghost use Rattle.outcome.specs.Refusal.{refusal_in};
 ghost use Rattle.sqlcard.specs.declared.SqlCard.{SqlCard};
@@ -141,6 +142,7 @@ fn group_message(sqlca: Sqlca) -> Result<StringRead, usize>
 pub fn read_sqlcard_data<'a>(reply: &'a [u8]) -> Result<Option<StatusRead<'a>>, Refusal>
     ensures refuses { refusal_in result ≡ alone_refusal reply.now }
     ensures gives { IfOk result (λ card. unwrap_or card success_card ≡ alone_card page037 reply.now) }
+    ensures refused { OnErr result (alone_card page037 reply.now ≡ success_card) }
 {
     let actual = reply.len();
     if actual > outcome::MOST_BYTES {
@@ -163,6 +165,7 @@ pub fn read_sqlcard_data<'a>(reply: &'a [u8]) -> Result<Option<StatusRead<'a>>, 
 pub fn parse_sqlcard_data(reply: &[u8]) -> Result<SqlCard, Refusal>
     ensures refuses { refusal_in result ≡ alone_refusal reply.now }
     ensures gives { IfOk result (λ card. card ≡ alone_card page037 reply.now) }
+    ensures refused { OnErr result (alone_card page037 reply.now ≡ success_card) }
 {
     match read_sqlcard_data(reply) {
         Ok(Some(status)) => Ok(status.card()),
@@ -179,12 +182,13 @@ pub struct Group {
 }
 
 // The entry SQLCA group: an extension that is due must be there in full. Inlined as the status is: 34 instructions less.
-#[tactic(auto, unfolding(crate::specs::Group::group_refusal, crate::specs::Group::group_length, crate::specs::Group::group_end), using(crate::proofs::Groups::group_next, crate::proofs::Groups::group_null, crate::proofs::Groups::group_read))]
+#[tactic(auto, unfolding(crate::specs::Group::group_refusal, crate::specs::Group::group_card, crate::specs::Group::group_length, crate::specs::Group::group_end), using(crate::proofs::Groups::group_next, crate::proofs::Groups::group_null, crate::proofs::Groups::group_read))]
 #[inline(always)]
 pub fn consume_sqlca_group(reply: &[u8]) -> Result<Group, Refusal>
     ensures refuses { refusal_in result ≡ group_refusal reply.now }
     ensures gives { IfOk result (λ group. group.card ≡ group_card page037 reply.now) }
     ensures takes { IfOk result (λ group. group.length ≡ group_length reply.now) }
+    ensures refused { OnErr result ((group_card page037 reply.now ≡ success_card) × (group_length reply.now ≡ 0)) }
 {
     let actual = reply.len();
     if actual > outcome::MOST_BYTES {

@@ -1,10 +1,12 @@
 // The description of a reply: its status, and its columns, which are written into a list that the caller lends.
 #![tactic(auto)]
 
-ghost use Rattle.std.specs.Prelude.{◌≡◌, ◌++◌, ◌≤◌, length, drop, IfOk};
+ghost use Rattle.std.specs.Prelude.{◌≡◌, [], ◌++◌, ◌≤◌, length, drop, IfOk};
+ghost use Rattle.std.specs.Result.{OnErr};
 ghost use Rattle.search.specs.Search.{over};
 ghost use Rattle.codepage.specs.Page.{page037};
 ghost use Rattle.outcome.specs.Refusal.{refusal_in};
+ghost use Rattle.sqlcard.specs.Card.{success_card};
 ghost use Rattle.plan.specs.Decision.{columns_decided};
 ghost use Rattle.plan.specs.Description.{description, with_code_point};
 
@@ -31,6 +33,7 @@ pub fn parse_sqldard_data(reply: &[u8], columns: &mut [ColumnMetadata]) -> Resul
     ensures refuses { refusal_in result ≡ (description page037 (length columns.old) reply.now).refusal }
     ensures gives { IfOk result (λ answer. answer.card ≡ (description page037 (length columns.old) reply.now).card) }
     ensures counts { IfOk result (λ answer. answer.count ≡ length (description page037 (length columns.old) reply.now).columns) }
+    ensures refused { OnErr result (((description page037 (length columns.old) reply.now).card ≡ success_card) × ((description page037 (length columns.old) reply.now).columns ≡ [])) }
     ensures fills { columns.new ≡ over (description page037 (length columns.old) reply.now).columns columns.old }
 {
     let decision = plan::decide(reply, columns.len())?;
@@ -46,6 +49,7 @@ pub fn parse_sqldard(
     ensures refuses { refusal_in result ≡ (with_code_point page037 (length columns.old) code_point reply.now).refusal }
     ensures gives { IfOk result (λ answer. answer.card ≡ (with_code_point page037 (length columns.old) code_point reply.now).card) }
     ensures counts { IfOk result (λ answer. answer.count ≡ length (with_code_point page037 (length columns.old) code_point reply.now).columns) }
+    ensures refused { OnErr result (((with_code_point page037 (length columns.old) code_point reply.now).card ≡ success_card) × ((with_code_point page037 (length columns.old) code_point reply.now).columns ≡ [])) }
     ensures fills { columns.new ≡ over (with_code_point page037 (length columns.old) code_point reply.now).columns columns.old }
 {
     let decision = plan::decide_at(code_point, reply, columns.len())?;
