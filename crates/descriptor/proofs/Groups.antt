@@ -12,7 +12,7 @@ use Rattle.descriptor.specs.declared.Sqldxgrp.{Sqldxgrp}
 use Rattle.descriptor.specs.declared.Names.{Names}
 use Rattle.descriptor.specs.Nullable.{lenient, nullable_end, in_nullable, group_start}
 use Rattle.descriptor.specs.Descriptor.{udt_end, dx_end, dx_start, opt_end, dx_pair, opt_name, opt_label, opt_pair}
-use Rattle.descriptor.specs.Groups.{NamesAt, names_unread, sqldxgrp_at, sqldoptgrp_at}
+use Rattle.descriptor.specs.Groups.{NamesAt, with_names, sqldxgrp_at, sqldoptgrp_at}
 use Rattle.descriptor.proofs.NameStrings.{names_end}
 use Rattle.descriptor.proofs.Flags.{nullable_end_missing, end_held, end_gone, in_held, in_gone, in_nullable_all, gone_room}
 
@@ -52,14 +52,14 @@ module _ (s : List ℕ) (p q : ℕ) where
       let f : strings_end n s (q + 8) ≡ x = sym (strings_cut k n s (q + 8) h (rw (← e) l)) ∙ sym e in
       ap (pair_at s) f ∙ pair_past s x l
 
-  pub dx_unread : (x : ℕ) (u : Sqldxgrp) → Ok q ≡ group_start s p → x ≡ strings_end 3 s (q + 8) → length s < strings_end 3 s (q + 8)
-      → u ≡ names_unread x → (u ≡ sqldxgrp_at s p) × (length s < nullable_end lenient dx_end s p)
-  dx_unread x u h e l' f =
+  pub dx_unread : (x : ℕ) (n : StringRead) (u : Sqldxgrp) → Ok q ≡ group_start s p → x ≡ strings_end 3 s (q + 8) → length s < strings_end 3 s (q + 8)
+      → n ≡ no_string x → u ≡ with_names n n n → (u ≡ sqldxgrp_at s p) × (length s < nullable_end lenient dx_end s p)
+  dx_unread x n u h e l' f g =
       let l : length s < x = omega (arith, e, l') in
-      let t : (k : ℕ) → 3 ≤ k → no_string x ≡ dx_pair k s p = λ k i. sym (dx_pair_held k h ∙ pair_behind 3 k x i l e) in
-      let n : x ≡ nullable_end lenient dx_end s p = e ∙ dx_cut h l' in (
-        f ∙ (λ i. record { base_table_name = t 3 (omega arith) i; schema_name = t 5 (omega arith) i; name = t 7 (omega arith) i; next = n i }),
-        omega (arith, n, l),
+      let t : (k : ℕ) → 3 ≤ k → n ≡ dx_pair k s p = λ k i. f ∙ sym (dx_pair_held k h ∙ pair_behind 3 k x i l e) in
+      let z : n.next ≡ nullable_end lenient dx_end s p = ap (λ (r : StringRead). r.next) f ∙ e ∙ dx_cut h l' in (
+        g ∙ (λ i. record { base_table_name = t 3 (omega arith) i; schema_name = t 5 (omega arith) i; name = t 7 (omega arith) i; next = z i }),
+        omega (arith, e, dx_cut h l', l'),
       )
 
   module _ (h : Ok q ≡ group_start s p) (a : ℕ) (e : a ≡ strings_end 3 s (q + 8)) where
@@ -76,15 +76,14 @@ module _ (s : List ℕ) (p q : ℕ) where
       base_is = x ∙ ap (pair_at s) e ∙ sym (dx_pair_held 3 h)
 
       -- the base's pair is the last that is looked at
-      pub base_read : (u : Sqldxgrp) → u ≡ names_unread b.next → length s < strings_end 2 s a
-          → (record { base_table_name = b; schema_name = u.schema_name; name = u.name; next = u.next } ≡ sqldxgrp_at s p)
-          × (length s < nullable_end lenient dx_end s p)
-      base_read u f l' =
+      pub base_read : (m : StringRead) (u : Sqldxgrp) → length s < strings_end 2 s a → m ≡ no_string b.next → u ≡ with_names b m m
+          → (u ≡ sqldxgrp_at s p) × (length s < nullable_end lenient dx_end s p)
+      base_read m u l' f g =
           let l : length s < b.next = omega (arith, past_pair s a b x, l') in
-          let t : (k : ℕ) → 5 ≤ k → no_string b.next ≡ dx_pair k s p = λ k i. sym (dx_pair_held k h ∙ pair_behind 5 k b.next i l base_end) in
-          let n : b.next ≡ nullable_end lenient dx_end s p = base_end ∙ dx_stays 5 (omega arith) h (rw (← base_end) l) in (
-            (λ i. record { base_table_name = b; schema_name = (f i).schema_name; name = (f i).name; next = (f i).next })
-                ∙ (λ i. record { base_table_name = base_is i; schema_name = t 5 (omega arith) i; name = t 7 (omega arith) i; next = n i }),
+          let t : (k : ℕ) → 5 ≤ k → m ≡ dx_pair k s p = λ k i. f ∙ sym (dx_pair_held k h ∙ pair_behind 5 k b.next i l base_end) in
+          let n : b.next ≡ nullable_end lenient dx_end s p = base_end ∙ dx_stays 5 (omega arith) h (rw (← base_end) l) in
+          let z : m.next ≡ nullable_end lenient dx_end s p = ap (λ (r : StringRead). r.next) f ∙ n in (
+            g ∙ (λ i. record { base_table_name = base_is i; schema_name = t 5 (omega arith) i; name = t 7 (omega arith) i; next = z i }),
             omega (arith, n, l),
           )
 
@@ -101,15 +100,14 @@ module _ (s : List ℕ) (p q : ℕ) where
         schema_is = y ∙ ap (pair_at s) base_end ∙ sym (dx_pair_held 5 h)
 
         -- the schema's pair is
-        pub schema_read : (u : Sqldxgrp) → u ≡ names_unread c.next → length s < strings_end 2 s b.next
-            → (record { base_table_name = b; schema_name = c; name = u.name; next = u.next } ≡ sqldxgrp_at s p)
-            × (length s < nullable_end lenient dx_end s p)
-        schema_read u f l' =
+        pub schema_read : (m : StringRead) (u : Sqldxgrp) → length s < strings_end 2 s b.next → m ≡ no_string c.next → u ≡ with_names b c m
+            → (u ≡ sqldxgrp_at s p) × (length s < nullable_end lenient dx_end s p)
+        schema_read m u l' f g =
             let l : length s < c.next = omega (arith, past_pair s b.next c y, l') in
-            let t : no_string c.next ≡ dx_pair 7 s p = sym (dx_pair_held 7 h ∙ pair_behind 7 7 c.next (omega arith) l schema_end) in
-            let n : c.next ≡ nullable_end lenient dx_end s p = schema_end ∙ dx_stays 7 (omega arith) h (rw (← schema_end) l) in (
-              (λ i. record { base_table_name = b; schema_name = c; name = (f i).name; next = (f i).next })
-                  ∙ (λ i. record { base_table_name = base_is i; schema_name = schema_is i; name = t i; next = n i }),
+            let t : m ≡ dx_pair 7 s p = f ∙ sym (dx_pair_held 7 h ∙ pair_behind 7 7 c.next (omega arith) l schema_end) in
+            let n : c.next ≡ nullable_end lenient dx_end s p = schema_end ∙ dx_stays 7 (omega arith) h (rw (← schema_end) l) in
+            let z : m.next ≡ nullable_end lenient dx_end s p = ap (λ (r : StringRead). r.next) f ∙ n in (
+              g ∙ (λ i. record { base_table_name = base_is i; schema_name = schema_is i; name = t i; next = z i }),
               omega (arith, n, l),
             )
 
@@ -124,14 +122,14 @@ module _ (s : List ℕ) (p q : ℕ) where
             λ i. record { base_table_name = base_is i; schema_name = schema_is i; name = v i; next = f i }
 
         -- all pairs are read
-        pub dx_read : (n : StringRead) → n ≡ pair_at s c.next → strings_end 2 s c.next ≤ length s
-            → (record { base_table_name = b; schema_name = c; name = n; next = n.next } ≡ sqldxgrp_at s p) × (nullable_end lenient dx_end s p ≤ length s)
-        dx_read n z l = (dx_held n z, omega (arith, name_cut, l))
+        pub dx_read : (n : StringRead) (u : Sqldxgrp) → n ≡ pair_at s c.next → strings_end 2 s c.next ≤ length s → u ≡ with_names b c n
+            → (u ≡ sqldxgrp_at s p) × (nullable_end lenient dx_end s p ≤ length s)
+        dx_read n u z l g = (g ∙ dx_held n z, omega (arith, name_cut, l))
 
         -- the name's is cut off
-        pub name_read : (n : StringRead) → n ≡ pair_at s c.next → length s < strings_end 2 s c.next
-            → (record { base_table_name = b; schema_name = c; name = n; next = n.next } ≡ sqldxgrp_at s p) × (length s < nullable_end lenient dx_end s p)
-        name_read n z l = (dx_held n z, omega (arith, name_cut, l))
+        pub name_read : (n : StringRead) (u : Sqldxgrp) → n ≡ pair_at s c.next → length s < strings_end 2 s c.next → u ≡ with_names b c n
+            → (u ≡ sqldxgrp_at s p) × (length s < nullable_end lenient dx_end s p)
+        name_read n u z l g = (g ∙ dx_held n z, omega (arith, name_cut, l))
 
   -- ---- SQLDOPTGRP
 

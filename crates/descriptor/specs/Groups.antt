@@ -5,6 +5,7 @@ use Rattle.field.specs.declared.ByteOrder.{ByteOrder}
 use Rattle.field.specs.declared.ByteOrder.TheVariants.{BigEndian}
 use Rattle.field.specs.Numbers.{number}
 use Rattle.strings.specs.Strings.{strings_end, no_string, pair_at}
+use Rattle.strings.specs.declared.StringRead.{StringRead}
 use Rattle.descriptor.specs.declared.Sqldxgrp.{Sqldxgrp}
 use Rattle.descriptor.specs.declared.Label.{Label}
 use Rattle.descriptor.specs.declared.Names.{Names}
@@ -38,14 +39,9 @@ sqldxgrp_at s p = record {
   next = nullable_end lenient dx_end s p;
 }
 
--- the names of a SQLDXGRP that ends before the first of them (01, Numbers of refusal: 2, the expected length)
-abbrev pub names_unread : ℕ → Sqldxgrp
-names_unread expected = record {
-  base_table_name = no_string expected;
-  schema_name = no_string expected;
-  name = no_string expected;
-  next = expected;
-}
+-- a SQLDXGRP with these names, the last of which ends it, whether or not all of it is there (DRDA V1: SQLDXGRP)
+abbrev pub with_names : StringRead → StringRead → StringRead → Sqldxgrp
+with_names base schema name = record { base_table_name = base; schema_name = schema; name = name; next = name.next }
 
 -- the SQLDOPTGRP whose flag is due at p (DRDA V1: SQLDOPTGRP; 01, Layouts: option flag)
 abbrev pub sqldoptgrp_at : List ℕ → ℕ → Sqldoptgrp

@@ -13,7 +13,7 @@ ghost use Rattle.column.specs.Column.{name_text, StringsInside};
 ghost use Rattle.text.specs.Generated.{is_generated_text};
 ghost use Rattle.descriptor.specs.Nullable.{lenient, nullable_end, group_start};
 ghost use Rattle.descriptor.specs.Descriptor.{udt_end, dx_end, opt_end, descriptor_end, described_at};
-ghost use Rattle.descriptor.specs.Groups.{names_unread, sqldxgrp_at, sqldoptgrp_at, step_of, step_at, AllEmpty, LabelAt, NamesAt};
+ghost use Rattle.descriptor.specs.Groups.{with_names, sqldxgrp_at, sqldoptgrp_at, step_of, step_at, AllEmpty, LabelAt, NamesAt};
 ghost use Rattle.descriptor.specs.Reading.{count_at};
 ghost use Rattle.descriptor.specs.Run.{standard_walk, standard_run};
 ghost use Rattle.walks.specs.Steps.{Takes, named_walk};
@@ -70,17 +70,16 @@ pub struct Sqldxgrp {
     pub next: usize,
 }
 
-// None of its names, where the reply ends early before the first.
+// The group with these names, behind which it ends.
 #[inline(always)]
-fn unread(expected: usize) -> Sqldxgrp
-    ensures { result ≡ names_unread expected }
+fn with_names(base_table_name: StringRead, schema_name: StringRead, name: StringRead) -> Sqldxgrp
+    ensures { result ≡ with_names base_table_name schema_name name }
 {
-    let none = strings::no_string(expected);
     Sqldxgrp {
-        base_table_name: none,
-        schema_name: none,
-        name: none,
-        next: expected,
+        base_table_name,
+        schema_name,
+        name,
+        next: name.next,
     }
 }
 
@@ -94,49 +93,35 @@ pub fn read_sqldxgrp(reply: &[u8], offset: usize) -> Result<Sqldxgrp, Sqldxgrp>
         Ok(start) => {
             let names = match strings::skip_strings(reply, start + 8, 3) {
                 Ok(names) => names,
-                Err(expected) => return Err(unread(expected)),
+                Err(expected) => {
+                    let none = strings::no_string(expected);
+                    return Err(with_names(none, none, none));
+                }
             };
             let base_table_name = match strings::read_pair(reply, names) {
                 Ok(base_table_name) => base_table_name,
                 Err(base_table_name) => {
-                    return Err(Sqldxgrp {
-                        base_table_name,
-                        ..unread(base_table_name.next)
-                    });
+                    let none = strings::no_string(base_table_name.next);
+                    return Err(with_names(base_table_name, none, none));
                 }
             };
             let schema_name = match strings::read_pair(reply, base_table_name.next) {
                 Ok(schema_name) => schema_name,
                 Err(schema_name) => {
-                    return Err(Sqldxgrp {
-                        base_table_name,
-                        schema_name,
-                        ..unread(schema_name.next)
-                    });
+                    let none = strings::no_string(schema_name.next);
+                    return Err(with_names(base_table_name, schema_name, none));
                 }
             };
             match strings::read_pair(reply, schema_name.next) {
-                Ok(name) => Ok(Sqldxgrp {
-                    base_table_name,
-                    schema_name,
-                    name,
-                    next: name.next,
-                }),
-                Err(name) => Err(Sqldxgrp {
-                    base_table_name,
-                    schema_name,
-                    name,
-                    next: name.next,
-                }),
+                Ok(name) => Ok(with_names(base_table_name, schema_name, name)),
+                Err(name) => Err(with_names(base_table_name, schema_name, name)),
             }
         }
         Err(next) => {
             let none = strings::no_string(0);
             let group = Sqldxgrp {
-                base_table_name: none,
-                schema_name: none,
-                name: none,
                 next,
+                ..with_names(none, none, none)
             };
             match within(reply, next) {
                 Ok(_) => Ok(group),
