@@ -3,7 +3,7 @@
 
 mod page037;
 
-ghost use Rattle.std.specs.Prelude.{◌≡◌, map, ◌≤◌, length};
+ghost use Rattle.std.specs.Prelude.{◌≡◌, map, ◌≤◌, length, get_or};
 ghost use Rattle.search.specs.Search.{over};
 ghost use Rattle.codepage.specs.Page.{page037, char_in};
 ghost use Rattle.codepage.specs.Blank.{is_blank_in};
@@ -14,6 +14,22 @@ pub fn ebcdic037_to_unicode(byte: u8) -> u8
     ensures { result ≡ char_in page037 byte }
 {
     page037::EBCDIC_037_TO_UNICODE[byte as usize]
+}
+
+// The whole table. No loop here takes it: it is a static, which is read in place.
+#[tactic(auto, unfolding(crate::specs::Page::table037))]
+pub fn ebcdic037_table() -> [u8; 256]
+    ensures { result ≡ page037.table }
+{
+    page037::EBCDIC_037_TO_UNICODE
+}
+
+// The character of a byte by a table that was lent.
+pub fn char_by(table: &[u8], byte: u8) -> u8
+    requires { length table.now ≡ 256 }
+    ensures { result ≡ get_or table.now byte 0 }
+{
+    table[byte as usize]
 }
 
 // Writes the bytes' characters over the buffer's front.
