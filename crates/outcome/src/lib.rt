@@ -3,7 +3,7 @@
 
 ghost use Rattle.std.specs.Prelude.{not, ◌≡◌, eqb, take, drop, IfOk};
 ghost use Rattle.outcome.specs.Bytes.{bytes_refusal};
-ghost use Rattle.outcome.specs.Refusal.{refusal_of, refusal_from, refusal_in, in_numbers};
+ghost use Rattle.outcome.specs.Refusal.{refusal_of, refusal_from, refusal_in, is_refused, in_numbers};
 
 use std::fmt;
 
@@ -95,6 +95,22 @@ impl From<Refusal> for RefusalNumbers {
             Refusal::LargeObject { number } => Self::with(8, 1, number as usize, 0),
         }
     }
+}
+
+// The numbers of what an entry answers: number 0 where it gives something.
+pub fn refusal_of<T>(answer: &Result<T, Refusal>) -> RefusalNumbers
+    ensures { result ≡ in_numbers (refusal_in answer.now) }
+{
+    match answer {
+        Ok(_) => RefusalNumbers::alone(0),
+        Err(refusal) => RefusalNumbers::from(*refusal),
+    }
+}
+
+pub fn is_refused<T>(answer: &Result<T, Refusal>) -> bool
+    ensures { result ≡ is_refused (refusal_in answer.now) }
+{
+    refusal_of(answer).is_refused()
 }
 
 // `E` and the number, then its values, a blank before each.
