@@ -4,7 +4,7 @@ use mathlib.Core.List.{List, [], ◌∷◌, ◌++◌, append_assoc, append-nil, 
 use Prim.Native.Nat.{ℕ, zero, suc, ◌+◌, ◌≤◌, ◌<◌}
 use native.Mathlib.Numerals.{add-one}
 use native.Mathlib.Omega.{arith}
-use lib.ListN.{length, get_or, take, drop, set, length-map, drop_of_length-le}
+use lib.ListN.{length, get_or, take, drop, set, length-append, length-drop, length-map, drop_of_length-le}
 use lib.Seq.{drop-cons, take-suc, set_at, length-take-le}
 use Rattle.search.specs.Search.{over}
 
@@ -14,6 +14,10 @@ module _ {A : Type 0} (t b : List A) (i : ℕ) where
   over_next d p q =
       rw (add-one i, drop-cons b i d q, take-suc t i d p, append_assoc (take i t) (get_or t i d ∷ []) (drop (suc i) b))
       (set_at (take i t) (get_or b i d) (drop (suc i) b) (get_or t i d) i (length-take-le i t (omega arith)))
+
+  -- what is written over keeps its length
+  pub over_length : i ≤ length t → i ≤ length b → length (take i t ++ drop i b) ≡ length b
+  over_length p q = omega (arith, length-append (take i t) (drop i b), length-drop i b, length-take-le i t p)
 
 module _ {A : Type 0} (t b : List A) where
   -- nothing is left of a list that is as long
