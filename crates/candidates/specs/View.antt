@@ -28,8 +28,7 @@ next_candidate s last p =
 abbrev pub left : Candidates → List Text
 left c = candidates_from c.reply.now c.last c.next
 
--- a call gives the first of those that were left, which is the next one, and goes on behind it, in the same reply (01, Forms that must change: one
--- candidate at a time)
+-- a call gives the first that is left, which is the next candidate, and goes on behind it (01, Forms that must change: one candidate at a time)
 abbrev pub YieldsCandidate : Candidates → Option Text → Candidates → Type 0
 YieldsCandidate c r d = YieldsFirst left c r d
     × ((d.reply.now ≡ c.reply.now) × (next_candidate c.reply.now c.last c.next ≡ record { text = r; next = d.next }))
