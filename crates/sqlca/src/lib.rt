@@ -236,11 +236,21 @@ impl<'a> Sqlca<'a> {
         self.extension().unwrap_or_default()
     }
 
-    // The message of the three strings at `offset`; `next` is past them. The error is a number, as in strings.
-    #[tactic(auto, using(crate::proofs::Messages::message_next))]
+    // The same of this reply, its error a number, as in strings. By itself: where the reply ends early, no text is asked for, which a reply of random
+    // bytes took 100,000 instructions for; and a status takes 50 less.
+    #[tactic(auto, unfolding(crate::specs::Message::message_at, crate::specs::Message::first_text, strings::specs::Strings::strings_end), using(strings::proofs::Strings::string_inside, strings::proofs::Strings::string_next, strings::proofs::Strings::string_stays))]
     pub fn message_at(self, offset: usize) -> Result<StringRead, usize>
         ensures { IsRead self.entry.reply.now (strings_end 3 self.entry.reply.now offset) (λ message. message ≡ message_at page037 self.entry.reply.now offset) result }
     {
-        message_at(self.reply, offset).map_err(|cut| cut.next)
+        let rdb = strings::read_string(self.reply, offset)?;
+        let m = strings::read_string(self.reply, rdb.next)?;
+        let s = strings::read_string(self.reply, m.next)?;
+        if string_has_text(self.reply, m) {
+            return Ok(StringRead { next: s.next, ..m });
+        }
+        if string_has_text(self.reply, s) {
+            return Ok(s);
+        }
+        Ok(strings::no_string(s.next))
     }
 }
