@@ -1,6 +1,7 @@
 -- Candidates one at a time, with five in view (01, Forms that must change: Candidate Vec).
 use Rattle.std.specs.Prelude.{◌≡◌, Option, Some, None, List, [], ◌∷◌, ℕ, suc, ◌+◌, ◌≤◌, ltb, length, get_or}
 use Rattle.std.specs.Iterator.{YieldsFirst}
+use Rattle.std.specs.Option.{ForSome}
 use Rattle.search.specs.Search.{pick}
 use Rattle.search.specs.Walks.{first}
 use Rattle.text.specs.declared.Text.{Text}
@@ -31,7 +32,8 @@ left c = candidates_from c.reply.now c.last c.next
 -- a call gives the first that is left, which is the next candidate, and goes on behind it (01, Forms that must change: one candidate at a time)
 abbrev pub YieldsCandidate : Candidates → Option Text → Candidates → Type 0
 YieldsCandidate c r d = YieldsFirst left c r d
-    × ((d.reply.now ≡ c.reply.now) × (next_candidate c.reply.now c.last c.next ≡ record { text = r; next = d.next }))
+    × ((d.reply.now ≡ c.reply.now)
+    × ((next_candidate c.reply.now c.last c.next ≡ record { text = r; next = d.next }) × ForSome r (λ text. d.last ≡ Some text)))
 
 -- a text in front of others; where there is none, nothing comes after it (01, Name scan)
 abbrev pub shown : Option Text → List Text → List Text

@@ -1,7 +1,7 @@
 // Candidates for names: strings of the reply by their 16-bit length, whatever they stand in. They are found one at a time, with five in view.
 #![tactic(auto)]
 
-ghost use Rattle.std.specs.Prelude.{ℕ, None, false, ◌≡◌, ◌+◌, ◌≤◌, ◌<◌, length, get_or};
+ghost use Rattle.std.specs.Prelude.{ℕ, Some, None, false, ◌≡◌, ◌+◌, ◌≤◌, ◌<◌, length, get_or};
 ghost use Rattle.std.specs.Option.{ForSome};
 ghost use Rattle.std.specs.Iterator.{item_count};
 ghost use Rattle.text.specs.Text.{bytes_of};
@@ -140,6 +140,7 @@ pub struct View<'a> {
     pub texts: [Option<Text>; 5],
     rest: Candidates<'a>,
     pub ghost within: { (k : ℕ) → ForSome (get_or texts k None) (λ text. text.place + text.length ≤ length rest.reply.now) },
+    pub ghost kept: { ForSome (get_or texts 4 None) (λ text. rest.last ≡ Some text) },
 }
 
 impl<'a> View<'a> {

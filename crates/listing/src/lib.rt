@@ -151,6 +151,7 @@ impl<'a> Listed<'a> {
         ensures from_view { to_come result ≡ listed (reply_of view.entry) rule (unlisted (text_at view.entry 0)) (in_view view.entry) }
         ensures all { in_view view.entry ≡ candidates (reply_of view.entry) → to_come result ≡ listed_by (reply_of view.entry) rule }
         ensures within { InsideListing (reply_of view.entry) result.listing }
+        ensures view { result.view ≡ view.entry }
     {
         Listed {
             rule,

@@ -13,5 +13,5 @@ returns-in-Some-clause-steps c =
     let e = sym c.kept_at.ensures ∙ c.in-Some.is in
     let g = ap (λ r. t ∷ candidates_from r (Some t) (l.offset + 1)) (sym i.same_reply) in (
       i.left ∙ one_kept s l.self.last l.offset t (omega arith) e ∙ g,
-      (i.same_reply, i.next ∙ next_one_kept s l.self.last l.offset t (omega arith) e),
+      (i.same_reply, (i.next ∙ next_one_kept s l.self.last l.offset t (omega arith) e, λ x h. h)),
     )

@@ -12,8 +12,9 @@ invariant_of-result c =
     let h = g ∙ c.next.ensures.steps.1.0 in
     record {
       within =
-          five_inside _ _ _ _ _ _ (next_inside _ _ _ _ _ _ c.next.ensures.steps.1.1 (sym h)) (next_inside _ _ _ _ _ _ c.next-2.ensures.steps.1.1 (sym g))
-          (next_inside _ _ _ _ _ _ c.next-3.ensures.steps.1.1 (sym f))
-          (next_inside _ _ _ _ _ _ c.next-4.ensures.steps.1.1 (sym d))
-          (next_inside _ _ _ _ _ _ c.next-5.ensures.steps.1.1 (sym e));
+          five_inside _ _ _ _ _ _ (next_inside _ _ _ _ _ _ c.next.ensures.steps.1.1.0 (sym h)) (next_inside _ _ _ _ _ _ c.next-2.ensures.steps.1.1.0 (sym g))
+          (next_inside _ _ _ _ _ _ c.next-3.ensures.steps.1.1.0 (sym f))
+          (next_inside _ _ _ _ _ _ c.next-4.ensures.steps.1.1.0 (sym d))
+          (next_inside _ _ _ _ _ _ c.next-5.ensures.steps.1.1.0 (sym e));
+      kept = c.next-5.ensures.steps.1.1.1;
     }

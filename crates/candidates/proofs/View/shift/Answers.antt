@@ -13,10 +13,11 @@ invariant_of-self c =
     let w2 = within 2 in
     let w3 = within 3 in
     let w4 = within 4 in
-    let found = next_inside _ _ _ _ _ _ c.next-found.ensures.steps.1.1 e in
+    let found = next_inside _ _ _ _ _ _ c.next-found.ensures.steps.1.1.0 e in
     record {
       within =
           five_inside _ _ _ _ _ _ (search (w1, w2, w3, w4, found)) (search (w1, w2, w3, w4, found)) (search (w1, w2, w3, w4, found))
           (search (w1, w2, w3, w4, found))
           (search (w1, w2, w3, w4, found));
+      kept = c.next-found.ensures.steps.1.1.1;
     }
