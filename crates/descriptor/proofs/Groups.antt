@@ -63,7 +63,7 @@ module _ (s : List ℕ) (p q : ℕ) where
       )
 
   module _ (h : Ok q ≡ group_start s p) (a : ℕ) (e : a ≡ strings_end 3 s (q + 8)) where
-    base_cut : length s < strings_end 2 s a → strings_end 2 s a ≡ nullable_end lenient dx_end s p
+    pub base_cut : length s < strings_end 2 s a → strings_end 2 s a ≡ nullable_end lenient dx_end s p
     unfolding strings_end
     base_cut l = let k : strings_end 2 s a ≡ strings_end 5 s (q + 8) = ap (strings_end 2 s) e in k ∙ dx_stays 5 (omega arith) h (rw (← k) l)
 
@@ -87,7 +87,7 @@ module _ (s : List ℕ) (p q : ℕ) where
             omega (arith, n, l),
           )
 
-      schema_cut : length s < strings_end 2 s b.next → strings_end 2 s b.next ≡ nullable_end lenient dx_end s p
+      pub schema_cut : length s < strings_end 2 s b.next → strings_end 2 s b.next ≡ nullable_end lenient dx_end s p
       unfolding strings_end
       schema_cut l = let k : strings_end 2 s b.next ≡ strings_end 7 s (q + 8) = ap (strings_end 2 s) base_end in k ∙ dx_stays 7 (omega arith) h (rw (← k) l)
 
@@ -111,25 +111,29 @@ module _ (s : List ℕ) (p q : ℕ) where
               omega (arith, n, l),
             )
 
-        name_cut : strings_end 2 s c.next ≡ nullable_end lenient dx_end s p
+        pub name_cut : strings_end 2 s c.next ≡ nullable_end lenient dx_end s p
         unfolding strings_end dx_end
         name_cut = ap (strings_end 2 s) schema_end ∙ sym (end_held s p q dx_end h)
 
-        dx_held : (n : StringRead) → n ≡ pair_at s c.next → record { base_table_name = b; schema_name = c; name = n; next = n.next } ≡ sqldxgrp_at s p
-        dx_held n z =
+        pub names_held : (n : StringRead) → n ≡ pair_at s c.next → record { base_table_name = b; schema_name = c; name = n; next = n.next } ≡ sqldxgrp_at s p
+        names_held n z =
             let v : n ≡ dx_pair 7 s p = z ∙ ap (pair_at s) schema_end ∙ sym (dx_pair_held 7 h) in
             let f : n.next ≡ nullable_end lenient dx_end s p = past_pair s c.next n z ∙ name_cut in
             λ i. record { base_table_name = base_is i; schema_name = schema_is i; name = v i; next = f i }
 
         -- all pairs are read
+        pub dx_held : (n : StringRead) → n ≡ pair_at s c.next → strings_end 2 s c.next ≤ length s
+            → (record { base_table_name = b; schema_name = c; name = n; next = n.next } ≡ sqldxgrp_at s p) × (nullable_end lenient dx_end s p ≤ length s)
+        dx_held n z l = (names_held n z, omega (arith, name_cut, l))
+
         pub dx_read : (n : StringRead) (u : Sqldxgrp) → n ≡ pair_at s c.next → strings_end 2 s c.next ≤ length s → u ≡ with_names b c n
             → (u ≡ sqldxgrp_at s p) × (nullable_end lenient dx_end s p ≤ length s)
-        dx_read n u z l g = (g ∙ dx_held n z, omega (arith, name_cut, l))
+        dx_read n u z l g = let h : _ = dx_held n z l in (g ∙ h.0, h.1)
 
         -- the name's is cut off
         pub name_read : (n : StringRead) (u : Sqldxgrp) → n ≡ pair_at s c.next → length s < strings_end 2 s c.next → u ≡ with_names b c n
             → (u ≡ sqldxgrp_at s p) × (length s < nullable_end lenient dx_end s p)
-        name_read n u z l g = (g ∙ dx_held n z, omega (arith, name_cut, l))
+        name_read n u z l g = (g ∙ names_held n z, omega (arith, name_cut, l))
 
   -- ---- SQLDOPTGRP
 
