@@ -8,9 +8,10 @@ use Rattle.search.proofs.Index.{first_more, first_found, first_done}
 use Rattle.field.specs.declared.ByteOrder.TheVariants.{BigEndian}
 use Rattle.field.specs.Numbers.{number}
 use Rattle.text.specs.declared.Text.{Text}
+use Rattle.std.specs.Iterator.{YieldsFirst}
 use Rattle.candidates.specs.declared.Candidates.{Candidates}
 use Rattle.candidates.specs.Candidates.{string_text_at, is_candidate, is_kept, kept_at, candidates_in, candidates_from}
-use Rattle.candidates.specs.View.{left, YieldsCandidate, next_at, next_candidate, shown}
+use Rattle.candidates.specs.View.{left, next_at, next_candidate, shown}
 
 pub candidates_over : (s : List ℕ) (last : Option Text) (p : ℕ) → length s ≤ p → candidates_from s last p ≡ []
 unfolding candidates_from candidates_in
@@ -153,6 +154,6 @@ module _ (s : List ℕ) where
         next_none_at (rw (lt-leb (p + 2) (length s) (omega arith)) refl) ∙ rw (← a, le-ltb (p + 1) (length s) h) refl
 
 -- a call of `next` takes the first of those that are left
-pub left_next : (c d : Candidates) (r : Option Text) → YieldsCandidate c r d → left c ≡ shown r (left d)
-left_next c d None h = h.0.0
-left_next c d (Some t) h = h.0
+pub left_next : (c d : Candidates) (r : Option Text) → YieldsFirst left c r d → left c ≡ shown r (left d)
+left_next c d None h = h.0
+left_next c d (Some t) h = h
